@@ -1,0 +1,2 @@
+-- where a case lies
+pub mod Case

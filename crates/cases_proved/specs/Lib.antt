@@ -1,0 +1,4 @@
+-- "The M cases form one proved table, its claim made over the definitions."
+
+-- 80 01 is 128, 80 00 refused
+pub mod Numbers

@@ -1,0 +1,194 @@
+use borrow.Author.Needs.{needs}
+use denote.Ref.{now}
+use native.Mathlib.Omega.{arith}
+use mathlib.Core.Path.{ap, sym, _∙_}
+use Rattle.number.specs.Reading.Numbers.{now-none, now-end, now-one, now-more, in-small}
+use Rattle.number.specs.Reading.{longer, asRead}
+use Prim.Native.Nat.{_-_, _+_}
+use Prim.Native.Nat.{ℕ, _<_}
+use borrow.Fn.Kinds.{In}
+use borrow.Fn.PlainCycle.{Measures, is, falls, and}
+use Rattle.number.proofs.read_groups.Reads as read-groups
+use Rattle.number.proofs.read_groups.Kinds as read-groups-kinds
+use Rattle.number.proofs.+read_groups.Lts-read_groups as read-groups-lts
+use Rattle.number.proofs.longer.Reads as longer-reads
+use Rattle.number.proofs.+read_groups.{statement}
+use Rattle.number.proofs.+read_groups.Tie.{close}
+
+abbrev μ-read-groups : Measures 1 read-groups-kinds.ps ℕ
+μ-read-groups κs a =
+    a .1 .1 .0
+
+abbrev read-groups-at : ℕ → In 1 read-groups-kinds.ps
+read-groups-at t =
+    and 1 read-groups-kinds.ps (is 1 read-groups-kinds.ps μ-read-groups t) read-groups.Pre
+
+abbrev read-groups-below : ℕ → In 1 read-groups-kinds.ps
+read-groups-below t =
+    and 1 read-groups-kinds.ps (falls 1 read-groups-kinds.ps _<_ μ-read-groups t) read-groups.Pre
+
+-- src/lib.rt:41:9
+read-groups-returns : (t : ℕ) → read-groups-lts.Need-returns (
+  read-groups-below t,
+  read-groups.Post,
+  longer-reads.Asked,
+  longer-reads.Learnt,
+) (read-groups-at t) read-groups.Post
+read-groups-returns t c =
+    sym (now-none (c .before .before .args .left) (now (c .before .before .args .s)) (c .before .before .args .at) (c .if1 .taken))
+
+-- src/lib.rt:44:9
+read-groups-returns-2 : (t : ℕ) → read-groups-lts.Need-returns-2 (
+  read-groups-below t,
+  read-groups.Post,
+  longer-reads.Asked,
+  longer-reads.Learnt,
+) (read-groups-at t) read-groups.Post
+read-groups-returns-2 t c =
+    sym (now-end (now (c .before .before .before .args .s)) (c .before .before .before .args .at) (c .before .before .before .args .left) (c .if2 .taken))
+
+-- src/lib.rt:46:13
+read-groups-shared-slice-read-b : (t : ℕ) → read-groups-lts.Need-shared-slice-read-b (
+  read-groups-below t,
+  read-groups.Post,
+  longer-reads.Asked,
+  longer-reads.Learnt,
+) (read-groups-at t) read-groups.Post
+read-groups-shared-slice-read-b t c =
+    search needs
+
+-- src/lib.rt:48:30
+read-groups-cast-t11 : (t : ℕ) → read-groups-lts.Need-cast-t11 (
+  read-groups-below t,
+  read-groups.Post,
+  longer-reads.Asked,
+  longer-reads.Learnt,
+) (read-groups-at t) read-groups.Post
+read-groups-cast-t11 t c =
+    omega arith
+
+-- src/lib.rt:48:40
+read-groups-add-t12 : (t : ℕ) → read-groups-lts.Need-add-t12 (
+  read-groups-below t,
+  read-groups.Post,
+  longer-reads.Asked,
+  longer-reads.Learnt,
+) (read-groups-at t) read-groups.Post
+read-groups-add-t12 t c =
+    omega arith
+
+-- src/lib.rt:48:9
+read-groups-returns-3 : (t : ℕ) → read-groups-lts.Need-returns-3 (
+  read-groups-below t,
+  read-groups.Post,
+  longer-reads.Asked,
+  longer-reads.Learnt,
+) (read-groups-at t) read-groups.Post
+read-groups-returns-3 t c =
+    sym (now-one (now (c .before .before .before .before .before .args .s)) (c .before .before .before .before .before .args .at) (c .before .before .before .before .before .args .left) (c .before .before .before .if1 .left) (omega arith) (c .if3 .taken))
+
+-- src/lib.rt:50:26
+read-groups-add-read-groups : (t : ℕ) → read-groups-lts.Need-add-read-groups (
+  read-groups-below t,
+  read-groups.Post,
+  longer-reads.Asked,
+  longer-reads.Learnt,
+) (read-groups-at t) read-groups.Post
+read-groups-add-read-groups t c =
+    omega arith
+
+-- src/lib.rt:50:34
+read-groups-sub-read-groups : (t : ℕ) → read-groups-lts.Need-sub-read-groups (
+  read-groups-below t,
+  read-groups.Post,
+  longer-reads.Asked,
+  longer-reads.Learnt,
+) (read-groups-at t) read-groups.Post
+read-groups-sub-read-groups t c =
+    omega arith
+
+-- src/lib.rt:50:11
+read-groups-read-groups-requires : (t : ℕ) → read-groups-lts.Need-read-groups-requires (
+  read-groups-below t,
+  read-groups.Post,
+  longer-reads.Asked,
+  longer-reads.Learnt,
+) (read-groups-at t) read-groups.Post
+read-groups-read-groups-requires t c κs =
+    (omega arith, omega arith)
+
+-- src/lib.rt:51:23
+read-groups-enum-known-v : (t : ℕ) → read-groups-lts.Need-enum-known-v (
+  read-groups-below t,
+  read-groups.Post,
+  longer-reads.Asked,
+  longer-reads.Learnt,
+) (read-groups-at t) read-groups.Post
+read-groups-enum-known-v t c =
+    search needs
+
+-- src/lib.rt:51:32
+read-groups-longer-requires : (t : ℕ) → read-groups-lts.Need-longer-requires (
+  read-groups-below t,
+  read-groups.Post,
+  longer-reads.Asked,
+  longer-reads.Learnt,
+) (read-groups-at t) read-groups.Post
+read-groups-longer-requires t c κs =
+    (c .before .before .before .before .if3 .left, in-small (now (c .before .before .before .before .before .before .before .before .before .args .s)) (λ i. omega (arith, c .before .before .before .before .before .shared-slice-known2 .given i)) (c .before .before .before .before .before .before .before .before .before .args .left - 1) (c .before .before .before .before .before .before .before .before .before .args .at + 1) _ _ (omega arith) (sym (c .before .before .before .read-groups .ensures) ∙ ap asRead (c .before .v .given .1)))
+
+-- src/lib.rt:52:26
+read-groups-enum-told : (t : ℕ) → read-groups-lts.Need-enum-told (
+  read-groups-below t,
+  read-groups.Post,
+  longer-reads.Asked,
+  longer-reads.Learnt,
+) (read-groups-at t) read-groups.Post
+read-groups-enum-told t c =
+    search needs
+
+-- src/lib.rt:36:1
+read-groups-returns-4 : (t : ℕ) → read-groups-lts.Need-returns-4 (
+  read-groups-below t,
+  read-groups.Post,
+  longer-reads.Asked,
+  longer-reads.Learnt,
+) (read-groups-at t) read-groups.Post
+read-groups-returns-4 t c =
+    let a = c .before .before .before .before .before .before .before .before .before .before .args in
+    c .longer .ensures ∙ sym (now-more (now (a .s)) (a .at) (a .left) (c .before .before .before .before .before .before .before .before .if1 .left) (omega arith) (c .before .before .before .before .before .if3 .left) ∙ ap (longer _) (sym (c .before .before .before .before .read-groups .ensures) ∙ ap asRead (c .before .before .v .given .1)))
+
+-- src/lib.rt:36:1
+read-groups-returns-5 : (t : ℕ) → read-groups-lts.Need-returns-5 (
+  read-groups-below t,
+  read-groups.Post,
+  longer-reads.Asked,
+  longer-reads.Learnt,
+) (read-groups-at t) read-groups.Post
+read-groups-returns-5 t c =
+    let a = c .before .before .before .before .before .before .before .before .args in
+    sym (now-more (now (a .s)) (a .at) (a .left) (c .before .before .before .before .before .before .if1 .left) (omega arith) (c .before .before .before .if3 .left) ∙ ap (longer _) (sym (c .before .before .read-groups .ensures) ∙ ap asRead (c .enum-told .given .1)))
+
+pub +read-groups-spec : {M : Type 1} → statement M
++read-groups-spec = close μ-read-groups λ t. read-groups-lts.spec (
+  read-groups-below t,
+  read-groups.Post,
+  longer-reads.Asked,
+  longer-reads.Learnt,
+)
+    (read-groups-at t)
+    read-groups.Post
+    (read-groups-returns t)
+    (read-groups-returns-2 t)
+    (read-groups-shared-slice-read-b t)
+    (read-groups-cast-t11 t)
+    (read-groups-add-t12 t)
+    (read-groups-returns-3 t)
+    (read-groups-add-read-groups t)
+    (read-groups-sub-read-groups t)
+    (read-groups-read-groups-requires t)
+    (read-groups-enum-known-v t)
+    (read-groups-longer-requires t)
+    (read-groups-enum-told t)
+    (read-groups-returns-4 t)
+    (read-groups-returns-5 t)

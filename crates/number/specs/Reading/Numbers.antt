@@ -1,0 +1,212 @@
+-- Numbers: what is written reads back; what reads is the groups of its value, so that the shortest form is unique.
+use Prim.Native.Nat.{ℕ, zero, suc, _+_, _-_, _*_, _/_, _%_, _^_, _≤_, _<_}
+use mathlib.Core.List.{List, [], _∷_, _++_}
+use mathlib.Core.Bool.{Bool, true, false}
+use mathlib.Core.Path.{_≡_, refl, ap, ap₂, sym, _∙_, subst, subst₂}
+use native.Mathlib.Omega.{arith}
+use native.Mathlib.Nat.{pow-succ', pow-zero, one-le-pow, pow-le-pow-right}
+use lib.ListN.{length, getD, drop}
+use lib.Dec.{ltb, eqb}
+use borrow.Author.Tests.{lt-ltb, le-ltb, eq-eqb, ne-eqb}
+use Rattle.octets.specs.Choice.{pick, cut-lt, cut-eq, by-size, clash}
+use Rattle.octets.specs.Head.{head-at, head-of, Bytes, Stands, stands-within}
+use Rattle.octets.specs.Splice.{splice}
+use Rattle.octets.specs.Splice.Laws.{part-splice}
+use Rattle.number.specs.Groups.{groups, mostGroups, numberLimit}
+use Rattle.number.specs.Groups.Laws.{groups-one, groups-more, groups-some, by-groups}
+use Rattle.number.specs.Reading.{Read, got, fault, andThen, longer, readIn, readNumber, below}
+use Rattle.number.specs.Reading.Laws.{cut-got, then-got, then-fault}
+
+-- ── readIn case by case: shared by the code's proof and the laws ──
+module _ (k : ℕ) (s : List ℕ) (at : ℕ) where
+  pub in-end : length s ≤ at → readIn (suc k) s at ≡ fault
+  unfolding readIn
+  in-end h = simp (le-ltb at (length s) h)
+
+  module _ (inside : at < length s) where
+    pub in-one : getD s at 0 < 128 → readIn (suc k) s at ≡ got (getD s at 0) (at + 1)
+    unfolding readIn
+    in-one h = simp (lt-ltb at (length s) inside, lt-ltb (getD s at 0) 128 h)
+
+    pub in-more : 128 ≤ getD s at 0 → readIn (suc k) s at ≡ longer (getD s at 0) (readIn k s (at + 1))
+    unfolding readIn
+    in-more h = simp (lt-ltb at (length s) inside, le-ltb (getD s at 0) 128 h)
+
+pub longer-zero : (b v e : ℕ) → v ≡ 0 → longer b (got v e) ≡ fault
+longer-zero b v e h = simp (eq-eqb v 0 h)
+
+pub longer-some : (b v e : ℕ) → (v ≡ 0 → ⊥) → longer b (got v e) ≡ got (b - 128 + 128 * v) e
+longer-some b v e h = simp (ne-eqb v 0 h)
+
+-- the same, as the code has it
+pub now-none : (k : ℕ) (s : List ℕ) (at : ℕ) → k ≡ 0 → readIn k s at ≡ fault
+unfolding readIn
+now-none zero s at z = refl
+now-none (suc k) s at z = absurd (omega arith)
+
+module _ (s : List ℕ) (at : ℕ) where
+  pub now-end : (k : ℕ) → length s ≤ at → readIn k s at ≡ fault
+  now-end zero h = now-none zero s at refl
+  now-end (suc k) h = in-end k s at h
+
+  pub now-one : (k : ℕ) → (k ≡ 0 → ⊥) → at < length s → getD s at 0 < 128 → readIn k s at ≡ got (getD s at 0) (at + 1)
+  now-one zero z inside h = absurd (z refl)
+  now-one (suc k) z inside h = in-one k s at inside h
+
+  pub now-more :
+      (k : ℕ) → (k ≡ 0 → ⊥) → at < length s → 128 ≤ getD s at 0
+      → readIn k s at ≡ longer (getD s at 0) (readIn (k - 1) s (at + 1))
+  now-more zero z inside h = absurd (z refl)
+  now-more (suc k) z inside h =
+      let e : suc k - 1 ≡ k = omega arith in
+      in-more k s at inside h ∙ ap (λ (j : ℕ). longer (getD s at 0) (readIn j s (at + 1))) (sym e)
+
+pub number-in : (s : List ℕ) (at : ℕ) → readIn mostGroups s at ≡ readNumber s at
+unfolding readNumber
+number-in s at = refl
+
+-- ── what is written reads back ──
+module _ (n at : ℕ) (s rest : List ℕ) (e : drop at s ≡ groups n ++ rest) where
+  one-back : (k : ℕ) → n < 128 → readIn (suc k) s at ≡ got n (at + length (groups n))
+  one-back k h =
+      let g = groups-one n h in
+      let p = head-at s at n rest (e ∙ ap (λ (q : List ℕ). q ++ rest) g) in
+      in-one k s at (p .inside) (rw (p .here) h) ∙ ap₂ got (p .here) (rw g)
+
+  more-back :
+      (k : ℕ) → 128 ≤ n
+      → (drop (at + 1) s ≡ groups (n / 128) ++ rest → readIn k s (at + 1) ≡ got (n / 128) (at + 1 + length (groups (n / 128))))
+      → readIn (suc k) s at ≡ got n (at + length (groups n))
+  more-back k h ih =
+      let g = groups-more n h in
+      let p = head-at s at (128 + n % 128) (groups (n / 128) ++ rest) (e ∙ ap (λ (q : List ℕ). q ++ rest) g) in
+      in-more k s at (p .inside) (rw (p .here) (omega arith))
+      ∙ ap₂ longer (p .here) (ih (p .next))
+      ∙ longer-some (128 + n % 128) (n / 128) (at + 1 + length (groups (n / 128))) (omega arith)
+      ∙ ap₂ got (omega arith) (rw g (omega arith))
+
+pub in-back :
+    (k n at : ℕ) (s rest : List ℕ) → n < 128 ^ suc k → drop at s ≡ groups n ++ rest
+    → readIn (suc k) s at ≡ got n (at + length (groups n))
+in-back zero n at s rest small e = one-back n at s rest e zero (omega (arith, pow-succ' 128 0, pow-zero 128))
+in-back (suc k) n at s rest small e =
+    by-size n 128
+    (one-back n at s rest e (suc k))
+    (λ h. more-back n at s rest e (suc k) h (λ e. in-back k (n / 128) (at + 1) s rest (omega (arith, pow-succ' 128 (suc k))) e))
+
+pub read-back : (s : List ℕ) (at n : ℕ) (rest : List ℕ) → n < numberLimit → drop at s ≡ groups n ++ rest → readNumber s at ≡ got n (at + length (groups n))
+unfolding readNumber numberLimit
+read-back s at n rest small e = in-back 2 n at s rest small e
+
+-- reading where a number was written
+pub read-written :
+    (l : List ℕ) (at n : ℕ) → n < numberLimit → at + length (groups n) ≤ length l
+    → readNumber (splice l at (groups n)) at ≡ got n (at + length (groups n))
+read-written l at n small room = read-back (splice l at (groups n)) at n _ small (part-splice l at (groups n) room)
+
+-- ── what reads is the groups of its value ──
+pub record Written (k : ℕ) (s : List ℕ) (at v e : ℕ) : Type 0 where
+  pub small : v < 128 ^ k
+  pub stands : Stands s at (groups v) e
+
+module _ (s : List ℕ) (bytes : Bytes s) where
+  one-form : (k at : ℕ) → at < length s → getD s at 0 < 128 → Written (suc k) s at (getD s at 0) (at + 1)
+  one-form k at inside h =
+      let g = groups-one (getD s at 0) h in
+      record {
+        small = omega (arith, pow-succ' 128 k, one-le-pow k 128 (omega arith));
+        stands = record { ends = rw g; there = rw g (head-of s at inside) };
+      }
+
+  more-form :
+      (k at v e : ℕ) → at < length s → 128 ≤ getD s at 0 → (v ≡ 0 → ⊥) → Written k s (at + 1) v e
+      → Written (suc k) s at (getD s at 0 - 128 + 128 * v) e
+  more-form k at v e inside h some w =
+      let b : getD s at 0 < 256 = bytes at in
+      let n : ℕ = getD s at 0 - 128 + 128 * v in
+      let l : 128 ≤ n = omega arith in
+      let d : n / 128 ≡ v = omega arith in
+      let m : 128 + n % 128 ≡ getD s at 0 = omega arith in
+      let g : groups n ≡ getD s at 0 ∷ groups v = groups-more n l ∙ ap₂ (λ (x y : ℕ). x ∷ groups y) m d in
+      record {
+        small = omega (arith, w .small, pow-succ' 128 k);
+        stands = record {
+          ends = rw g (omega (arith, w .stands .ends));
+          there = rw g (head-of s at inside ∙ ap (λ (r : List ℕ). getD s at 0 ∷ r) (w .stands .there));
+        };
+      }
+
+  same : {k at v e v′ e′ : ℕ} → Written k s at v e → got v e ≡ got v′ e′ → Written k s at v′ e′
+  same {k} {at} {v} {e} {v′} {e′} w p =
+      let q : v ≡ v′ = cc in
+      let r : e ≡ e′ = cc in
+      subst₂ (Written k s at) q r w
+
+  cut-longer :
+      {C : Type 0} {v e : ℕ} (b : ℕ) (r : Read ℕ) → longer b r ≡ got v e
+      → ((w : ℕ) → r ≡ got w e → (w ≡ 0 → ⊥) → b - 128 + 128 * w ≡ v → C) → C
+  cut-longer {C} {v} {e} b (got w d) h k =
+      cut-eq _ _ _ w 0 h (λ z h. clash (cc)) (λ z h. k w (ap (got w) (cc)) z (cc))
+  cut-longer b fault h k = clash (cc)
+
+  pub in-form : (k at v e : ℕ) → readIn k s at ≡ got v e → Written k s at v e
+  unfolding readIn
+  in-form zero at v e h = clash (cc)
+  in-form (suc k) at v e h =
+      cut-lt _ _ _ at (length s) h
+      (λ inside h. cut-lt _ _ _ (getD s at 0) 128 h
+      (λ l h. same (one-form k at inside l) h)
+      (λ l h. cut-longer (getD s at 0) (readIn k s (at + 1)) h
+      (λ w r z q. subst (λ (x : ℕ). Written (suc k) s at x e) q (more-form k at w e inside l z (in-form k (at + 1) w e r)))))
+      (λ out h. clash (cc))
+
+  -- a value of at most k groups, three or fewer of them
+  pub in-small : (k at v e : ℕ) → k ≤ 3 → readIn k s at ≡ got v e → v < 128 ^ 3
+  in-small k at v e l h = omega (arith, in-form k at v e h .small, pow-le-pow-right {n = 128} (omega arith) {i = k} {j = 3} l)
+
+  pub read-form : (at v e : ℕ) → readNumber s at ≡ got v e → (v < numberLimit) × Stands s at (groups v) e
+  unfolding readNumber numberLimit
+  read-form at v e h = let w = in-form mostGroups at v e h in (w .small, w .stands)
+
+-- ── below a bound, case by case ──
+module _ (s : List ℕ) (n at : ℕ) where
+  pub below-yes : {v e : ℕ} → readNumber s at ≡ got v e → v < n → below s n at ≡ got v e
+  unfolding below
+  below-yes {v} {e} h l = then-got (readNumber s at) _ h ∙ simp (lt-ltb v n l)
+
+  pub below-no : {v e : ℕ} → readNumber s at ≡ got v e → n ≤ v → below s n at ≡ fault
+  unfolding below
+  below-no {v} {e} h l = then-got (readNumber s at) _ h ∙ simp (le-ltb v n l)
+
+  pub below-none : readNumber s at ≡ fault → below s n at ≡ fault
+  unfolding below
+  below-none h = then-fault (readNumber s at) _ h
+
+  -- a number read is in the file
+  pub record Inside (v e : ℕ) : Type 0 where
+    pub small : v < n
+    pub range : v < numberLimit
+    pub stands : Stands s at (groups v) e
+    pub after : at < e
+    pub within : e ≤ length s
+
+  pub below-inside : (bytes : Bytes s) (v e : ℕ) → below s n at ≡ got v e → Inside v e
+  unfolding below
+  below-inside bytes v e h =
+      cut-got (readNumber s at) _ h (λ w d r h.
+      cut-lt _ _ _ w n h
+      (λ l h. let a : w ≡ v = cc in
+      let b : d ≡ e = cc in
+      let f = read-form s bytes at v e (r ∙ ap₂ got a b) in
+      record {
+        small = omega arith;
+        range = f .0;
+        stands = f .1;
+        after = omega (arith, f .1 .ends, groups-some v);
+        within = stands-within (f .1) (groups-some v);
+      })
+      (λ l h. clash (cc)))
+
+  -- what is written reads back
+  pub below-back : (v : ℕ) (rest : List ℕ) → v < n → v < numberLimit → drop at s ≡ groups v ++ rest → below s n at ≡ got v (at + length (groups v))
+  below-back v rest l small there = below-yes (read-back s at v rest small there) l

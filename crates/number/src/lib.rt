@@ -1,0 +1,106 @@
+// Numbers in the files: groups of seven bits, lowest first.
+ghost use mathlib.Core.Path.{_≡_};
+ghost use Prim.Native.Nat.{_+_, _^_, _≤_, _<_};
+ghost use lib.ListN.{length};
+ghost use Rattle.octets.specs.Splice.{splice};
+ghost use Rattle.number.specs.Groups.{groups};
+ghost use Rattle.number.specs.Reading.{readIn, readNumber, below, asRead, longer, got};
+
+// "three groups at most": the one constant of the code.
+const MOST_GROUPS: usize = 3;
+
+// What stands at a place: a number and the place behind it, or no number.
+pub enum Number {
+    Value(u32, usize),
+    Fault,
+}
+
+// What code answers of a reading: the place behind it, and whether a test holds of what was read.
+pub enum Seen {
+    End(usize, bool),
+    Fault,
+}
+
+// A group that another follows, and the rest of the number behind it.
+fn longer(b: u8, v: u32, e: usize) -> Number
+    requires { ⌜ (128 ≤ b) × (v < 128 ^ 3) ⌝ }
+    ensures { λ r. ⌜ asRead r ≡ longer b (got v e) ⌝ }
+{
+    if v == 0 {
+        return Number::Fault;
+    }
+    Number::Value((b - 128) as u32 + 128 * v, e)
+}
+
+// A number of at most `left` groups.
+fn read_groups(s: &[u8], at: usize, left: usize) -> Number
+    requires { ⌜ left ≤ 4 ⌝ }
+    ensures { λ r. ⌜ asRead r ≡ readIn left (now (s .entry)) at ⌝ }
+{
+    if left == 0 {
+        return Number::Fault;
+    }
+    if s.len() <= at {
+        return Number::Fault;
+    }
+    let b = s[at];
+    if b < 128 {
+        return Number::Value(b as u32, at + 1);
+    }
+    match read_groups(s, at + 1, left - 1) {
+        Number::Value(v, e) => longer(b, v, e),
+        Number::Fault => Number::Fault,
+    }
+}
+
+// The number at a place. A fault: the end of the slice, a group past the last, a form that is not the shortest.
+pub fn read_number(s: &[u8], at: usize) -> Number
+    ensures { λ r. ⌜ asRead r ≡ readNumber (now (s .entry)) at ⌝ }
+{
+    read_groups(s, at, MOST_GROUPS)
+}
+
+// A number below n.
+pub fn below(s: &[u8], at: usize, n: usize) -> Number
+    ensures { λ r. ⌜ asRead r ≡ below (now (s .entry)) n at ⌝ }
+{
+    match read_number(s, at) {
+        Number::Value(v, e) => {
+            if (v as usize) < n {
+                return Number::Value(v, e);
+            }
+            Number::Fault
+        }
+        Number::Fault => Number::Fault,
+    }
+}
+
+// How many bytes a number takes.
+pub fn number_len(n: u32) -> usize
+    ensures { λ r. ⌜ r ≡ length (groups n) ⌝ }
+{
+    let mut rest = n;
+    let mut len: usize = 1;
+    while 128 <= rest {
+        rest = rest / 128;
+        len += 1;
+    }
+    len
+}
+
+// Writes a number at a place where there is room for it, and gives the place behind it.
+pub fn write_number(out: &mut [u8], at: usize, n: u32) -> usize
+    requires { ⌜ at + length (groups n) ≤ length (now out) ⌝ }
+    ensures next { λ r. ⌜ r ≡ at + length (groups n) ⌝ }
+    ensures wrote { λ r. ⌜ now (out .exit) ≡ splice (now (out .entry)) at (groups n) ⌝ }
+{
+    let mut rest = n;
+    let mut i = at;
+    while 128 <= rest {
+        out[i] = (128 + rest % 128) as u8;
+        rest = rest / 128;
+        i += 1;
+    }
+    out[i] = rest as u8;
+    i + 1
+}

@@ -1,0 +1,180 @@
+-- Small cases, computed: facts are numbers, those below 100 linear. A checked graph hands on how many edges it has.
+use mathlib.Core.Path.{_≡_, refl, ap, sym, _∙_}
+use mathlib.Core.List.{List, [], _∷_, _++_}
+use mathlib.Core.Option.{none, some}
+use Prim.Native.Nat.{ℕ, _<_}
+use lib.Dec.{eqb, ltb}
+use lib.ListN.{length}
+use Rattle.rewriting.specs.Tests.{eqb-eq, eqb-self}
+use Rattle.rewriting.specs.Facts.{Facts}
+use Rattle.rewriting.specs.Graph.{Node, Edge, Accepted}
+use Rattle.rewriting.specs.Machine.{failed, run, IsRun}
+use Rattle.rewriting.specs.Table.{Ruling, passed, refused, fixedRow, Ruled, rulingThen, rulingOf, andThen, rowsAfter}
+use Rattle.rewriting.specs.Table.Laws.{ruled, ruled-then, ruled-and-then}
+use Rattle.rewriting.specs.Table.Passes.{lessPass, needPass}
+use Rattle.rewriting.specs.Causes.{graphRows, drawRows}
+use Rattle.rewriting.specs.Writer.{draw, markedDraw}
+use Rattle.rewriting.specs.Checker.{checkGraph}
+use Rattle.rewriting.specs.Acceptance.{check-table}
+use Rattle.rewriting.specs.Whole.{draw-table}
+
+abbrev Numbers : Facts
+Numbers = record {
+  Fact = ℕ;
+  same = λ f g. eqb f g;
+  linear = λ f. ltb f 100;
+  same-refl = λ f. eqb-self f;
+  same-sym = λ f g h. ap (λ n. eqb g n) (eqb-eq f g h) ∙ eqb-self g;
+  same-trans = λ f g h a b. ap (λ n. eqb f n) (sym (eqb-eq g h b)) ∙ a;
+  same-linear = λ f g h. ap (λ n. ltb n 100) (eqb-eq f g h);
+}
+
+abbrev node : List ℕ → List ℕ → Node ℕ
+node ps cs = record { premises = ps; conclusions = cs; makes = none }
+
+abbrev name : ℕ → Node ℕ
+name m = record { premises = []; conclusions = []; makes = some m }
+
+abbrev edge : ℕ → ℕ → ℕ → ℕ → Edge
+edge a b c d = record { source = record { node = a; index = b }; target = record { node = c; index = d } }
+
+abbrev check : List (Node ℕ) → List Edge → Ruling ℕ
+check nodes edges = checkGraph Numbers nodes edges (length edges)
+
+-- A persistent fact used twice, in one node and in a later one.
+abbrev persistent : List (Node ℕ)
+persistent = node [] (200 ∷ []) ∷ node (200 ∷ 200 ∷ []) [] ∷ node (200 ∷ []) [] ∷ []
+
+persistent-run : IsRun Numbers persistent
+persistent-run = (_, refl)
+
+persistent-draw : draw Numbers persistent ≡ passed (edge 1 1 2 1 ∷ edge 1 1 2 2 ∷ edge 1 1 3 1 ∷ [])
+persistent-draw = refl
+
+persistent-check : check persistent (edge 1 1 3 1 ∷ edge 1 1 2 2 ∷ edge 1 1 2 1 ∷ []) ≡ passed 3
+persistent-check = refl
+
+-- A linear one used twice.
+abbrev linear : List (Node ℕ)
+linear = node [] (5 ∷ []) ∷ node (5 ∷ []) [] ∷ node (5 ∷ []) [] ∷ []
+
+linear-run : run Numbers linear ≡ failed 3
+linear-run = refl
+
+linear-draw : draw Numbers linear ≡ refused 14 3
+linear-draw = refl
+
+linear-check : check linear (edge 1 1 2 1 ∷ edge 1 1 3 1 ∷ []) ≡ refused 13 1
+linear-check = refl
+
+-- Two equal linear premises take two conclusions ...
+abbrev twins : List (Node ℕ)
+twins = node [] (5 ∷ []) ∷ node [] (5 ∷ 200 ∷ []) ∷ node (5 ∷ 200 ∷ 5 ∷ 200 ∷ []) [] ∷ []
+
+twins-run : IsRun Numbers twins
+twins-run = (_, refl)
+
+twins-draw : draw Numbers twins ≡ passed (edge 1 1 3 1 ∷ edge 2 2 3 2 ∷ edge 2 1 3 3 ∷ edge 2 2 3 4 ∷ [])
+twins-draw = refl
+
+twins-marked : markedDraw Numbers twins ≡ draw Numbers twins
+twins-marked = refl
+
+twins-check : check twins (edge 2 2 3 4 ∷ edge 1 1 3 1 ∷ edge 2 2 3 2 ∷ edge 2 1 3 3 ∷ []) ≡ passed 4
+twins-check = refl
+
+-- ... and one is not enough.
+abbrev lone : List (Node ℕ)
+lone = node [] (5 ∷ []) ∷ node (5 ∷ 5 ∷ []) [] ∷ []
+
+lone-run : run Numbers lone ≡ failed 2
+lone-run = refl
+
+lone-draw : draw Numbers lone ≡ refused 14 2
+lone-draw = refl
+
+lone-check : check lone (edge 1 1 2 1 ∷ edge 1 1 2 2 ∷ []) ≡ refused 13 1
+lone-check = refl
+
+-- An edge listed twice, an edge left out, and facts that differ.
+listed-twice : check twins (edge 1 1 3 1 ∷ edge 2 2 3 2 ∷ edge 2 1 3 3 ∷ edge 2 2 3 4 ∷ edge 2 2 3 4 ∷ []) ≡ refused 12 3
+listed-twice = refl
+
+left-out : check twins (edge 1 1 3 1 ∷ edge 2 2 3 2 ∷ edge 2 1 3 3 ∷ []) ≡ refused 12 3
+left-out = refl
+
+facts-differ : check twins (edge 1 1 3 1 ∷ edge 2 1 3 2 ∷ []) ≡ refused 11 2
+facts-differ = refl
+
+-- A node that wants its own conclusion.
+abbrev own : List (Node ℕ)
+own = node (5 ∷ []) (5 ∷ []) ∷ []
+
+own-run : run Numbers own ≡ failed 1
+own-run = refl
+
+own-draw : draw Numbers own ≡ refused 14 1
+own-draw = refl
+
+own-check : check own (edge 1 1 1 1 ∷ []) ≡ refused 10 1
+own-check = refl
+
+-- A name made twice.
+names-run : run Numbers (name 1 ∷ name 2 ∷ name 1 ∷ []) ≡ failed 3
+names-run = refl
+
+names-draw : draw Numbers (name 1 ∷ name 2 ∷ name 1 ∷ []) ≡ refused 9 3
+names-draw = refl
+
+-- A name made twice behind a node that fails: the machine ends there, and 9 passes over the whole list before 14.
+abbrev behind : List (Node ℕ)
+behind = name 1 ∷ node (5 ∷ []) [] ∷ name 1 ∷ []
+
+behind-run : run Numbers behind ≡ failed 2
+behind-run = refl
+
+behind-draw : draw Numbers behind ≡ refused 9 3
+behind-draw = refl
+
+behind-check : check behind [] ≡ refused 9 3
+behind-check = refl
+
+-- No nodes, and an edge without any.
+no-nodes-run : IsRun Numbers []
+no-nodes-run = (_, refl)
+
+no-nodes-draw : draw Numbers [] ≡ passed []
+no-nodes-draw = refl
+
+no-nodes-check : check [] [] ≡ passed 0
+no-nodes-check = refl
+
+no-nodes-edge : check [] (edge 1 1 2 1 ∷ []) ≡ refused 10 1
+no-nodes-edge = refl
+
+-- Other rows in front of a graph's: the answer is ruled by all of them, and a graph that passes is accepted.
+in-front : (F : Facts) (nodes : List (Node (F .Fact))) (edges : List Edge) (work n : ℕ) →
+    Ruled (fixedRow 1 0 (work < 65536) ∷ graphRows F nodes edges) (λ (m : ℕ). (m ≡ n) × Accepted F nodes edges) (rulingThen (lessPass 1 0 work 65536 ∷ []) (checkGraph F nodes edges n))
+in-front F nodes edges work n =
+    ruled-then (λ (m : ℕ). (m ≡ n) × Accepted F nodes edges) (lessPass 1 0 work 65536 ∷ []) (graphRows F nodes edges) (checkGraph F nodes edges n)
+    (λ h. check-table F nodes edges n (λ (m : ℕ). (m ≡ n) × Accepted F nodes edges) (λ acc. (refl, acc)))
+
+-- "Drawing: .. 9, 14, 15" and the length written, for any length of a list of edges.
+module _ (F : Facts) (nodes : List (Node (F .Fact))) (size : List Edge → ℕ) (room : ℕ) where
+  abbrev written : Ruling ℕ
+  written = andThen (draw F nodes) (λ es. rulingOf (needPass 15 room (size es) ∷ []) (size es))
+
+  written-ruled : Ruled (drawRows F nodes ++ rowsAfter (draw F nodes) (λ es. fixedRow 15 (size es) (room < size es) ∷ [])) (λ n. (es : List Edge) × Accepted F nodes es × (n ≡ size es)) written
+  written-ruled =
+      ruled-and-then (Accepted F nodes) (λ n. (es : List Edge) × Accepted F nodes es × (n ≡ size es)) (drawRows F nodes) (draw F nodes)
+      (λ es. fixedRow 15 (size es) (room < size es) ∷ []) (λ es. rulingOf (needPass 15 room (size es) ∷ []) (size es)) (draw-table F nodes)
+      (λ es acc e. ruled (λ n. (fs : List Edge) × Accepted F nodes fs × (n ≡ size fs)) (needPass 15 room (size es) ∷ []) (size es) (λ h. (es, acc, refl)))
+
+short : written Numbers twins (λ es. length es) 3 ≡ refused 15 4
+short = refl
+
+long-enough : written Numbers twins (λ es. length es) 4 ≡ passed 4
+long-enough = refl
+
+no-run-first : written Numbers lone (λ es. length es) 0 ≡ refused 14 2
+no-run-first = refl

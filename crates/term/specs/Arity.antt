@@ -1,0 +1,32 @@
+-- "Arities: one 0; h, fst, snd, inv 1; the others 2; a free function as declared." A slot for each tag.
+use Prim.Native.Nat.{ℕ, zero, suc}
+use mathlib.Core.List.{List, [], _∷_, _++_}
+use mathlib.Core.Option.{Option, some, none}
+use lib.ListN.{getD}
+use lib.Dec.{ltb, eqb}
+use Rattle.octets.specs.Choice.{pick}
+-- their laws
+pub mod Laws
+
+-- the slot of a tag that no function has
+abbrev pub undeclared : ℕ
+undeclared = 255
+
+-- the arity of each tag in a table of slots; tags 0 to 2 are leaves and no functions
+unfoldable pub arity : List ℕ → ℕ → Option ℕ
+arity slots f =
+    pick (ltb f 3) none (pick (eqb (getD slots f undeclared) undeclared) none (some (getD slots f undeclared)))
+
+-- 3 one; 4 enc; 5 dec; 6 h; 7 pair; 8 fst; 9 snd; 10 exp; 11 inv; 12 mul
+abbrev pub builtin : List ℕ
+builtin = undeclared ∷ undeclared ∷ undeclared ∷ 0 ∷ 2 ∷ 2 ∷ 1 ∷ 2 ∷ 1 ∷ 1 ∷ 2 ∷ 1 ∷ 2 ∷ []
+
+-- as many slots as n, those past the list's end undeclared
+abbrev pub padded : ℕ → List ℕ → List ℕ
+padded zero l = []
+padded (suc n) [] = undeclared ∷ padded n []
+padded (suc n) (a ∷ l) = a ∷ padded n l
+
+-- document 01's table, for the declared arities of the free functions: "13+j free function j (j from 0)", 16 at most
+unfoldable pub slots : List ℕ → List ℕ
+slots free = builtin ++ padded 16 free

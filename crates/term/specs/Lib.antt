@@ -1,0 +1,10 @@
+-- Terms in prefix order.
+
+-- terms as trees, their bytes, their symbols, well formed, in range
+pub mod Term
+-- the arity of each tag
+pub mod Arity
+-- reading one term at a place
+pub mod Reader
+-- what code answers of terms at a place
+pub mod Walk

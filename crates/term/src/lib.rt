@@ -1,0 +1,179 @@
+// Terms in the files: prefix order, tag first.
+ghost use mathlib.Core.Path.{_≡_};
+ghost use Prim.Native.Nat.{_^_, _≤_, _<_, _+_};
+ghost use lib.ListN.{length, getD};
+ghost use Rattle.number.specs.Reading.{readNumber, many};
+ghost use Rattle.term.specs.Arity.{undeclared, arity};
+ghost use Rattle.term.specs.Reader.{nameAt, opAt, symbolAt, term};
+ghost use Rattle.term.specs.Walk.{hits, walked, walks, ended, endeds, bytesOf};
+ghost use Rattle.term.specs.Walk.Laws.{stepOf};
+use number::Number;
+
+// The slot of a tag that no function has.
+pub const UNDECLARED: u8 = 255;
+
+// "Fresh and public names are two incomparable sets, each numbered from 0."
+pub struct Fresh(pub u32);
+
+pub struct Public(pub u32);
+
+// What begins at a place: a leaf with its tag and number, or a function with its tag and arity; and the place behind it.
+pub enum Symbol {
+    Leaf(usize, u32, usize),
+    Op(usize, u8, usize),
+    Fault,
+}
+
+// One symbol of a walk: how many terms it takes, whether the test hit, the place behind it.
+pub enum Step {
+    Takes(u8, bool, usize),
+    Fault,
+}
+
+// Terms: the place behind them, their symbols, whether the test hit.
+pub enum Walk {
+    End(usize, usize, bool),
+    Fault,
+}
+
+// Terms: the place behind them, their symbols.
+pub enum Part {
+    End(usize, usize),
+    Fault,
+}
+
+// The slot of a tag.
+fn slot(arities: &[u8], tag: usize) -> u8
+    ensures { λ r. ⌜ r ≡ getD (now (arities .entry)) tag undeclared ⌝ }
+{
+    if tag < arities.len() {
+        return arities[tag];
+    }
+    UNDECLARED
+}
+
+// The function of a tag, and the place behind the tag.
+fn op_at(arities: &[u8], tag: usize, next: usize) -> Symbol
+    requires { ⌜ 3 ≤ tag ⌝ }
+    ensures { λ r. ⌜ r ≡ opAt tag (arity (now (arities .entry)) tag) next ⌝ }
+{
+    let k = slot(arities, tag);
+    if k == UNDECLARED {
+        return Symbol::Fault;
+    }
+    Symbol::Op(tag, k, next)
+}
+
+// The leaf of a tag, its number at a place.
+fn leaf_at(s: &[u8], tag: usize, at: usize) -> Symbol
+    ensures { λ r. ⌜ r ≡ nameAt tag (readNumber (now (s .entry)) at) ⌝ }
+{
+    match number::read_number(s, at) {
+        Number::Value(n, e) => Symbol::Leaf(tag, n, e),
+        Number::Fault => Symbol::Fault,
+    }
+}
+
+// The symbol at a place.
+pub fn symbol_at(s: &[u8], arities: &[u8], at: usize) -> Symbol
+    ensures { λ r. ⌜ r ≡ symbolAt (now (s .entry)) (now (arities .entry)) at ⌝ }
+{
+    match number::read_number(s, at) {
+        Number::Value(t, e) => {
+            let tag = t as usize;
+            if tag < 3 {
+                return leaf_at(s, tag, e);
+            }
+            op_at(arities, tag, e)
+        }
+        Number::Fault => Symbol::Fault,
+    }
+}
+
+// Whether a leaf is of that kind, from lo on and below hi.
+fn hit(kind: usize, lo: usize, hi: usize, t: usize, n: usize) -> bool
+    ensures { λ r. ⌜ r ≡ hits kind lo hi t n ⌝ }
+{
+    (t == kind) & (!(n < lo) & (n < hi))
+}
+
+fn one_symbol(s: &[u8], arities: &[u8], at: usize, kind: usize, lo: usize, hi: usize) -> Step
+    ensures { λ r. ⌜ r ≡ stepOf kind lo hi (symbolAt (now (s .entry)) (now (arities .entry)) at) ⌝ }
+{
+    match symbol_at(s, arities, at) {
+        Symbol::Leaf(t, n, e) => Step::Takes(0, hit(kind, lo, hi, t, n as usize), e),
+        Symbol::Op(_, k, e) => Step::Takes(k, false, e),
+        Symbol::Fault => Step::Fault,
+    }
+}
+
+// Walks k terms from a place on, and tells whether a leaf of that kind, from lo on and below hi, stands in one of them.
+pub fn walk_terms(
+    s: &[u8],
+    arities: &[u8],
+    at: usize,
+    k: usize,
+    kind: usize,
+    lo: usize,
+    hi: usize,
+) -> Walk
+    requires { ⌜ (length (now s) ≤ 2 ^ 32) × (k ≤ 2 ^ 32) ⌝ }
+    ensures { λ r. ⌜ r ≡ walks kind lo hi (many (term (now (s .entry)) (now (arities .entry))) k at) ⌝ }
+{
+    let mut i = at;
+    let mut pending = k;
+    let mut count: usize = 0;
+    let mut found = false;
+    while 0 < pending {
+        match one_symbol(s, arities, i, kind, lo, hi) {
+            Step::Takes(n, h, e) => {
+                pending = pending - 1 + n as usize;
+                found = found | h;
+                i = e;
+                count += 1;
+            }
+            Step::Fault => {
+                return Walk::Fault;
+            }
+        }
+    }
+    Walk::End(i, count, found)
+}
+
+// The same for one term.
+pub fn walk_term(s: &[u8], arities: &[u8], at: usize, kind: usize, lo: usize, hi: usize) -> Walk
+    requires { ⌜ length (now s) ≤ 2 ^ 32 ⌝ }
+    ensures { λ r. ⌜ r ≡ walked kind lo hi (term (now (s .entry)) (now (arities .entry)) at) ⌝ }
+{
+    walk_terms(s, arities, at, 1, kind, lo, hi)
+}
+
+// Passes over k terms from a place on.
+pub fn terms_end(s: &[u8], arities: &[u8], at: usize, k: usize) -> Part
+    requires { ⌜ (length (now s) ≤ 2 ^ 32) × (k ≤ 2 ^ 32) ⌝ }
+    ensures { λ r. ⌜ r ≡ endeds (many (term (now (s .entry)) (now (arities .entry))) k at) ⌝ }
+{
+    match walk_terms(s, arities, at, k, 0, 0, 0) {
+        Walk::End(e, n, _) => Part::End(e, n),
+        Walk::Fault => Part::Fault,
+    }
+}
+
+// Passes over the term at a place.
+pub fn term_end(s: &[u8], arities: &[u8], at: usize) -> Part
+    requires { ⌜ length (now s) ≤ 2 ^ 32 ⌝ }
+    ensures { λ r. ⌜ r ≡ ended (term (now (s .entry)) (now (arities .entry)) at) ⌝ }
+{
+    terms_end(s, arities, at, 1)
+}
+
+// The bytes of the term at a place, as a part of the caller's slice; none where no term stands.
+pub fn term_part<'a>(s: &'a [u8], arities: &[u8], at: usize) -> &'a [u8]
+    requires { ⌜ length (now s) ≤ 2 ^ 32 ⌝ }
+    ensures { λ r. ⌜ now r ≡ bytesOf (term (now (s .entry)) (now (arities .entry)) at) ⌝ }
+{
+    match term_end(s, arities, at) {
+        Part::End(e, _) => &s[at..e],
+        Part::Fault => &s[..0],
+    }
+}

@@ -1,0 +1,25 @@
+//! Random inputs from a fixed seed: built forward to be mostly good, then damaged.
+
+/// Terms of a given size.
+pub mod terms;
+
+/// Protocols, good ones and broken ones.
+pub mod protocols;
+
+/// Runs, built forward, and their edges.
+pub mod runs;
+
+/// Properties.
+pub mod properties;
+
+/// Faults in nodes, edges and properties.
+pub mod faults;
+
+/// Damage to a file's bytes.
+pub mod damage;
+
+/// Inputs of the call canonical form.
+pub mod canonical;
+
+/// Inputs of the calls check and draw.
+pub mod graphs;

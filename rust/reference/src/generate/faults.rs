@@ -1,0 +1,265 @@
+//! Faults in the nodes, the edges or the property, each meant for one cause of refusal.
+
+use super::properties::wrap;
+use super::protocols::{fact_of, nested};
+use super::runs::Step;
+use crate::graph::{Edge, MOST_EDGES};
+use crate::number::LARGEST;
+use crate::property::{Formula, Quantifier, Sort, MOST_NESTING, MOST_NEW};
+use crate::protocol::{Protocol, K};
+use crate::random::Random;
+use crate::steps::{MOST_NODES, MOST_VALUE_SYMBOLS};
+use crate::term::*;
+
+/// A rule number that no rule has: cause 6.
+pub fn rule_number(random: &mut Random, protocol: &Protocol, steps: &mut [Step]) {
+    if steps.is_empty() {
+        return;
+    }
+    let place = random.below(steps.len());
+    let functions = protocol.signature.free.len() as u32;
+    let behind_functions = 15 + functions;
+    let behind_rules = 31 + protocol.rules.len() as u32;
+    steps[place].rule = *random.choose(&[behind_functions, behind_rules, 30, 127, 2_097_151]);
+}
+
+/// A value that is not right: cause 7.
+pub fn value(random: &mut Random, steps: &mut [Step]) {
+    let values: Vec<&mut Term> = steps.iter_mut().flat_map(|step| &mut step.values).collect();
+    if values.is_empty() {
+        return;
+    }
+    let place = random.below(values.len());
+    let value = values.into_iter().nth(place).expect("within");
+    let old = value.clone();
+    *value = match random.below(7) {
+        0 => Term::apply(INV, [Term::apply(INV, [old])]),
+        1 => Term::apply(MUL, [old, Term::one()]),
+        2 => Term::apply(FST, [Term::apply(PAIR, [old, Term::one()])]),
+        3 => Term::Variable(random.below(3) as u32),
+        4 => nested(MOST_VALUE_SYMBOLS + random.below(2)),
+        5 => Term::apply(H, [old]),
+        _ => match old {
+            Term::Fresh(Fresh(number)) => Term::Public(Public(number)),
+            Term::Public(Public(number)) => Term::Fresh(Fresh(number)),
+            other => Term::apply(EXP, [other, Term::one()]),
+        },
+    };
+}
+
+/// A node that applies enc to two values of 128 symbols: cause 8; or of 127 and 128, which is no fault.
+pub fn large_node(random: &mut Random, steps: &mut Vec<Step>) {
+    let fewer = usize::from(random.percent(20));
+    let place = random.below(steps.len() + 1);
+    let values = vec![
+        nested(MOST_VALUE_SYMBOLS - fewer),
+        nested(MOST_VALUE_SYMBOLS),
+    ];
+    steps.insert(
+        place,
+        Step {
+            rule: ENC + 2,
+            values,
+        },
+    );
+}
+
+/// A name made again at the end: cause 9.
+pub fn name_again(random: &mut Random, steps: &mut Vec<Step>) {
+    let makers: Vec<Step> = steps
+        .iter()
+        .filter(|step| step.rule == 0)
+        .cloned()
+        .collect();
+    if makers.is_empty() {
+        let name = Term::Fresh(Fresh(0));
+        let step = Step {
+            rule: 0,
+            values: vec![name],
+        };
+        steps.extend([step.clone(), step]);
+    } else {
+        steps.push(random.choose(&makers).clone());
+    }
+}
+
+/// A node taken away, doubled or moved: cause 14 where it matters.
+pub fn order(random: &mut Random, steps: &mut Vec<Step>) {
+    if steps.is_empty() {
+        return;
+    }
+    let place = random.below(steps.len());
+    match random.below(3) {
+        0 => drop(steps.remove(place)),
+        1 => {
+            let step = steps[place].clone();
+            steps.push(step);
+        }
+        _ => {
+            let step = steps.remove(place);
+            steps.insert(0, step);
+        }
+    }
+}
+
+/// A field of an edge changed: cause 10, and sometimes 11 or 12.
+pub fn edge_end(random: &mut Random, edges: &mut [Edge]) {
+    if edges.is_empty() {
+        return;
+    }
+    let place = random.below(edges.len());
+    let edge = &mut edges[place];
+    match random.below(8) {
+        0 => edge.source = 0,
+        1 => edge.conclusion = 0,
+        2 => edge.premise += 1 + random.below(2),
+        3 => edge.conclusion += 1 + random.below(2),
+        4 => edge.target = 2_097_151,
+        5 => edge.source = edge.target,
+        6 => std::mem::swap(&mut edge.source, &mut edge.target),
+        _ => edge.target += 1,
+    }
+}
+
+/// An edge from some earlier node: cause 11, if the facts differ.
+pub fn other_source(random: &mut Random, edges: &mut [Edge]) {
+    if edges.is_empty() {
+        return;
+    }
+    let other = *random.choose(edges);
+    let later: Vec<usize> = (0..edges.len())
+        .filter(|place| edges[*place].target > other.source)
+        .collect();
+    if later.is_empty() {
+        return;
+    }
+    let place = *random.choose(&later);
+    edges[place].source = other.source;
+    edges[place].conclusion = other.conclusion;
+}
+
+/// An edge too few or too many: cause 12.
+pub fn edge_count(random: &mut Random, edges: &mut Vec<Edge>) {
+    if edges.is_empty() {
+        return;
+    }
+    let place = random.below(edges.len());
+    if random.percent(50) {
+        edges.remove(place);
+    } else {
+        let edge = edges[place];
+        edges.insert(random.below(edges.len() + 1), edge);
+    }
+}
+
+/// A node doubled, and the edges into it: cause 13, if one of its premises is linear.
+pub fn source_twice(random: &mut Random, steps: &mut Vec<Step>, edges: &mut Vec<Edge>) {
+    // Rules 1 and 4 take a linear fact, protocol rules mostly do.
+    let takes_linear = |step: &Step| matches!(step.rule, 1 | 4 | 31..);
+    let numbered = (1..).zip(&*steps);
+    let targets: Vec<usize> = numbered
+        .filter(|(_, step)| takes_linear(step))
+        .map(|(target, _)| target)
+        .collect();
+    if targets.is_empty() {
+        return;
+    }
+    let target = *random.choose(&targets);
+    steps.push(steps[target - 1].clone());
+    let into = edges.iter().filter(|edge| edge.target == target);
+    let again = into.map(|edge| Edge {
+        target: steps.len(),
+        ..*edge
+    });
+    let again: Vec<Edge> = again.collect();
+    edges.extend(again);
+}
+
+/// A variable out of scope, of the wrong sort, or not in its guard: cause 5.
+pub fn scope(random: &mut Random, property: Formula) -> Formula {
+    let [first, second] = [0, 1].map(Term::Variable);
+    let over = |new: &[Sort], term: &Term, time: u32, body: Formula| {
+        Formula::Exists(Quantifier {
+            new: new.to_vec(),
+            guard: fact_of(K, term.clone()),
+            time,
+            body: Box::new(body),
+        })
+    };
+    let both = [Sort::Message, Sort::Time];
+    let name = Term::Public(Public(0));
+    let unfit = match random.below(9) {
+        0 => Formula::Equal(name, first),
+        1 => Formula::Before(0, 0),
+        2 => over(&both, &first, 1, Formula::Unequal(first.clone(), second)),
+        3 => over(&both, &first, 1, Formula::SameTime(0, 1)),
+        4 => over(&both, &first, 1, Formula::NotBefore(1, 2)),
+        5 => over(&both, &name, 1, Formula::False),
+        6 => over(&both, &second, 1, Formula::False),
+        7 => over(&[Sort::Message], &first, 0, Formula::False),
+        _ => over(&[Sort::Time, Sort::Time], &name, 0, Formula::False),
+    };
+    match random.below(3) {
+        0 => unfit,
+        1 => Formula::And(Box::new(unfit), Box::new(property)),
+        _ => Formula::Or(Box::new(property), Box::new(unfit)),
+    }
+}
+
+/// As many levels as are allowed, or one more: cause 3.
+pub fn nesting(random: &mut Random) -> Formula {
+    let levels = MOST_NESTING - 1 + random.below(2);
+    wrap(random, Formula::False, levels)
+}
+
+/// As many variables in scope as are allowed, or one more: cause 3. The outermost guard has no match.
+pub fn variables_in_scope(random: &mut Random) -> Formula {
+    let last = 1 + random.below(2);
+    let mut counts = vec![2; 7];
+    counts.push(last);
+    let mut in_scope = 15 + last as u32;
+    let mut formula = Formula::False;
+    for new in counts.into_iter().rev() {
+        in_scope -= new as u32;
+        let message = Term::Variable(in_scope);
+        formula = Formula::ForAll(Quantifier {
+            new: [Sort::Message, Sort::Time][..new].to_vec(),
+            guard: fact_of(K, message),
+            time: if new == 2 { in_scope + 1 } else { 0 },
+            body: Box::new(formula),
+        });
+    }
+    Formula::ForAll(Quantifier {
+        new: vec![Sort::Time],
+        guard: fact_of(K, Term::Public(Public(LARGEST))),
+        time: 0,
+        body: Box::new(formula),
+    })
+}
+
+/// As many new variables as are allowed, which is cause 5 here, or one more: cause 3.
+pub fn new_variables(random: &mut Random) -> Formula {
+    let new = MOST_NEW as usize + random.below(2);
+    Formula::Exists(Quantifier {
+        new: vec![Sort::Message; new],
+        guard: fact_of(K, Term::Variable(0)),
+        time: 1,
+        body: Box::new(Formula::False),
+    })
+}
+
+/// As many nodes as are allowed, by further nodes of rule 3, or one more: cause 3.
+pub fn node_limit(random: &mut Random, steps: &mut Vec<Step>) {
+    let public = Step {
+        rule: 3,
+        values: vec![Term::Public(Public(0))],
+    };
+    steps.resize(MOST_NODES as usize + random.below(2), public);
+}
+
+/// As many edges as are allowed, which is cause 12, or one more: cause 3.
+pub fn edge_limit(random: &mut Random, edges: &mut Vec<Edge>) {
+    if let Some(edge) = edges.first().copied() {
+        edges.resize(MOST_EDGES as usize + random.below(2), edge);
+    }
+}

@@ -1,0 +1,181 @@
+//! Inputs of the calls check and draw.
+
+use super::damage::{damage, overfill};
+use super::properties::Maker;
+use super::runs::{encoded, run, some_edges, Step};
+use super::{faults, protocols};
+use crate::calls::WORK_AREA;
+use crate::graph::{write_edges, Edge};
+use crate::property::Formula;
+use crate::protocol::Protocol;
+use crate::random::Random;
+use crate::refusal::File;
+
+/// What checking is given: three files, and the length of the work area.
+#[derive(Clone, Debug, PartialEq, Eq)]
+pub struct CheckInput {
+    pub protocol: Vec<u8>,
+    pub property: Vec<u8>,
+    pub graph: Vec<u8>,
+    pub work: usize,
+}
+
+/// What drawing is given: two files, and the lengths of the lent slices.
+#[derive(Clone, Debug, PartialEq, Eq)]
+pub struct DrawInput {
+    pub protocol: Vec<u8>,
+    pub steps: Vec<u8>,
+    pub output: usize,
+    pub work: usize,
+}
+
+/// The files as trees and lists.
+struct Parts {
+    protocol: Protocol,
+    property: Formula,
+    steps: Vec<Step>,
+    edges: Vec<Edge>,
+}
+
+pub fn check_input(random: &mut Random) -> CheckInput {
+    let mut parts = good(random);
+    let faults = some_faults(random);
+    for fault in &faults {
+        spoil_checked(random, &mut parts, *fault);
+    }
+    let mut graph = encoded(&parts.steps);
+    write_edges(&parts.edges, &mut graph);
+    let mut property = Vec::new();
+    parts.property.encode(&mut property);
+    let mut input = CheckInput {
+        protocol: parts.protocol.encoded(),
+        property,
+        graph,
+        work: long_enough(random),
+    };
+    for fault in faults {
+        match fault {
+            80..82 => input.work = short(random),
+            82..84 => overfill(random, &mut input.protocol, File::Protocol.limit()),
+            84..86 => overfill(random, &mut input.property, File::Property.limit()),
+            86..88 => overfill(random, &mut input.graph, File::Graph.limit()),
+            88..90 => damage(random, &mut input.protocol),
+            90..94 => damage(random, &mut input.property),
+            94.. => damage(random, &mut input.graph),
+            _ => {}
+        }
+    }
+    input
+}
+
+pub fn draw_input(random: &mut Random) -> DrawInput {
+    let mut parts = good(random);
+    let faults = some_faults(random);
+    for fault in &faults {
+        spoil_drawn(random, &mut parts, *fault);
+    }
+    let steps = encoded(&parts.steps);
+    let mut edges = Vec::new();
+    write_edges(&parts.edges, &mut edges);
+    // Right for a run without fault and near it for others.
+    let need = steps.len() + edges.len();
+    let mut input = DrawInput {
+        protocol: parts.protocol.encoded(),
+        steps,
+        output: need + *random.choose(&[0, 0, 9, 2_000]),
+        work: long_enough(random),
+    };
+    for fault in faults {
+        match fault {
+            75..82 => input.output = random.below(need),
+            82..84 => input.work = short(random),
+            84..87 => overfill(random, &mut input.protocol, File::Protocol.limit()),
+            87..90 => overfill(random, &mut input.steps, File::Steps.limit()),
+            90..93 => damage(random, &mut input.protocol),
+            93.. => damage(random, &mut input.steps),
+            _ => {}
+        }
+    }
+    input
+}
+
+/// A fit protocol, a run of it with edges, and a fit property.
+fn good(random: &mut Random) -> Parts {
+    let length = match random.below(100) {
+        0..12 => 105 + random.below(60),
+        12..40 => 20 + random.below(50),
+        _ => random.below(20),
+    };
+    let protocol = protocols::fit(random);
+    let (steps, edges) = {
+        let run = run(random, &protocol, length);
+        let edges = some_edges(random, &protocol, &run.nodes);
+        (run.steps, edges)
+    };
+    let most_quantifiers = if steps.len() > 60 { 2 } else { 3 };
+    let property = Maker::new(&protocol, most_quantifiers).property(random);
+    Parts {
+        protocol,
+        property,
+        steps,
+        edges,
+    }
+}
+
+/// Numbers of faults, each below 100; none in about half of the inputs.
+fn some_faults(random: &mut Random) -> Vec<usize> {
+    let count = *random.choose(&[0, 0, 0, 0, 1, 1, 1, 1, 2]);
+    (0..count).map(|_| random.below(100)).collect()
+}
+
+fn long_enough(random: &mut Random) -> usize {
+    WORK_AREA + *random.choose(&[0, 0, 0, 1, 5_000])
+}
+
+fn short(random: &mut Random) -> usize {
+    *random.choose(&[0, 1, 1_024, WORK_AREA - 1])
+}
+
+/// The faults that are made before the files are written.
+fn spoil_checked(random: &mut Random, parts: &mut Parts, fault: usize) {
+    match fault {
+        0..4 => protocols::break_condition(random, &mut parts.protocol),
+        4..10 => protocols::stretch(random, &mut parts.protocol),
+        10..14 => faults::rule_number(random, &parts.protocol, &mut parts.steps),
+        14..24 => faults::value(random, &mut parts.steps),
+        24..30 => faults::large_node(random, &mut parts.steps),
+        30..36 => faults::name_again(random, &mut parts.steps),
+        36..44 => faults::edge_end(random, &mut parts.edges),
+        44..54 => faults::other_source(random, &mut parts.edges),
+        54..60 => faults::edge_count(random, &mut parts.edges),
+        60..72 => faults::source_twice(random, &mut parts.steps, &mut parts.edges),
+        72..76 => parts.property = faults::scope(random, parts.property.clone()),
+        76..80 => limits(random, parts),
+        _ => {}
+    }
+}
+
+/// One of the counts brought to its limit or one above it.
+fn limits(random: &mut Random, parts: &mut Parts) {
+    match random.below(5) {
+        0 => parts.property = faults::nesting(random),
+        1 => parts.property = faults::variables_in_scope(random),
+        2 => parts.property = faults::new_variables(random),
+        3 => faults::node_limit(random, &mut parts.steps),
+        _ => faults::edge_limit(random, &mut parts.edges),
+    }
+}
+
+fn spoil_drawn(random: &mut Random, parts: &mut Parts, fault: usize) {
+    match fault {
+        0..6 => protocols::break_condition(random, &mut parts.protocol),
+        6..15 => protocols::stretch(random, &mut parts.protocol),
+        15..23 => faults::rule_number(random, &parts.protocol, &mut parts.steps),
+        23..38 => faults::value(random, &mut parts.steps),
+        38..46 => faults::large_node(random, &mut parts.steps),
+        46..54 => faults::name_again(random, &mut parts.steps),
+        54..73 => faults::order(random, &mut parts.steps),
+        73..75 => faults::node_limit(random, &mut parts.steps),
+        _ => {}
+    }
+}

@@ -1,0 +1,221 @@
+//! Protocols that are fit, and ones with one fault.
+
+use super::terms::Material;
+use crate::protocol::*;
+use crate::random::Random;
+use crate::refusal::File;
+use crate::term::{Fresh, Public, Signature, Term, FREE, H};
+
+/// A protocol within the limits that meets P1 to P4.
+pub fn fit(random: &mut Random) -> Protocol {
+    let functions = random.below(6);
+    let free = (0..functions).map(|_| random.below(5)).collect();
+    let symbols = 1 + random.below(6);
+    let own = (0..symbols).map(|_| own_symbol(random)).collect();
+    let mut protocol = Protocol {
+        signature: Signature { free },
+        own,
+        rules: Vec::new(),
+    };
+    for _ in 0..random.below(5) {
+        let rule = rule(random, &protocol);
+        protocol.rules.push(rule);
+    }
+    protocol
+}
+
+fn own_symbol(random: &mut Random) -> FactSymbol {
+    FactSymbol {
+        arity: random.below(4),
+        persistent: random.percent(40),
+    }
+}
+
+fn rule(random: &mut Random, protocol: &Protocol) -> Rule {
+    let variables: Vec<Sort> = (0..random.below(5)).map(|_| sort(random)).collect();
+    let count = variables.len() as u32;
+    let mut premises = facts(random, protocol, count, &[FR, IN]);
+    // Every variable stands in a premise, so that it may stand in a conclusion.
+    for number in 0..count {
+        let place = *random.choose(&[FR, IN]);
+        premises.push(fact_of(place, Term::Variable(number)));
+    }
+    if !premises.is_empty() && random.percent(20) {
+        premises.push(random.choose(&premises).clone());
+    }
+    Rule {
+        premises,
+        actions: facts(random, protocol, count, &[FR, IN, OUT, K]),
+        conclusions: facts(random, protocol, count, &[OUT]),
+        variables,
+    }
+}
+
+fn sort(random: &mut Random) -> Sort {
+    *random.choose(&[Sort::Message, Sort::Message, Sort::Fresh, Sort::Public])
+}
+
+pub fn fact_of(symbol: u32, term: Term) -> Fact {
+    Fact {
+        symbol,
+        terms: vec![term],
+    }
+}
+
+/// At most three facts of these built-in symbols and of own ones.
+fn facts(random: &mut Random, protocol: &Protocol, variables: u32, built_in: &[u32]) -> Vec<Fact> {
+    let own = 4..4 + protocol.own.len() as u32;
+    let symbols: Vec<u32> = built_in.iter().copied().chain(own).collect();
+    let fact = |random: &mut Random| {
+        let symbol = *random.choose(&symbols);
+        let arity = protocol.fact_symbol(symbol).expect("declared").arity;
+        let terms = (0..arity).map(|_| rule_term(random, protocol, variables));
+        Fact {
+            symbol,
+            terms: terms.collect(),
+        }
+    };
+    (0..random.below(4)).map(|_| fact(random)).collect()
+}
+
+fn rule_term(random: &mut Random, protocol: &Protocol, variables: u32) -> Term {
+    let material = Material {
+        signature: &protocol.signature,
+        variables,
+        fresh_names: false,
+        products: random.percent(70),
+    };
+    let symbols = 1 + random.below(7);
+    material.term(random, symbols)
+}
+
+/// A rule to be damaged; there is always one.
+fn some_rule<'a>(random: &mut Random, protocol: &'a mut Protocol) -> &'a mut Rule {
+    if protocol.rules.is_empty() {
+        let rule = rule(random, protocol);
+        protocol.rules.push(rule);
+    }
+    let place = random.below(protocol.rules.len());
+    &mut protocol.rules[place]
+}
+
+/// Breaks one of P1 to P4 in one of its ways.
+pub fn break_condition(random: &mut Random, protocol: &mut Protocol) {
+    let way = random.below(9);
+    let rule = some_rule(random, protocol);
+    let fresh = Term::Fresh(Fresh(0));
+    let public = Term::Public(Public(0));
+    let facts = match way {
+        0 | 3 | 4 => &mut rule.premises,
+        1 => &mut rule.actions,
+        _ => &mut rule.conclusions,
+    };
+    let fact = match way {
+        0 => fact_of(IN, fresh),
+        1 => fact_of(K, Term::apply(H, [fresh])),
+        2 => fact_of(OUT, Term::apply(H, [fresh])),
+        3 => fact_of(K, public),
+        4 => fact_of(OUT, public),
+        5 => fact_of(K, public),
+        6 => fact_of(IN, public),
+        7 => fact_of(FR, public),
+        _ => {
+            let number = rule.variables.len() as u32;
+            rule.variables
+                .push(*random.choose(&[Sort::Message, Sort::Fresh]));
+            fact_of(OUT, Term::Variable(number))
+        }
+    };
+    facts.truncate(MOST_FACTS as usize - 1);
+    facts.push(fact);
+}
+
+/// Brings one figure to its limit, or one above it, or uses something undeclared. A figure at its limit
+/// is no fault of layout.
+pub fn stretch(random: &mut Random, protocol: &mut Protocol) {
+    let above = random.below(2);
+    let most = |limit: u32| limit as usize + above;
+    match random.below(9) {
+        0 => protocol.signature.free.resize(most(MOST_FUNCTIONS), 0),
+        1 => protocol.signature.free.push(most(MOST_FUNCTION_ARITY)),
+        2 => {
+            let symbol = own_symbol(random);
+            protocol.own.resize(most(MOST_FACT_SYMBOLS), symbol);
+        }
+        3 => protocol.own.push(FactSymbol {
+            arity: most(MOST_FACT_ARITY),
+            persistent: false,
+        }),
+        4 => {
+            let rule = Rule {
+                variables: Vec::new(),
+                premises: Vec::new(),
+                actions: Vec::new(),
+                conclusions: Vec::new(),
+            };
+            protocol.rules.resize(most(MOST_RULES), rule);
+        }
+        5 => {
+            let rule = some_rule(random, protocol);
+            rule.variables.resize(most(MOST_VARIABLES), Sort::Message);
+        }
+        6 => {
+            let fact = fact_of(OUT, Term::Public(Public(0)));
+            let rule = some_rule(random, protocol);
+            let facts = if random.percent(50) {
+                &mut rule.actions
+            } else {
+                &mut rule.conclusions
+            };
+            facts.resize(most(MOST_FACTS), fact);
+        }
+        7 => fill(protocol, File::Protocol.limit() + above),
+        _ => use_undeclared(random, protocol, above),
+    }
+}
+
+/// An action with a variable, function or symbol that is not declared, or with a term of 64 symbols or
+/// one more.
+fn use_undeclared(random: &mut Random, protocol: &mut Protocol, above: usize) {
+    let functions = protocol.signature.free.len() as u32;
+    let symbols = protocol.own.len() as u32;
+    let rule = some_rule(random, protocol);
+    let fact = match random.below(4) {
+        0 => fact_of(K, Term::Variable(rule.variables.len() as u32)),
+        1 => fact_of(K, Term::apply(FREE + functions, [])),
+        2 => fact_of(4 + symbols, Term::Public(Public(0))),
+        _ => fact_of(K, nested(MOST_RULE_SYMBOLS + above)),
+    };
+    rule.actions.truncate(MOST_FACTS as usize - 1);
+    rule.actions.push(fact);
+}
+
+/// Nested h over a public name, so many symbols in all.
+pub fn nested(symbols: usize) -> Term {
+    (1..symbols).fold(Term::Public(Public(0)), |term, _| Term::apply(H, [term]))
+}
+
+/// Adds rules until the file has just this length, if it is not near it already.
+fn fill(protocol: &mut Protocol, length: usize) {
+    const MOST: usize = MOST_RULE_SYMBOLS + 2;
+    let mut left = length.saturating_sub(protocol.encoded().len());
+    while left >= 7 {
+        let mut actions = Vec::new();
+        left -= 4;
+        while left > 0 && actions.len() < MOST_FACTS as usize {
+            let bytes = match left {
+                0..=MOST => left,
+                67..74 => left / 2,
+                _ => MOST,
+            };
+            actions.push(fact_of(K, nested(bytes - 2)));
+            left -= bytes;
+        }
+        protocol.rules.push(Rule {
+            variables: Vec::new(),
+            premises: Vec::new(),
+            actions,
+            conclusions: Vec::new(),
+        });
+    }
+}

@@ -1,0 +1,283 @@
+//! Runs, built forward: every step is one that the machine can take.
+
+use super::protocols::fact_of;
+use super::terms::Material;
+use crate::canonical::canonical_form;
+use crate::graph::Edge;
+use crate::machine::Machine;
+use crate::number;
+use crate::protocol::*;
+use crate::random::Random;
+use crate::steps::{instance, Node};
+use crate::term::*;
+use std::collections::HashSet;
+
+/// Messages above this size are not built upon, so that values stay within their limit.
+const MOST_BUILT_UPON: usize = 24;
+
+/// A node as a file holds it.
+#[derive(Clone, Debug)]
+pub struct Step {
+    pub rule: u32,
+    pub values: Vec<Term>,
+}
+
+/// A run so far.
+pub struct Run<'a> {
+    protocol: &'a Protocol,
+    machine: Machine<'a>,
+    next_name: u32,
+    /// All conclusions so far, the consumed ones too, and among them the known messages.
+    made: Vec<Fact>,
+    known: Vec<Term>,
+    pub steps: Vec<Step>,
+    pub nodes: Vec<Node>,
+}
+
+/// A run of about so many nodes.
+pub fn run<'a>(random: &mut Random, protocol: &'a Protocol, length: usize) -> Run<'a> {
+    let mut run = Run {
+        protocol,
+        machine: Machine::new(protocol),
+        next_name: random.below(3) as u32 * 64,
+        made: Vec::new(),
+        known: Vec::new(),
+        steps: Vec::new(),
+        nodes: Vec::new(),
+    };
+    for _ in 0..4 * length {
+        if run.steps.len() >= length {
+            break;
+        }
+        run.grow(random);
+    }
+    run
+}
+
+impl<'a> Run<'a> {
+    /// Adds a step, and before it what supplies its premises; perhaps only some of these.
+    fn grow(&mut self, random: &mut Random) {
+        match random.below(20) {
+            0 => drop(self.new_name()),
+            1 => drop(self.know(&Term::Public(Public(random.below(4) as u32)))),
+            2..6 => self.receive(random),
+            6..8 => {
+                if let Some(message) = self.known_message(random) {
+                    self.take(2, vec![message]);
+                }
+            }
+            8..14 => self.apply_function(random),
+            _ => self.protocol_step(random),
+        }
+    }
+
+    /// Takes the step if the machine can.
+    fn take(&mut self, rule: u32, values: Vec<Term>) -> bool {
+        let Some(form) = self.protocol.rule(rule) else {
+            return false;
+        };
+        let mut pairs = form.variables.iter().zip(&values);
+        if !pairs.all(|(sort, value)| sort.takes(value)) {
+            return false;
+        }
+        let node = Node::new(rule, &form, &values);
+        if !self.machine.step(&node) {
+            return false;
+        }
+        let known = node.conclusions.iter().filter(|fact| fact.symbol == K);
+        self.known.extend(known.map(|fact| fact.terms[0].clone()));
+        self.made.extend(node.conclusions.iter().cloned());
+        self.steps.push(Step { rule, values });
+        self.nodes.push(node);
+        true
+    }
+
+    fn new_name(&mut self) -> Term {
+        let name = Term::Fresh(Fresh(self.next_name));
+        self.next_name += 1;
+        self.take(0, vec![name.clone()]);
+        name
+    }
+
+    /// Makes a canonical message known, by its parts where it is not known already.
+    fn know(&mut self, message: &Term) -> bool {
+        if self.machine.has(&fact_of(K, message.clone())) {
+            return true;
+        }
+        match message {
+            Term::Variable(_) => false,
+            Term::Public(_) => self.take(3, vec![message.clone()]),
+            Term::Fresh(name) => {
+                if !self.machine.has_made(*name) {
+                    self.take(0, vec![message.clone()]);
+                }
+                self.take(4, vec![message.clone()])
+            }
+            Term::Apply(tag, arguments) => {
+                let parts_known = arguments.iter().all(|part| self.know(part));
+                parts_known && self.take(tag + 2, arguments.clone())
+            }
+        }
+    }
+
+    fn known_message(&mut self, random: &mut Random) -> Option<Term> {
+        let message = self.known.get(random.below(self.known.len().max(1)))?;
+        (message.symbols() <= MOST_BUILT_UPON).then(|| message.clone())
+    }
+
+    /// The adversary receives a message that is out.
+    fn receive(&mut self, random: &mut Random) {
+        if let Some(fact) = self.available(random, OUT) {
+            self.take(1, fact.terms);
+        }
+    }
+
+    /// A fact with this symbol that is in the state.
+    fn available(&self, random: &mut Random, symbol: u32) -> Option<Fact> {
+        let in_state = |fact: &&Fact| fact.symbol == symbol && self.machine.has(fact);
+        let facts: Vec<&Fact> = self.made.iter().filter(in_state).collect();
+        (!facts.is_empty()).then(|| (*random.choose(&facts)).clone())
+    }
+
+    fn apply_function(&mut self, random: &mut Random) {
+        let free = FREE..FREE + self.protocol.signature.free.len() as u32;
+        let all: Vec<u32> = (ONE..FREE).chain(free).collect();
+        let tag = if random.percent(75) {
+            *random.choose(&[MUL, MUL, INV, EXP])
+        } else {
+            *random.choose(&all)
+        };
+        let arity = self.protocol.signature.arity(tag).expect("declared");
+        let messages = (0..arity).map(|_| self.known_message(random));
+        if let Some(values) = messages.collect() {
+            self.take(tag + 2, values);
+        }
+    }
+
+    /// A protocol rule: variables are bound to facts of the state where a premise allows it, and
+    /// otherwise chosen; then its premises are supplied.
+    fn protocol_step(&mut self, random: &mut Random) {
+        if self.protocol.rules.is_empty() {
+            return;
+        }
+        let number = random.below(self.protocol.rules.len());
+        let rule = &self.protocol.rules[number];
+        let mut values = vec![None; rule.variables.len()];
+        for premise in &rule.premises {
+            let found = self.available(random, premise.symbol);
+            if let Some(fact) = found.filter(|_| premise.symbol != IN || random.percent(50)) {
+                bind(&mut values, &rule.variables, premise, &fact);
+            }
+        }
+        let chosen = values.into_iter().zip(&rule.variables);
+        let values: Vec<Term> = chosen
+            .map(|(value, sort)| value.unwrap_or_else(|| self.some_value(random, *sort)))
+            .collect();
+        let premises = rule.premises.iter().map(|fact| instance(fact, &values));
+        let premises: Vec<Fact> = premises.collect();
+        let mut prefixes = (1..=premises.len()).map(|count| &premises[..count]);
+        if prefixes.all(|premises| self.supply(premises)) {
+            self.take(31 + number as u32, values);
+        }
+    }
+
+    fn some_value(&mut self, random: &mut Random, sort: Sort) -> Term {
+        match sort {
+            Sort::Fresh => self.new_name(),
+            Sort::Public => Term::Public(Public(random.below(4) as u32)),
+            Sort::Message => {
+                if let Some(message) = self.known_message(random) {
+                    return message;
+                }
+                let material = Material {
+                    signature: &self.protocol.signature,
+                    variables: 0,
+                    fresh_names: true,
+                    products: random.percent(70),
+                };
+                let symbols = 1 + random.below(6);
+                canonical_form(&material.term(random, symbols))
+            }
+        }
+    }
+
+    /// Brings the last premise into the state, as often as it stands among all of them, where the adversary
+    /// or rule 0 can.
+    fn supply(&mut self, premises: &[Fact]) -> bool {
+        let fact = premises.last().expect("a premise");
+        let needed = premises.iter().filter(|premise| *premise == fact).count();
+        if self.protocol.persistent(fact) {
+            return self.machine.has(fact);
+        }
+        if self.machine.in_bag(fact) >= needed {
+            return true;
+        }
+        match (fact.symbol, &fact.terms[..]) {
+            (FR, [name]) => self.take(0, vec![name.clone()]),
+            (IN, [message]) => self.know(message) && self.take(2, vec![message.clone()]),
+            _ => false,
+        }
+    }
+}
+
+/// Binds the variables that are whole terms of a premise to the terms of a fact.
+fn bind(values: &mut [Option<Term>], sorts: &[Sort], premise: &Fact, fact: &Fact) {
+    for (term, part) in premise.terms.iter().zip(&fact.terms) {
+        if let Term::Variable(number) = term {
+            let number = *number as usize;
+            let of_sort = sorts[number].takes(part) && part.symbols() <= MOST_BUILT_UPON;
+            if of_sort && values[number].is_none() {
+                values[number] = Some(part.clone());
+            }
+        }
+    }
+}
+
+/// A source for each premise of a run, any that is fit, in any order.
+pub fn some_edges(random: &mut Random, protocol: &Protocol, nodes: &[Node]) -> Vec<Edge> {
+    let mut used = HashSet::new();
+    let mut edges = Vec::new();
+    for (target, node) in (1..).zip(nodes) {
+        for (premise, fact) in (1..).zip(&node.premises) {
+            let sources = conclusions_equal(&nodes[..target - 1], fact);
+            let free = |place: &(usize, usize)| protocol.persistent(fact) || !used.contains(place);
+            let sources: Vec<(usize, usize)> = sources.into_iter().filter(free).collect();
+            let (source, conclusion) = *random.choose(&sources);
+            used.insert((source, conclusion));
+            edges.push(Edge {
+                source,
+                conclusion,
+                target,
+                premise,
+            });
+        }
+    }
+    for last in (1..edges.len()).rev() {
+        edges.swap(last, random.below(last + 1));
+    }
+    edges
+}
+
+/// The places, node and conclusion from 1, of the conclusions equal to a fact.
+pub fn conclusions_equal(nodes: &[Node], fact: &Fact) -> Vec<(usize, usize)> {
+    let mut places = Vec::new();
+    for (source, node) in (1..).zip(nodes) {
+        let conclusions = (1..).zip(&node.conclusions);
+        let equal = conclusions.filter(|(_, conclusion)| *conclusion == fact);
+        places.extend(equal.map(|(number, _)| (source, number)));
+    }
+    places
+}
+
+/// The step list's bytes.
+pub fn encoded(steps: &[Step]) -> Vec<u8> {
+    let mut bytes = Vec::new();
+    number::write(steps.len() as u32, &mut bytes);
+    for step in steps {
+        number::write(step.rule, &mut bytes);
+        for value in &step.values {
+            value.encode(&mut bytes);
+        }
+    }
+    bytes
+}

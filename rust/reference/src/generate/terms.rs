@@ -1,0 +1,143 @@
+//! Terms of a given number of symbols.
+
+use crate::number::LARGEST;
+use crate::random::Random;
+use crate::term::*;
+
+/// What a term may be made of.
+pub struct Material<'a> {
+    pub signature: &'a Signature,
+    /// How many variables there are; 0 for a term without.
+    pub variables: u32,
+    pub fresh_names: bool,
+    /// Whether products, inverses and exponents are to be frequent.
+    pub products: bool,
+}
+
+/// Name numbers whose byte order differs from their own, and the ends of each number of groups.
+const RARE_NAMES: [u32; 10] = [
+    127, 128, 129, 255, 256, 257, 16_383, 16_384, 16_385, LARGEST,
+];
+
+impl Material<'_> {
+    /// A term of exactly so many symbols.
+    pub fn term(&self, random: &mut Random, symbols: usize) -> Term {
+        if symbols <= 1 {
+            return self.leaf(random);
+        }
+        if symbols >= 5 && random.percent(15) {
+            return self.reducible(random, symbols);
+        }
+        let tag = self.tag(random, symbols - 1);
+        let arity = self.signature.arity(tag).expect("a declared function");
+        let sizes = shares(random, symbols - 1, arity);
+        Term::apply(tag, sizes.into_iter().map(|size| self.term(random, size)))
+    }
+
+    fn leaf(&self, random: &mut Random) -> Term {
+        if self.variables > 0 && random.percent(60) {
+            return Term::Variable(random.below(self.variables as usize) as u32);
+        }
+        if random.percent(12) {
+            return self.constant(random);
+        }
+        if self.fresh_names && random.percent(70) {
+            Term::Fresh(Fresh(name(random)))
+        } else {
+            Term::Public(Public(name(random)))
+        }
+    }
+
+    /// one, or a free function of arity 0.
+    fn constant(&self, random: &mut Random) -> Term {
+        let free = (FREE..).zip(&self.signature.free);
+        let constants = free.filter(|(_, arity)| **arity == 0).map(|(tag, _)| tag);
+        let tags: Vec<u32> = std::iter::once(ONE).chain(constants).collect();
+        Term::apply(*random.choose(&tags), [])
+    }
+
+    /// A function of arity 1 or more, and at most `most`.
+    fn tag(&self, random: &mut Random, most: usize) -> u32 {
+        let arity = |tag: u32| self.signature.arity(tag).unwrap_or(0);
+        let fits = |tag: &u32| (1..=most).contains(&arity(*tag));
+        let last = FREE + self.signature.free.len() as u32;
+        let all = ENC..last;
+        let tags: Vec<u32> = if self.products && random.percent(65) {
+            [MUL, MUL, MUL, INV, EXP].into_iter().filter(fits).collect()
+        } else {
+            all.filter(fits).collect()
+        };
+        *random.choose(&tags)
+    }
+
+    /// A term to which an equation applies at its root, perhaps only after its parts are normalised.
+    fn reducible(&self, random: &mut Random, symbols: usize) -> Term {
+        let key_size = 1 + random.below((symbols - 3) / 2);
+        let message_size = symbols - 2 - 2 * key_size;
+        let key = self.term(random, key_size);
+        let message = self.term(random, message_size);
+        let other_key = shuffled(random, &key);
+        match random.below(5) {
+            0 => {
+                let pair = Term::apply(PAIR, [key, message]);
+                let projected = Term::apply(*random.choose(&[FST, SND]), [pair]);
+                padded(projected, symbols)
+            }
+            1 => {
+                let power = Term::apply(EXP, [message, key]);
+                padded(Term::apply(EXP, [power, other_key]), symbols)
+            }
+            _ => {
+                let cipher = Term::apply(ENC, [message, key]);
+                padded(Term::apply(DEC, [cipher, other_key]), symbols)
+            }
+        }
+    }
+}
+
+/// The term under as many inv as bring it to this number of symbols.
+fn padded(term: Term, symbols: usize) -> Term {
+    let missing = symbols - term.symbols();
+    (0..missing).fold(term, |term, _| Term::apply(INV, [term]))
+}
+
+/// A term equal to this one and of the same size: the factors of its products change places.
+fn shuffled(random: &mut Random, term: &Term) -> Term {
+    match term {
+        Term::Apply(tag, arguments) => {
+            let mut arguments: Vec<Term> = arguments
+                .iter()
+                .map(|part| shuffled(random, part))
+                .collect();
+            if *tag == MUL && random.percent(50) {
+                arguments.reverse();
+            }
+            Term::Apply(*tag, arguments)
+        }
+        leaf => leaf.clone(),
+    }
+}
+
+/// Few different names, so that factors meet again.
+fn name(random: &mut Random) -> u32 {
+    if random.percent(20) {
+        *random.choose(&RARE_NAMES)
+    } else {
+        random.below(4) as u32
+    }
+}
+
+/// `total` cut into so many parts, none of them zero.
+pub fn shares(random: &mut Random, total: usize, parts: usize) -> Vec<usize> {
+    let mut sizes = vec![1; parts];
+    let favourite = random.below(parts);
+    for _ in parts..total {
+        let part = if random.percent(50) {
+            favourite
+        } else {
+            random.below(parts)
+        };
+        sizes[part] += 1;
+    }
+    sizes
+}
