@@ -52,6 +52,9 @@ pub mod notation;
 /// The cases of the test programs and their expected text.
 pub mod cases;
 
+/// The cases of tests/corpus.
+pub mod corpus;
+
 /// Random inputs: mostly good, some damaged.
 pub mod generate;
 

@@ -1,89 +1,13 @@
 //! Every case of the corpus: its outcome and all lent bytes.
 
-use reference::calls::{canonical_form, check, draw, Counts, Outcome};
-use reference::refusal::Refusal;
+use reference::calls::{canonical_form, check, draw, Outcome};
+use reference::corpus::{cases, expected_memory, Case, INDEX, OUTPUT_BYTE, WORK_BYTE};
 use std::path::{Path, PathBuf};
-
-const CASES: &[u8] = include_bytes!("../../../tests/corpus/cases.bin");
-const INDEX: &str = include_str!("../../../tests/corpus/index.jsonl");
-
-/// The numbers and byte strings of cases.bin, one after another.
-struct Input(&'static [u8]);
-
-impl Input {
-    fn bytes(&mut self, length: usize) -> &'static [u8] {
-        let (first, rest) = self.0.split_at(length);
-        self.0 = rest;
-        first
-    }
-
-    /// 32 bits, low byte first.
-    fn number(&mut self) -> u32 {
-        u32::from_le_bytes(self.bytes(4).try_into().unwrap())
-    }
-
-    fn counted_bytes(&mut self) -> &'static [u8] {
-        let length = self.number() as usize;
-        self.bytes(length)
-    }
-}
-
-struct Case {
-    kind: u32,
-    work: usize,
-    output: usize,
-    files: Vec<&'static [u8]>,
-    outcome: Outcome,
-    written: &'static [u8],
-}
-
-fn read_case(input: &mut Input) -> Case {
-    let kind = input.number();
-    let work = input.number() as usize;
-    let output = input.number() as usize;
-    let count = input.number();
-    let files = (0..count).map(|_| input.counted_bytes()).collect();
-    let outcome = read_outcome(input);
-    let written = input.counted_bytes();
-    Case {
-        kind,
-        work,
-        output,
-        files,
-        outcome,
-        written,
-    }
-}
-
-fn read_outcome(input: &mut Input) -> Outcome {
-    let [which, a, b, c] = [(); 4].map(|()| input.number());
-    let counts = Counts {
-        nodes: a,
-        with_action: b,
-        edges: c,
-    };
-    match which {
-        0 => Outcome::Refused(Refusal { number: a, item: b }),
-        1 => Outcome::Attack(counts),
-        2 => Outcome::Run(counts),
-        3 => Outcome::Written(a),
-        _ => panic!("no such outcome"),
-    }
-}
-
-fn cases() -> Vec<Case> {
-    let mut input = Input(CASES);
-    assert_eq!(input.bytes(4), b"H5C1");
-    let count = input.number();
-    let cases = (0..count).map(|_| read_case(&mut input)).collect();
-    assert!(input.0.is_empty());
-    cases
-}
 
 /// What the call answers, and the output and the work area after it. What they held before is no zero.
 fn call(case: &Case) -> (Outcome, Vec<u8>, Vec<u8>) {
-    let mut output = vec![0xA5; case.output];
-    let mut work = vec![0x5A; case.work];
+    let mut output = vec![OUTPUT_BYTE; case.output];
+    let mut work = vec![WORK_BYTE; case.work];
     let (output_part, work_part) = (&mut output[..], &mut work[..]);
     let outcome = match (case.kind, &case.files[..]) {
         (0, [protocol, property, graph]) => check(protocol, property, graph, work_part),
@@ -92,15 +16,6 @@ fn call(case: &Case) -> (Outcome, Vec<u8>, Vec<u8>) {
         _ => panic!("no such call"),
     };
     (outcome, output, work)
-}
-
-/// The lent bytes as the refusal table leaves them.
-fn expected_memory(case: &Case) -> (Vec<u8>, Vec<u8>) {
-    let mut output = vec![0xA5; case.output];
-    output[..case.written.len()].copy_from_slice(case.written);
-    let untouched = matches!(case.outcome, Outcome::Refused(Refusal { number: 1, .. }));
-    let work = vec![if untouched { 0x5A } else { 0 }; case.work];
-    (output, work)
 }
 
 #[test]
