@@ -1,0 +1,94 @@
+-- What the canonical form makes of a function and its canonical arguments, function by function: the laws that a program follows.
+use Prim.Native.Nat.{ℕ, _≤_}
+use mathlib.Core.Path.{_≡_, refl, sym, _∙_, ap}
+use mathlib.Core.Logic.{_≢_}
+use mathlib.Core.Option.{Option, some}
+use lib.ListN.{length}
+use Rattle.term.specs.Term.{Term, app, Terms, nil, _&_, Formed, encode, symbols}
+use Rattle.message.specs.Functions.{enc, dec, pair, fst, snd}
+use Rattle.message.specs.Substitution.{sub, subs}
+use Rattle.message.specs.Rules.{Rule, Ordinary, FitArities}
+use Rattle.message.specs.Table.{x, y, rules}
+use Rattle.message.specs.Table.Laws.{values, figure-fit, theory, no-rule}
+use Rattle.message.specs.Parts.{Role}
+use Rattle.message.specs.Canon.{as2, reduceAt, mkAt, mk}
+use Rattle.message.specs.Canon.Views.{ordinary-role, reduce-hit, Plainly, stays, reduces, plainly}
+use Rattle.message.specs.Canon.Size.{mk-symbols, mk-bytes}
+use Rattle.message.specs.Gather.{multiplied, raised}
+use Rattle.message.specs.Gather.Same.{same-term, same-exp}
+
+module _ (ar : ℕ → Option ℕ) (g : FitArities ar) where
+  -- ── a function with a rule ──
+  module _ (f : ℕ) (r : Rule) (e : rules f ≡ some r) where
+    made-plain : (ts : Terms) → mk rules f ts ≡ reduceAt (some r) f ts
+    unfolding mk
+    made-plain ts =
+        ap (λ (k : Role). mkAt rules k f ts) (ordinary-role f (figure-fit ar g f r e .head))
+        ∙ ap (λ (z : Option Rule). reduceAt z f ts) e
+
+    made-rule : (θ : ℕ → Term) → mk rules f (subs θ (r .args)) ≡ sub θ (r .result)
+    made-rule θ = made-plain (subs θ (r .args)) ∙ reduce-hit r f θ (figure-fit ar g f r e .bound)
+
+    made-stays : (ts : Terms) → ((θ : ℕ → Term) → ts ≢ subs θ (r .args)) → mk rules f ts ≡ app f ts
+    made-stays ts h = made-plain ts ∙ ap (λ (z : Option Rule). reduceAt z f ts) (sym e) ∙ go (reduceAt (rules f) f ts) (plainly rules f ts)
+      where
+        go : (t : Term) → Plainly rules f ts t → t ≡ app f ts
+        go t (stays n) = refl
+        go t (reduces q d θ m) =
+            let s : some r ≡ some q = sym e ∙ d in
+            let p : r ≡ q = cc in
+            absurd (h θ (m ∙ ap (λ (z : Rule). subs θ (z .args)) (sym p)))
+
+  -- ── dec, fst and snd ──
+  pub made-dec : (m k : Term) → mk rules 5 (enc m k & k & nil) ≡ m
+  made-dec m k = made-rule 5 (record { args = enc x y & y & nil; result = x }) refl (values m k)
+
+  -- the key is another, or it is no ciphertext
+  pub made-dec-stays : (c k : Term) → ((m : Term) → c ≢ enc m k) → mk rules 5 (c & k & nil) ≡ dec c k
+  made-dec-stays c k h =
+      made-stays 5 (record { args = enc x y & y & nil; result = x }) refl (c & k & nil)
+      (λ θ e. let p : c ≡ enc (θ 0) (θ 1) = cc in let q : k ≡ θ 1 = cc in h (θ 0) (p ∙ ap (enc (θ 0)) (sym q)))
+
+  pub made-fst : (a b : Term) → mk rules 8 (pair a b & nil) ≡ a
+  made-fst a b = made-rule 8 (record { args = pair x y & nil; result = x }) refl (values a b)
+
+  pub made-fst-stays : (c : Term) → ((a b : Term) → c ≢ pair a b) → mk rules 8 (c & nil) ≡ fst c
+  made-fst-stays c h =
+      made-stays 8 (record { args = pair x y & nil; result = x }) refl (c & nil) (λ θ e. h (θ 0) (θ 1) (cc))
+
+  pub made-snd : (a b : Term) → mk rules 9 (pair a b & nil) ≡ b
+  made-snd a b = made-rule 9 (record { args = pair x y & nil; result = y }) refl (values a b)
+
+  pub made-snd-stays : (c : Term) → ((a b : Term) → c ≢ pair a b) → mk rules 9 (c & nil) ≡ snd c
+  made-snd-stays c h =
+      made-stays 9 (record { args = pair x y & nil; result = y }) refl (c & nil) (λ θ e. h (θ 0) (θ 1) (cc))
+
+  -- ── a function without a rule, of any arity ──
+  pub made-free : (f : ℕ) (ts : Terms) → Ordinary f → f ≢ 5 → f ≢ 8 → f ≢ 9 → mk rules f ts ≡ app f ts
+  unfolding mk
+  made-free f ts o a b c =
+      ap (λ (k : Role). mkAt rules k f ts) (ordinary-role f o) ∙ ap (λ (z : Option Rule). reduceAt z f ts) (no-rule f a b c)
+
+  -- ── products and exp, as gathered ──
+  pub made-one : (ts : Terms) → Formed ar (app 3 ts) → mk rules 3 ts ≡ multiplied (app 3 ts & nil)
+  unfolding mk
+  made-one ts w = sym (same-term (theory ar g) (app 3 ts) w)
+
+  pub made-inv : (ts : Terms) → Formed ar (app 11 ts) → mk rules 11 ts ≡ multiplied (app 11 ts & nil)
+  unfolding mk
+  made-inv ts w = sym (same-term (theory ar g) (app 11 ts) w)
+
+  pub made-mul : (ts : Terms) → Formed ar (app 12 ts) → mk rules 12 ts ≡ multiplied (app 12 ts & nil)
+  unfolding mk
+  made-mul ts w = sym (same-term (theory ar g) (app 12 ts) w)
+
+  pub made-exp : (a b : Term) → Formed ar a → Formed ar b → mk rules 10 (a & b & nil) ≡ raised (as2 10 a) a b
+  unfolding mk
+  made-exp a b w v = sym (same-exp (theory ar g) a b w v)
+
+  -- ── the size ──
+  pub made-symbols : (f : ℕ) (ts : Terms) → Formed ar (app f ts) → symbols (mk rules f ts) ≤ symbols (app f ts)
+  made-symbols f ts w = mk-symbols (theory ar g) f ts w
+
+  pub made-bytes : (f : ℕ) (ts : Terms) → Formed ar (app f ts) → length (encode (mk rules f ts)) ≤ length (encode (app f ts))
+  made-bytes f ts w = mk-bytes (theory ar g) f ts w

@@ -1,0 +1,134 @@
+-- The table's rows are fit for the proofs, its equations are figure 2's, and no rule of it applies exactly where no dec, fst or snd
+-- equation does.
+use Prim.Native.Nat.{ℕ, zero, suc}
+use mathlib.Core.Path.{_≡_, refl, sym, _∙_, ap, subst}
+use mathlib.Core.Logic.{_≢_, inl, inr}
+use mathlib.Core.Bool.{Bool}
+use mathlib.Core.Option.{Option, some}
+use native.Mathlib.Omega.{arith}
+use borrow.Author.Tests.{ne-eqb}
+use Rattle.octets.specs.Choice.{pick, cut-eq, clash}
+use Rattle.term.specs.Term.{Term, app, nil, _&_}
+use Rattle.message.specs.Functions.{enc, pair}
+use Rattle.message.specs.Equations.{Figure2, dec-enc, fst-pair, snd-pair, mul-assoc, mul-comm, mul-one, mul-inv, inv-inv, exp-exp, exp-one}
+use Rattle.message.specs.Substitution.{sub}
+use Rattle.message.specs.Canonical.{Settled}
+use Rattle.message.specs.Rules.{Rule, Ordinary, aVariable, FitRule, FitArities, Theory, Tabled, reduce, assoc, comm, unit, cancel, double, tower, first, Irreducible}
+use Rattle.message.specs.Table.{Table, end, row, lookup, x, y, figure, rules}
+
+-- ── what holds of every row ──
+abbrev Rows : (ℕ → Rule → Type 0) → Table → Type 0
+Rows P end = Unit {0}
+Rows P (row g ts u rows) = P g (record { args = ts; result = u }) × Rows P rows
+
+of-row : (P : ℕ → Rule → Type 0) (rows : Table) → Rows P rows → (f : ℕ) (r : Rule) → lookup rows f ≡ some r → P f r
+of-row P end ps f r e = clash (cc)
+of-row P (row g ts u rows) ps f r e =
+    cut-eq _ _ _ f g e
+    (λ p q. let s : record { args = ts; result = u } ≡ r = cc in
+    subst (λ (z : Rule). P f z) s (subst (λ (i : ℕ). P i (record { args = ts; result = u })) (sym p) (ps .0)))
+    (λ p q. of-row P rows (ps .1) f r q)
+
+-- a tag without a row
+abbrev Absent : ℕ → Table → Type 0
+Absent f end = Unit {0}
+Absent f (row g ts u rows) = (f ≢ g) × Absent f rows
+
+absent : (f : ℕ) (rows : Table) → Absent f rows → lookup rows f ≡ Option.none
+absent f end a = refl
+absent f (row g ts u rows) a =
+    ap (λ (b : Bool). pick b (some (record { args = ts; result = u })) (lookup rows f)) (ne-eqb f g (a .0)) ∙ absent f rows (a .1)
+
+pub no-rule : (f : ℕ) → f ≢ 5 → f ≢ 8 → f ≢ 9 → rules f ≡ Option.none
+no-rule f a b c = absent f figure (a, (b, (c, tt)))
+
+-- ── the rows are fit ──
+pub ordinary : (f : ℕ) → f ≢ 3 → f ≢ 10 → f ≢ 11 → f ≢ 12 → Ordinary f
+ordinary f a b c d = record { no-one = a; no-exp = b; no-inv = c; no-mul = d }
+
+enc-ordinary : Ordinary 4
+enc-ordinary = ordinary 4 (omega arith) (omega arith) (omega arith) (omega arith)
+
+pair-ordinary : Ordinary 7
+pair-ordinary = ordinary 7 (omega arith) (omega arith) (omega arith) (omega arith)
+
+module _ (ar : ℕ → Option ℕ) where
+  fit-dec : FitRule ar rules 5 (record { args = enc x y & y & nil; result = x })
+  fit-dec = record {
+    head = ordinary 5 (omega arith) (omega arith) (omega arith) (omega arith);
+    args = ((enc-ordinary, refl, (tt, (tt, tt))), (tt, tt));
+    result = aVariable;
+    bound = λ v o. inl (inl o);
+  }
+
+  fit-fst : FitRule ar rules 8 (record { args = pair x y & nil; result = x })
+  fit-fst = record {
+    head = ordinary 8 (omega arith) (omega arith) (omega arith) (omega arith);
+    args = ((pair-ordinary, refl, (tt, (tt, tt))), tt);
+    result = aVariable;
+    bound = λ v o. inl (inl o);
+  }
+
+  fit-snd : FitRule ar rules 9 (record { args = pair x y & nil; result = y })
+  fit-snd = record {
+    head = ordinary 9 (omega arith) (omega arith) (omega arith) (omega arith);
+    args = ((pair-ordinary, refl, (tt, (tt, tt))), tt);
+    result = aVariable;
+    bound = λ v o. inl (inr (inl o));
+  }
+
+  pub figure-fit : FitArities ar → (f : ℕ) (r : Rule) → rules f ≡ some r → FitRule ar rules f r
+  figure-fit g f r e = of-row (FitRule ar rules) figure (fit-dec, (fit-fst, (fit-snd, tt))) f r e
+
+  -- the theory of the figure, for an arity of each tag
+  abbrev pub theory : FitArities ar → Theory
+  theory g = record { arity = ar; rule = rules; arities = g; fit = figure-fit g }
+
+-- ── the table's equations are the figure's ──
+abbrev pub values : Term → Term → ℕ → Term
+values a b zero = a
+values a b (suc n) = b
+
+pub figure-tabled : (t u : Term) → Figure2 t u → Tabled rules t u
+figure-tabled t u (dec-enc m k) = reduce {f = 5} {r = record { args = enc x y & y & nil; result = x }} refl (values m k)
+figure-tabled t u (fst-pair a b) = reduce {f = 8} {r = record { args = pair x y & nil; result = x }} refl (values a b)
+figure-tabled t u (snd-pair a b) = reduce {f = 9} {r = record { args = pair x y & nil; result = y }} refl (values a b)
+figure-tabled t u (mul-assoc a b c) = assoc a b c
+figure-tabled t u (mul-comm a b) = comm a b
+figure-tabled t u (mul-one a) = unit a
+figure-tabled t u (mul-inv a) = cancel a
+figure-tabled t u (inv-inv a) = double a
+figure-tabled t u (exp-exp a b c) = tower a b c
+figure-tabled t u (exp-one a) = first a
+
+abbrev InFigure : ℕ → Rule → Type 0
+InFigure f r = (θ : ℕ → Term) → Figure2 (sub θ (app f (r .args))) (sub θ (r .result))
+
+pub tabled-figure : (t u : Term) → Tabled rules t u → Figure2 t u
+tabled-figure t u (reduce {f = f} {r = r} e θ) =
+    of-row InFigure figure (λ η. dec-enc (η 0) (η 1), (λ η. fst-pair (η 0) (η 1), (λ η. snd-pair (η 0) (η 1), tt))) f r e θ
+tabled-figure t u (assoc a b c) = mul-assoc a b c
+tabled-figure t u (comm a b) = mul-comm a b
+tabled-figure t u (unit a) = mul-one a
+tabled-figure t u (cancel a) = mul-inv a
+tabled-figure t u (double a) = inv-inv a
+tabled-figure t u (tower a b c) = exp-exp a b c
+tabled-figure t u (first a) = exp-one a
+
+-- ── the table's rules are the words of the canonical form ──
+pub settled-irreducible : (t : Term) → Settled t → Irreducible rules t
+settled-irreducible t s = record {
+  no-rule = of-row (λ f r. (θ : ℕ → Term) → t ≢ sub θ (app f (r .args))) figure
+      (λ η. s .no-dec (η 0) (η 1), (λ η. s .no-fst (η 0) (η 1), (λ η. s .no-snd (η 0) (η 1), tt)));
+  no-exp = s .no-exp;
+  no-exp-one = s .no-exp-one;
+}
+
+pub irreducible-settled : (t : Term) → Irreducible rules t → Settled t
+irreducible-settled t i = record {
+  no-dec = λ m k. i .no-rule 5 (record { args = enc x y & y & nil; result = x }) refl (values m k);
+  no-fst = λ a b. i .no-rule 8 (record { args = pair x y & nil; result = x }) refl (values a b);
+  no-snd = λ a b. i .no-rule 9 (record { args = pair x y & nil; result = y }) refl (values a b);
+  no-exp = i .no-exp;
+  no-exp-one = i .no-exp-one;
+}
