@@ -1,9 +1,7 @@
 // Runs the byte layer on the cases of standard input and writes a line for each: its number, and what was read.
-// A case: 0 for a number or 1 for a term; the count of free functions and each arity; the length of the bytes in two bytes, low byte
-// first; the bytes.
 ghost use Prim.Native.Nat.{_≤_, _<_, _+_};
 ghost use lib.ListN.{length};
-ghost use Rattle.cases_bytes.specs.Case.{Within};
+use case_file::Case;
 use number::Number;
 use term::Part;
 
@@ -39,12 +37,6 @@ const SLOTS: [u8; 29] = [
     255,
     255,
 ];
-
-fn wide(x: u8) -> usize
-    ensures { λ r. ⌜ r < 256 ⌝ }
-{
-    x as usize
-}
 
 fn show_number(s: &[u8]) {
     match number::read_number(s, 0) {
@@ -90,31 +82,6 @@ fn declare(free: &[u8]) -> [u8; 29] {
     slots
 }
 
-// Where the case at a place has its bytes, and where they end.
-pub enum Case {
-    Bytes(usize, usize),
-    CutOff,
-}
-
-fn case_at(s: &[u8], at: usize) -> Case
-    requires { ⌜ (at < length (now s)) × (length (now s) ≤ 65536) ⌝ }
-    ensures { λ r. ⌜ Within (length (now (s .entry))) at r ⌝ }
-{
-    if s.len() - at < 2 {
-        return Case::CutOff;
-    }
-    let k = wide(s[at + 1]);
-    if s.len() - at < k + 4 {
-        return Case::CutOff;
-    }
-    let body = at + k + 4;
-    let len = wide(s[body - 2]) + 256 * wide(s[body - 1]);
-    if s.len() - body < len {
-        return Case::CutOff;
-    }
-    Case::Bytes(body, body + len)
-}
-
 fn show(s: &[u8], at: usize, body: usize, end: usize)
     requires { ⌜ (at + 4 ≤ body) × (body ≤ end) × (end ≤ length (now s)) × (length (now s) ≤ 65536) ⌝ }
 {
@@ -133,7 +100,7 @@ fn cases(s: &[u8])
     let mut at = 0;
     let mut number: u64 = 1;
     while at < s.len() {
-        match case_at(s, at) {
+        match case_file::case_at(s, at) {
             Case::Bytes(body, end) => {
                 io::print_decimal(1, number);
                 show(s, at, body, end);

@@ -1,7 +1,7 @@
 -- Where a case of the input lies.
 use Prim.Native.Nat.{ℕ, _+_, _≤_}
-use Rattle.cases_bytes.specs.declared.Case.{Case}
-use Rattle.cases_bytes.specs.declared.Case.the-variants.{Bytes, CutOff}
+use Rattle.case_file.specs.declared.Case.{Case}
+use Rattle.case_file.specs.declared.Case.the-variants.{Bytes, CutOff}
 
 -- its bytes lie behind its head and within the input
 abbrev pub Within : ℕ → ℕ → Case → Type 0
