@@ -11,7 +11,7 @@ def defined(name, text):
     """Whether a file of specs or of source defines the name: a signature, a data or record type, a constructor or field, a function."""
     n = re.escape(name)
     return re.search(
-        rf"(?m)^\s*(?:(?:abbrev|unfoldable)\s+)?(?:pub\s+)?(?:(?:data|record|fn|struct|enum|const|mod)\s+)?{n}(?=[\s:({{<,]|$)", text
+        rf"(?m)^\s*(?:(?:abbrev|unfoldable)\s+)?(?:pub\s+)?(?:extern\s+\S+\s+)?(?:(?:data|record|fn|struct|enum|const|mod)\s+)?{n}(?=[\s:({{<,]|$)", text
     ) is not None
 
 

@@ -7,8 +7,6 @@ use Rattle.message.specs.Parts.{Role, plain, power, inverse, product, ro
 use Rattle.message.specs.Canon.{mk}
 -- it is the canonical form of the filled-in term
 pub mod Laws
--- so is what is gathered of a product whose factors alone are canonical
-pub mod Once
 
 -- ── bottom up ──
 abbrev mutual

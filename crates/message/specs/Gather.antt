@@ -14,8 +14,6 @@ use Rattle.message.specs.Canon.{Two, two}
 pub mod Laws
 -- it gives the product and the power of the canonical form
 pub mod Same
--- how many factors, and how large their exponents
-pub mod Bounds
 
 -- ── entering a factor ──
 abbrev pub enterAt : Order → Term → ℤ → Term → ℤ → Exps → Exps → Exps

@@ -35,7 +35,5 @@ pub mod Promise
 pub mod Filled
 -- factors gathered from left to right
 pub mod Gather
--- the bytes of a product in the order of the writes
-pub mod Written
 -- what is made at each function
 pub mod Made

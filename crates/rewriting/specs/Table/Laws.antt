@@ -86,6 +86,12 @@ module _ {A : Type 0} (Good : A → Type 0) where
       subst (λ c. Good c) (sym (passed-inj a b e)) g
 
 -- An answer, then one that uses its value: the rows of the first come before those of the second.
+-- What is good may be said in other words.
+pub ruled-good : {A : Type 0} (Good Fine : A → Type 0) → ((a : A) → Good a → Fine a) → (cs : List Row) (r : Ruling A) → Ruled cs Good r → Ruled cs Fine r
+ruled-good Good Fine h [] r (a, g, e) = (a, h a g, e)
+ruled-good Good Fine h (c ∷ cs) r (inl (n, g)) = inl (n, ruled-good Good Fine h cs r g)
+ruled-good Good Fine h (c ∷ cs) r (inr s) = inr s
+
 pub ruled-and-then : {A B : Type 0} (Good : A → Type 0) (Fine : B → Type 0) (cs : List Row) (r : Ruling A) (ds : A → List Row) (f : A → Ruling B) →
     Ruled cs Good r → ((a : A) → Good a → r ≡ passed a → Ruled (ds a) Fine (f a)) → Ruled (cs ++ rowsAfter r ds) Fine (andThen r f)
 ruled-and-then Good Fine [] r ds f (a, g, e) h = rw e (h a g e)

@@ -1,0 +1,107 @@
+-- A function of made arguments, by its tag.
+use Prim.Native.Nat.{ℕ}
+use mathlib.Core.List.{List}
+use mathlib.Core.Path.{_≡_, refl, ap, sym, _∙_, subst}
+use mathlib.Core.Logic.{_≢_}
+use mathlib.Core.Bool.{Bool, true, false}
+use mathlib.Core.Option.{some}
+use native.Mathlib.Omega.{arith}
+use Rattle.octets.specs.Choice.{clash}
+use Rattle.octets.specs.Splice.Prefix.{Wrote}
+use Rattle.term.specs.Term.{Term, app, Terms, nil, _&_, count, encode}
+use Rattle.term.specs.Arity.{arity}
+use Rattle.message.specs.Table.{rules}
+use Rattle.message.specs.Canon.{as2, mk}
+use Rattle.message.specs.Gather.{multiplied, raised}
+use Rattle.message.specs.Made.{made-free, made-exp}
+use Rattle.product.specs.Contracts as product
+use Rattle.canonical.specs.Builtins.{group}
+use Rattle.canonical.specs.Size.{bytes-few}
+use Rattle.canonical.specs.Loose.{isProduct, closed}
+use Rattle.canonical.specs.Loose.Laws.{closed-stays, closed-product, closed-other}
+use Rattle.canonical.specs.Inner.{Built, Whole, Replaced}
+use Rattle.canonical.proofs.Parts.{two-args, stays}
+
+module _ (slots out : List ℕ) (o e : ℕ) where
+  -- the function as it stands
+  as-it-stands : (f : ℕ) (us : Terms) (t : Term) → t ≡ app f us → Built slots out o e f us → Wrote e out o out e (encode t)
+  as-it-stands f us t q b =
+      subst (λ (z : Term). Wrote e out o out e (encode z)) (sym q) (stays out o e (encode (app f us)) (b .here .stands))
+
+  -- as products and powers are asked for
+  as-asked : (f : ℕ) (us : Terms) → Built slots out o e f us → product.Whole slots out o e (app f us)
+  as-asked f us b =
+      let s = b .small in
+      record {
+        group = group slots (b .table);
+        formed = b .here .formed;
+        range = b .here .range;
+        stands = b .here .stands;
+        few = b .small;
+        small = omega (arith, bytes-few (app f us) (b .here .range), s);
+        short = b .short;
+      }
+
+  -- ── the tag is g ──
+  module _ (tag g : ℕ) (is : tag ≡ g) where
+    pub as-tag : Whole slots out o e tag → Whole slots out o e g
+    as-tag w = subst (λ (f : ℕ). Whole slots out o e f) is w
+
+    pub by-tag : (out′ : List ℕ) (r : ℕ) → Replaced slots out o e g (mk rules g) out′ r → Replaced slots out o e tag (mk rules tag) out′ r
+    by-tag out′ r h = subst (λ (f : ℕ). Replaced slots out o e f (mk rules f) out′ r) (sym is) h
+
+  -- ── exp ──
+  record Exp (us : Terms) : Type 0 where
+    x : Term
+    y : Term
+    is : us ≡ x & (y & nil)
+    built : Built slots out o e 10 (x & (y & nil))
+
+  exp-of : (us : Terms) → Built slots out o e 10 us → Exp us
+  exp-of us b =
+      let n : some (count us) ≡ some 2 = sym (b .here .formed .0) ∙ group slots (b .table) .exp-arity in
+      let w = two-args us (cc) in
+      record { x = w .0; y = w .1; is = w .2; built = subst (Built slots out o e 10) (w .2) b }
+
+  pub exp-asks : Whole slots out o e 10 → product.Raises slots out o e
+  exp-asks (us, b) = let p = exp-of us b in (p .x, p .y, as-asked 10 (p .x & (p .y & nil)) (p .built))
+
+  pub exp-done : (out′ : List ℕ) (r : ℕ) → product.RaisedAs slots out o e out′ r → Replaced slots out o e 10 (mk rules 10) out′ r
+  exp-done out′ r h us b =
+      let p = exp-of us b in
+      let w = p .built .here .formed .1 in
+      let q : mk rules 10 us ≡ raised (as2 10 (p .x)) (p .x) (p .y) =
+      ap (mk rules 10) (p .is) ∙ made-exp (arity slots) (group slots (b .table)) (p .x) (p .y) (w .0) (w .1 .0) in
+      subst (λ (t : Term). Wrote e out o out′ r (encode t)) (sym q) (h (p .x) (p .y) (as-asked 10 (p .x & (p .y & nil)) (p .built)))
+
+  -- ── a function without a rule ──
+  pub free-done :
+      (tag : ℕ) → isProduct tag ≡ false → tag ≢ 5 → tag ≢ 8 → tag ≢ 9 → tag ≢ 10 → Replaced slots out o e tag (mk rules tag) out e
+  free-done tag p a b c d us h =
+      let other : (g : ℕ) → isProduct g ≡ true → tag ≢ g =
+      λ g t q. let z : true ≡ false = sym t ∙ ap isProduct (sym q) ∙ p in clash (cc) in
+      as-it-stands tag us (mk rules tag us)
+      (made-free (arity slots) (group slots (h .table)) tag us (record { no-one = other 3 refl; no-exp = d; no-inv = other 11 refl; no-mul = other 12 refl }) a b c) h
+
+  -- ── inside a product and outside ──
+  module _ (tag : ℕ) (inside : Bool) where
+    pub inner-done : isProduct tag ≡ true → inside ≡ true → Replaced slots out o e tag (closed inside tag) out e
+    inner-done p i us b =
+        as-it-stands tag us (closed inside tag us) (ap (λ (z : Bool). closed z tag us) i ∙ closed-stays true tag us p) b
+
+    pub product-asks : Whole slots out o e tag → product.Multiplies slots out o e
+    product-asks (us, b) = (app tag us, as-asked tag us b)
+
+    pub product-done :
+        isProduct tag ≡ true → inside ≡ false → (out′ : List ℕ) (r : ℕ) → product.MultipliedAs slots out o e out′ r
+        → Replaced slots out o e tag (closed inside tag) out′ r
+    product-done p i out′ r h us b =
+        let q : closed inside tag us ≡ multiplied (app tag us & nil) =
+        ap (λ (z : Bool). closed z tag us) i ∙ closed-product false tag us p in
+        subst (λ (t : Term). Wrote e out o out′ r (encode t)) (sym q) (h (app tag us) (as-asked tag us b))
+
+    pub other-done :
+        isProduct tag ≡ false → (out′ : List ℕ) (r : ℕ) → Replaced slots out o e tag (mk rules tag) out′ r
+        → Replaced slots out o e tag (closed inside tag) out′ r
+    other-done p out′ r h us b =
+        subst (λ (t : Term). Wrote e out o out′ r (encode t)) (sym (closed-other inside tag us p)) (h us b)

@@ -1,0 +1,131 @@
+-- A function in a run of terms: its tag, its arguments, what is made of it, and the terms behind it.
+use Prim.Native.Nat.{ℕ, _+_, _-_, _<_, _≤_}
+use mathlib.Core.List.{List}
+use mathlib.Core.Path.{_≡_, ap, subst}
+use mathlib.Core.Logic.{_≢_, inl}
+use mathlib.Core.Bool.{Bool, false}
+use native.Mathlib.Omega.{arith}
+use lib.ListN.{length, length-append}
+use Rattle.octets.specs.Splice.Prefix.{Wrote, widen, wrote-then, wrote-there}
+use Rattle.number.specs.Groups.{groups, numberLimit}
+use Rattle.term.specs.Term.{Term, app, Terms, _&_, count, encode, encodes}
+use Rattle.term.specs.Term.Laws.{encode-some}
+use Rattle.term.specs.Arity.{arity}
+use Rattle.message.specs.Substitution.{sub, subs, Occurss}
+use Rattle.message.specs.Substitution.Laws.{sub-formed}
+use Rattle.message.specs.Canon.{canon}
+use Rattle.product.specs.Writing.{wrote-over}
+use Rattle.canonical.specs.Builtins.{group}
+use Rattle.canonical.specs.Loose.{isProduct, closed, made, mades}
+use Rattle.canonical.specs.Loose.Laws.{sub-range, app-size, sound, sounds}
+use Rattle.canonical.specs.Contract.{Job, Ready, Out}
+use Rattle.canonical.specs.Inner.{Making, FirstIs, Built, Whole, Replaced}
+use Rattle.canonical.proofs.Steps.{room-one, next-job, args-job, op-case}
+
+module _ (slots vals starts src : List ℕ) (at k : ℕ) (out : List ℕ) (o : ℕ) (isLeaf : Bool) (tag number next : ℕ)
+    (F : FirstIs slots src at isLeaf tag number next) (more : k ≢ 0) (b : isLeaf ≡ false) where
+  by-op :
+      (P : Type 0) → Ready slots vals starts src at k (length out) o
+      → ((θ : ℕ → Term) (args us : Terms) → count args ≡ number → next ≡ at + length (groups tag)
+      → Job slots vals starts src at k (length out) o θ (app tag args & us) → P)
+      → P
+  by-op P (θ, ts, J) c = op-case slots vals starts src at k (length out) o isLeaf tag number next F more (λ ts. P) θ ts b J (c θ)
+
+  pub tag-asks : Ready slots vals starts src at k (length out) o → (tag < numberLimit) × (o + length (groups tag) ≤ length out)
+  tag-asks R = by-op _ R (λ θ args us c e J.
+      let r = room-one slots vals starts src at k (length out) o θ (app tag args) us J in
+      (J .range .0 .0, omega (arith, r, length-append (groups tag) (encodes (subs θ args)))))
+
+  module _ (out₁ : List ℕ) (a : ℕ) (same₁ : length out₁ ≡ length out) (A : Wrote a out o out₁ a (groups tag)) where
+    arguments :
+        (θ : ℕ → Term) (args us : Terms) → count args ≡ number → next ≡ at + length (groups tag)
+        → Job slots vals starts src at k (length out) o θ (app tag args & us) → Job slots vals starts src next number (length out₁) a θ args
+    arguments θ args us c e J =
+        args-job slots vals starts src at k (length out) o θ tag args us J next number (length out₁) a e c same₁ (A .ends)
+
+    pub args-asks : Ready slots vals starts src at k (length out) o → Ready slots vals starts src next number (length out₁) a
+    args-asks R = by-op _ R (λ θ args us c e J. (θ, args, arguments θ args us c e J))
+
+    module _ (p : Bool) (is : p ≡ isProduct tag) (out₂ : List ℕ) (at₂ e : ℕ) (same₂ : length out₂ ≡ length out)
+        (M : Making slots vals starts src next number p out₁ a out₂ at₂ e) where
+      record Inner (θ : ℕ → Term) (args us : Terms) : Type 0 where
+        built : Built slots out₂ o e tag (mades (isProduct tag) θ args)
+        wrote : Wrote (o + length (encodes (subs θ (app tag args & us)))) out o out₂ e (encode (app tag (mades (isProduct tag) θ args)))
+        read : at₂ ≡ at + length (encode (app tag args))
+        smaller : (inside : Bool) → length (encode (closed inside tag (mades (isProduct tag) θ args))) ≤ length (encode (sub θ (app tag args)))
+        ends : e ≤ o + length (encode (sub θ (app tag args)))
+
+      inner :
+          (θ : ℕ → Term) (args us : Terms) → count args ≡ number → next ≡ at + length (groups tag)
+          → Job slots vals starts src at k (length out) o θ (app tag args & us) → Inner θ args us
+      inner θ args us c d J =
+          let vs : Terms = mades (isProduct tag) θ args in
+          let m = subst (λ (i : Bool). Out (a + length (encodes (subs θ args))) next out₁ a out₂ at₂ e (encodes args) (encodes (mades i θ args))) is
+          (M θ args (arguments θ args us c d J)) in
+          let w : ℕ = o + length (encodes (subs θ (app tag args & us))) in
+          let l : w ≡ o + (length (encode (sub θ (app tag args))) + length (encodes (subs θ us))) =
+          ap (λ (z : ℕ). o + z) (length-append (encode (sub θ (app tag args))) (encodes (subs θ us))) in
+          let h = length-append (groups tag) (encodes (subs θ args)) in
+          let wrote : Wrote w out o out₂ e (encode (app tag vs)) =
+          wrote-then (widen w (omega (arith, A .ends, l, h)) A) (widen w (omega (arith, A .ends, l, h)) (m .wrote)) in
+          let formed = sub-formed (arity slots) θ (app tag args) (J .formed .0) (λ v i. J .values v (inl i) .formed) in
+          let range = sub-range θ (app tag args) (J .range .0) (λ v i. J .values v (inl i) .range) in
+          let own : (v : ℕ) → Occurss v args → canon (θ v) ≡ θ v = λ v i. J .values v (inl i) .own in
+          let g = group slots (J .table) in
+          let z = app-size (arity slots) tag vs (subs θ args) (sounds (arity slots) g θ args (isProduct tag) (formed .1) own .sizes) in
+          let s = J .small .0 in
+          record {
+            built = record {
+              table = J .table;
+              here = record {
+                formed = z .formed formed;
+                range = z .range range;
+                stands = record { ends = wrote .ends; there = wrote-there (omega (arith, J .room)) wrote };
+              };
+              small = omega (arith, z .symbols-less, s);
+              short = omega (arith, J .short, same₂);
+            };
+            wrote = wrote;
+            read = omega (arith, m .read, d, length-append (groups tag) (encodes args));
+            smaller = λ inside. sound (arity slots) g θ (app tag args) inside formed own .size .bytes-less;
+            ends = omega (arith, wrote .ends, z .bytes-less);
+          }
+
+      pub close-asks : Ready slots vals starts src at k (length out) o → Whole slots out₂ o e tag
+      close-asks R = by-op _ R (λ θ args us c d J. (mades (isProduct tag) θ args, inner θ args us c d J .built))
+
+      pub onward : Ready slots vals starts src at k (length out) o → at < at₂
+      onward R = by-op _ R (λ θ args us c d J. omega (arith, inner θ args us c d J .read, encode-some (app tag args)))
+
+      module _ (inside : Bool) (out₃ : List ℕ) (r : ℕ) (same₃ : length out₃ ≡ length out)
+          (C : Replaced slots out₂ o e tag (closed inside tag) out₃ r) where
+        after-job :
+            (θ : ℕ → Term) (args us : Terms) → count args ≡ number → next ≡ at + length (groups tag)
+            → Job slots vals starts src at k (length out) o θ (app tag args & us) → Job slots vals starts src at₂ (k - 1) (length out₃) r θ us
+        after-job θ args us c d J =
+            let i = inner θ args us c d J in
+            let w = C (mades (isProduct tag) θ args) (i .built) in
+            next-job slots vals starts src at k (length out) o θ (app tag args) us J at₂ (length out₃) r (i .read) same₃
+            (omega (arith, w .ends, i .smaller inside))
+
+        pub rest-asks : Ready slots vals starts src at k (length out) o → Ready slots vals starts src at₂ (k - 1) (length out₃) r
+        rest-asks R = by-op _ R (λ θ args us c d J. (θ, us, after-job θ args us c d J))
+
+        pub op-done :
+            (out′ : List ℕ) (at′ o′ : ℕ) → Making slots vals starts src at₂ (k - 1) inside out₃ r out′ at′ o′
+            → Making slots vals starts src at k inside out o out′ at′ o′
+        op-done out′ at′ o′ N θ ts J =
+            op-case slots vals starts src at k (length out) o isLeaf tag number next F more
+            (λ ts. Out (o + length (encodes (subs θ ts))) at out o out′ at′ o′ (encodes ts) (encodes (mades inside θ ts))) θ ts b J
+            (λ args us c d J.
+            let i = inner θ args us c d J in
+            let x = C (mades (isProduct tag) θ args) (i .built) in
+            let m = N θ us (after-job θ args us c d J) in
+            let w : ℕ = o + length (encodes (subs θ (app tag args & us))) in
+            let l : w ≡ o + (length (encode (sub θ (app tag args))) + length (encodes (subs θ us))) =
+            ap (λ (z : ℕ). o + z) (length-append (encode (sub θ (app tag args))) (encodes (subs θ us))) in
+            let y = wrote-over (omega (arith, J .room)) (omega (arith, i .ends, l)) (i .wrote) x in
+            record {
+              read = omega (arith, m .read, i .read, length-append (encode (app tag args)) (encodes us));
+              wrote = wrote-then y (widen w (omega (arith, x .ends, i .smaller inside, l)) (m .wrote));
+            })

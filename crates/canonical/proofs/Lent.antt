@@ -1,0 +1,66 @@
+-- A part of the output that starts at o, lent.
+use Prim.Native.Nat.{ℕ, _+_, _-_, _≤_}
+use mathlib.Core.List.{List}
+use mathlib.Core.Path.{refl, subst}
+use mathlib.Core.Bool.{false}
+use native.Mathlib.Omega.{arith}
+use lib.ListN.{length, take, drop}
+use borrow.Rule.Slice.PartMut.{putMid}
+use Rattle.octets.specs.Splice.Prefix.{Wrote, widen, lent-length, wrote-lent}
+use Rattle.term.specs.Term.{Term, Terms, encodes}
+use Rattle.term.specs.Arity.{arity}
+use Rattle.message.specs.Substitution.{subs}
+use Rattle.message.specs.Substitution.Laws.{subs-formed}
+use Rattle.canonical.specs.Builtins.{group}
+use Rattle.canonical.specs.Loose.{mades}
+use Rattle.canonical.specs.Loose.Laws.{Sounds, sounds}
+use Rattle.canonical.specs.Contract.{Job, Ready, Done}
+use Rattle.canonical.specs.Inner.{Making}
+
+abbrev part : List ℕ → ℕ → List ℕ
+part out o = take (length out - o) (drop o out)
+
+module _ (slots vals starts src : List ℕ) (at k : ℕ) (out : List ℕ) (o : ℕ) where
+  part-job : (θ : ℕ → Term) (ts : Terms) → Job slots vals starts src at k (length out) o θ ts
+      → Job slots vals starts src at k (length (part out o)) 0 θ ts
+  part-job θ ts J = record {
+    table = J .table;
+    many = J .many;
+    formed = J .formed;
+    range = J .range;
+    rest = J .rest;
+    there = J .there;
+    values = J .values;
+    small = J .small;
+    room = omega (arith, J .room, lent-length out o);
+    short = omega (arith, J .short, lent-length out o);
+    values-short = J .values-short;
+  }
+
+  pub part-ready : Ready slots vals starts src at k (length out) o → Ready slots vals starts src at k (length (part out o)) 0
+  part-ready (θ, ts, J) = (θ, ts, part-job θ ts J)
+
+  made-sounds :
+      (θ : ℕ → Term) (ts : Terms) (J : Job slots vals starts src at k (length out) o θ ts)
+      → Sounds (arity slots) (group slots (J .table)) θ false ts
+  made-sounds θ ts J =
+      sounds (arity slots) (group slots (J .table)) θ ts false (subs-formed (arity slots) θ ts (J .formed) (λ v i. J .values v i .formed))
+      (λ v i. J .values v i .own)
+
+  module _ (ys : List ℕ) (at′ r : ℕ) (M : Making slots vals starts src at k false (part out o) 0 ys at′ r) where
+    pub part-ends : Ready slots vals starts src at k (length out) o → (o + r ≤ length out) × (length out ≤ 4294967296)
+    part-ends (θ, ts, J) =
+        let m = M θ ts (part-job θ ts J) in
+        (omega (arith, m .wrote .ends, made-sounds θ ts J .sizes .bytess-less, J .room), J .short)
+
+    pub part-done : Done slots vals starts src at k out o (putMid o (length out - o) out ys) at′ (o + r)
+    part-done θ ts J =
+        let m = M θ ts (part-job θ ts J) in
+        let n : ℕ = length (encodes (subs θ ts)) in
+        let w = wrote-lent out ys (0 + n) o r (encodes (mades false θ ts)) (omega (arith, J .room)) (m .wrote) in
+        let out′ : List ℕ = putMid o (length out - o) out ys in
+        record {
+          read = m .read;
+          wrote = subst (λ (us : Terms). Wrote (o + n) out o out′ (o + r) (encodes us)) (made-sounds θ ts J .are refl)
+              (widen (o + n) (omega arith) w);
+        }

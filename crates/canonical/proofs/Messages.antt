@@ -1,0 +1,124 @@
+-- One message: its canonical form in a buffer, and what the comparisons decide.
+use Prim.Native.Nat.{ℕ, _+_, _-_, _≤_}
+use mathlib.Core.List.{List, _++_, append-nil}
+use mathlib.Core.Path.{_≡_, refl, ap, ap₂, sym, _∙_}
+use mathlib.Core.Logic.{_↔_, ⊎-elim}
+use mathlib.Core.Bool.{Bool, true}
+use native.Mathlib.Omega.{arith}
+use lib.ListN.{length, take, drop}
+use lib.Seq.{length-take-le}
+use Rattle.octets.specs.Compare.{compareBytes, isEqual}
+use Rattle.octets.specs.Compare.Laws.{compare-refl}
+use Rattle.octets.specs.Head.{stands-at, stands-within, stands-part}
+use Rattle.octets.specs.Splice.Prefix.{wrote-there}
+use Rattle.term.specs.Term.{variable, public, fresh, Term, leaf, app, Terms, nil, _&_, encode, encodes, Formed}
+use Rattle.term.specs.Term.Laws.{encode-some}
+use Rattle.term.specs.Arity.{arity}
+use Rattle.message.specs.Equations.{Same}
+use Rattle.message.specs.Substitution.{sub, subs, Occurs, Occurss, Ground, Grounds}
+use Rattle.message.specs.Canon.{canon}
+use Rattle.message.specs.Theorems.{same-canon, canon-is-formed}
+use Rattle.message.specs.Filled.{filled, filleds}
+use Rattle.message.specs.Filled.Laws.{filled-canon}
+use Rattle.canonical.specs.Builtins.{group}
+use Rattle.canonical.specs.Size.{bytes-few}
+use Rattle.canonical.specs.Contract.{Job, Ready, Done, MessageAt, HasMessage}
+use Rattle.canonical.specs.Inner.{Here, CanonAt}
+use Rattle.canonical.proofs.Parts.{same-term}
+
+-- ── no variable stands in a message ──
+mutual
+  none-occurs : (t : Term) (v : ℕ) → Ground t → Occurs v t → ⊥
+  none-occurs (leaf variable n) v g o = g
+  none-occurs (leaf public n) v g o = o
+  none-occurs (leaf fresh n) v g o = o
+  none-occurs (app f ts) v g o = none-occurss ts v g o
+
+  none-occurss : (ts : Terms) (v : ℕ) → Grounds ts → Occurss v ts → ⊥
+  none-occurss nil v g o = o
+  none-occurss (t & ts) v g o = ⊎-elim (λ a. none-occurs t v (g .0) a) (λ a. none-occurss ts v (g .1) a) o
+
+mutual
+  sub-same : (t : Term) → sub (leaf variable) t ≡ t
+  sub-same (leaf variable n) = refl
+  sub-same (leaf public n) = refl
+  sub-same (leaf fresh n) = refl
+  sub-same (app f ts) = ap (app f) (subs-same ts)
+
+  subs-same : (ts : Terms) → subs (leaf variable) ts ≡ ts
+  subs-same nil = refl
+  subs-same (t & ts) = ap₂ _&_ (sub-same t) (subs-same ts)
+
+filled-message : (t : Term) → Ground t → filled (leaf variable) t ≡ canon t
+filled-message t g = filled-canon (leaf variable) t (λ v o. absurd (none-occurs t v g o)) ∙ ap canon (sub-same t)
+
+-- ── its canonical form ──
+module _ (slots s starts : List ℕ) (at : ℕ) where
+  message-job : (t : Term) → MessageAt slots s at t → (n : ℕ) → n ≡ 1280 → Job slots s starts s at 1 n 0 (leaf variable) (t & nil)
+  message-job t m n l = record {
+    table = m .table;
+    many = refl;
+    formed = (m .formed, tt);
+    range = (m .range, tt);
+    rest = m .rest;
+    there = m .there ∙ ap (λ (z : List ℕ). z ++ m .rest) (sym (append-nil (encode t)));
+    values = λ v o. absurd (⊎-elim (λ a. none-occurs t v (m .ground) a) (λ a. a) o);
+    small = (rw (sub-same t) (m .small), tt);
+    room = let k = m .small in rw (sub-same t, append-nil (encode t)) (omega (arith, bytes-few t (m .range), k));
+    short = omega arith;
+    values-short = m .short;
+  }
+
+  pub message-ready : HasMessage slots s at → (n : ℕ) → n ≡ 1280 → Ready slots s starts s at 1 n 0
+  message-ready (t, m) n l = (leaf variable, (t & nil), message-job t m n l)
+
+  pub message-canon :
+      (out out′ : List ℕ) (at′ r : ℕ) → length out ≡ 1280 → Done slots s starts s at 1 out 0 out′ at′ r → CanonAt slots s at out′ r
+  message-canon out out′ at′ r l D t m =
+      let w = D (leaf variable) (t & nil) (message-job t m (length out) l) .wrote in
+      let q : encodes (filleds (leaf variable) (t & nil)) ≡ encode (canon t) =
+      append-nil (encode (filled (leaf variable) t)) ∙ ap encode (filled-message t (m .ground)) in
+      record {
+        ends = w .ends ∙ ap (λ (z : List ℕ). 0 + length z) q;
+        there = wrote-there (omega arith) w ∙ ap (λ (z : List ℕ). z ++ drop r out′) q;
+      }
+
+  pub message-here : (t : Term) → MessageAt slots s at t → Here slots s at (at + length (encode t)) t
+  message-here t m = record { formed = m .formed; range = m .range; stands = stands-at s at (encode t) (m .rest) (m .there) }
+
+-- ── what a comparison decides ──
+same-exactly :
+    (slots : List ℕ) (x y : Term) (b : Bool) → Formed (arity slots) x → Formed (arity slots) y → b ≡ isEqual (compareBytes (encode x) (encode y))
+    → (b ≡ true) ↔ (x ≡ y)
+same-exactly slots x y b v w e = (
+  λ h. same-term slots x y v w (sym e ∙ h),
+  λ h. e ∙ ap (λ (z : Term). isEqual (compareBytes (encode x) (encode z))) (sym h) ∙ ap isEqual (compare-refl (encode x)),
+)
+
+pub decides-canonical :
+    (slots s : List ℕ) (at : ℕ) (t : Term) (b : Bool) → MessageAt slots s at t → b ≡ isEqual (compareBytes (encode (canon t)) (encode t))
+    → (b ≡ true) ↔ (canon t ≡ t)
+decides-canonical slots s at t b m e =
+    same-exactly slots (canon t) t b (canon-is-formed (arity slots) (group slots (m .table)) t (m .formed)) (m .formed) e
+
+pub decides-same :
+    (slots s u : List ℕ) (i j : ℕ) (x y : Term) (b : Bool) → MessageAt slots s i x → MessageAt slots u j y
+    → b ≡ isEqual (compareBytes (encode (canon x)) (encode (canon y))) → (b ≡ true) ↔ Same (arity slots) x y
+decides-same slots s u i j x y b m n e =
+    let g = group slots (m .table) in
+    let c = same-canon (arity slots) g x y (m .formed) (n .formed) in
+    let d = same-exactly slots (canon x) (canon y) b (canon-is-formed (arity slots) g x (m .formed)) (canon-is-formed (arity slots) g y (n .formed)) e in
+    (λ h. c .1 (d .0 h), λ h. d .1 (c .0 h))
+
+-- ── the buffer's bytes ──
+module _ (slots s : List ℕ) (at : ℕ) (out : List ℕ) (r : ℕ) (C : CanonAt slots s at out r) where
+  pub canon-within : HasMessage slots s at → r ≤ length out
+  canon-within (t, m) = stands-within (C t m) (encode-some (canon t))
+
+  pub canon-long : HasMessage slots s at → r ≡ length (take r out)
+  canon-long m = sym (length-take-le r out (canon-within m))
+
+  pub canon-part : (t : Term) → MessageAt slots s at t → take r out ≡ encode (canon t)
+  canon-part t m =
+      let e : r ≡ r - 0 = omega arith in
+      ap (λ (k : ℕ). take k out) e ∙ stands-part (C t m)

@@ -1,0 +1,90 @@
+-- What the crate's functions are asked and what they promise, by the trees that the bytes encode: what is asked holds of some trees, and
+-- what is promised holds of all trees of which that holds.
+use Prim.Native.Nat.{ℕ, _+_, _^_, _≤_, _<_}
+use mathlib.Core.List.{List, _++_}
+use mathlib.Core.Path.{_≡_}
+use mathlib.Core.Bool.{Bool, true}
+use mathlib.Core.Logic.{_↔_}
+use lib.ListN.{length, drop, getD}
+use Rattle.octets.specs.Splice.Prefix.{Wrote}
+use Rattle.term.specs.Term.{Term, Terms, count, encode, encodes, symbols, Formed, Formeds, InRange, InRanges}
+use Rattle.term.specs.Arity.{arity}
+use Rattle.message.specs.Equations.{Same}
+use Rattle.message.specs.Substitution.{sub, subs, Occurss, Ground}
+use Rattle.message.specs.Parts.Entries.{Each}
+use Rattle.message.specs.Canon.{canon}
+use Rattle.message.specs.Filled.{filleds}
+use Rattle.canonical.specs.Builtins.{Builtins}
+-- what is written are the canonical forms, and each can be a value again
+pub mod Laws
+
+-- "a term past 256 symbols"
+abbrev pub mostSymbols : ℕ
+mostSymbols = 256
+
+-- as long as a slice may be
+abbrev pub longest : ℕ
+longest = 2 ^ 32
+
+-- ── a run of terms ──
+-- the value t of variable v: canonical, its bytes in `vals` from the v-th of `starts` on
+pub record Value (slots vals starts : List ℕ) (v : ℕ) (t : Term) : Type 0 where
+  pub listed : v < length starts
+  pub rest : List ℕ
+  pub there : drop (getD starts v 0) vals ≡ encode t ++ rest
+  pub formed : Formed (arity slots) t
+  pub range : InRange t
+  pub own : canon t ≡ t
+
+-- the k terms ts stand in src from `at` on, their variables have the values θ, and an output of n bytes has room from o on for the terms
+-- filled in
+pub record Job (slots vals starts src : List ℕ) (at k n o : ℕ) (θ : ℕ → Term) (ts : Terms) : Type 0 where
+  pub table : Builtins slots
+  pub many : count ts ≡ k
+  pub formed : Formeds (arity slots) ts
+  pub range : InRanges ts
+  pub rest : List ℕ
+  pub there : drop at src ≡ encodes ts ++ rest
+  pub values : (v : ℕ) → Occurss v ts → Value slots vals starts v (θ v)
+  pub small : Each (λ t. symbols (sub θ t) ≤ mostSymbols) ts
+  pub room : o + length (encodes (subs θ ts)) ≤ n
+  pub short : n ≤ longest
+  pub values-short : length vals ≤ longest
+
+abbrev pub Ready : List ℕ → List ℕ → List ℕ → List ℕ → ℕ → ℕ → ℕ → ℕ → Type 0
+Ready slots vals starts src at k n o = (θ : ℕ → Term) × (ts : Terms) × Job slots vals starts src at k n o θ ts
+
+-- p was read from `at` on and q written from o on; from w on the output is as it was
+pub record Out (w at : ℕ) (out : List ℕ) (o : ℕ) (out′ : List ℕ) (at′ o′ : ℕ) (p q : List ℕ) : Type 0 where
+  pub read : at′ ≡ at + length p
+  pub wrote : Wrote w out o out′ o′ q
+
+-- the canonical forms of the terms filled in were written, and nothing past the room for these terms changed
+abbrev pub Done : List ℕ → List ℕ → List ℕ → List ℕ → ℕ → ℕ → List ℕ → ℕ → List ℕ → ℕ → ℕ → Type 0
+Done slots vals starts src at k out o out′ at′ o′ =
+    (θ : ℕ → Term) (ts : Terms) → Job slots vals starts src at k (length out) o θ ts
+    → Out (o + length (encodes (subs θ ts))) at out o out′ at′ o′ (encodes ts) (encodes (filleds θ ts))
+
+-- ── one message ──
+-- the message t stands in s from `at` on
+pub record MessageAt (slots s : List ℕ) (at : ℕ) (t : Term) : Type 0 where
+  pub table : Builtins slots
+  pub formed : Formed (arity slots) t
+  pub ground : Ground t
+  pub range : InRange t
+  pub rest : List ℕ
+  pub there : drop at s ≡ encode t ++ rest
+  pub small : symbols t ≤ mostSymbols
+  pub short : length s ≤ longest
+
+abbrev pub HasMessage : List ℕ → List ℕ → ℕ → Type 0
+HasMessage slots s at = (t : Term) × MessageAt slots s at t
+
+-- true exactly when it is its own canonical form
+abbrev pub IsCanonical : List ℕ → List ℕ → ℕ → Bool → Type 0
+IsCanonical slots s at b = (t : Term) → MessageAt slots s at t → (b ≡ true) ↔ (canon t ≡ t)
+
+-- true exactly when the ten equations make them equal
+abbrev pub IsSame : List ℕ → List ℕ → ℕ → List ℕ → ℕ → Bool → Type 0
+IsSame slots s i u j b =
+    (x y : Term) → MessageAt slots s i x → MessageAt slots u j y → (b ≡ true) ↔ Same (arity slots) x y

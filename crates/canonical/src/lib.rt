@@ -1,0 +1,286 @@
+// The canonical form of terms at a place, filled in with canonical values; is a term canonical; are two messages the same.
+ghost use mathlib.Core.Path.{_≡_};
+ghost use mathlib.Core.Bool.{Bool, true, false};
+ghost use Prim.Native.Nat.{_+_, _≤_, _<_};
+ghost use lib.ListN.{length};
+ghost use Rattle.octets.specs.Splice.Prefix.{Wrote};
+ghost use Rattle.number.specs.Groups.{groups, numberLimit};
+ghost use Rattle.message.specs.Table.{rules};
+ghost use Rattle.message.specs.Canon.{mk};
+ghost use Rattle.canonical.specs.Loose.{isProduct, closed};
+ghost use Rattle.canonical.specs.Contract.{longest, Ready, Done, HasMessage, IsCanonical, IsSame};
+ghost use Rattle.canonical.specs.Inner.{Making, LeafReady, LeafDone, FirstIs, EndIs, SameTerms, Moves, Whole, Replaced, CanonAt};
+use term::Part;
+use term::Symbol;
+
+// The places behind the terms that were read and behind what was written.
+pub struct Next {
+    pub at: usize,
+    pub o: usize,
+}
+
+// The first symbol of a term: a leaf with its tag and number, or a function with its tag and arity; and the place behind it.
+struct Head {
+    leaf: bool,
+    tag: usize,
+    number: usize,
+    next: usize,
+}
+
+// The first symbol of the term at a place.
+fn first(s: &[u8], arities: &[u8], at: usize) -> Head
+    ensures { λ r. ⌜ FirstIs (now (arities .entry)) (now (s .entry)) at (r .leaf) (r .tag) (r .number) (r .next) ⌝ }
+{
+    match term::symbol_at(s, arities, at) {
+        Symbol::Leaf(t, n, e) => Head {
+            leaf: true,
+            tag: t,
+            number: n as usize,
+            next: e,
+        },
+        Symbol::Op(t, k, e) => Head {
+            leaf: false,
+            tag: t,
+            number: k as usize,
+            next: e,
+        },
+        Symbol::Fault => Head {
+            leaf: true,
+            tag: 0,
+            number: 0,
+            next: at,
+        },
+    }
+}
+
+// The place behind the term at a place.
+fn end_of(s: &[u8], arities: &[u8], at: usize) -> usize
+    requires { ⌜ length (now s) ≤ longest ⌝ }
+    ensures { λ r. ⌜ EndIs (now (arities .entry)) (now (s .entry)) at r ⌝ }
+{
+    match term::term_end(s, arities, at) {
+        Part::End(e, _) => e,
+        Part::Fault => at,
+    }
+}
+
+// Whether the terms at two places are the same.
+fn same_terms(s: &[u8], arities: &[u8], i: usize, j: usize) -> bool
+    requires { ⌜ length (now s) ≤ longest ⌝ }
+    ensures { λ r. ⌜ SameTerms (now (arities .entry)) (now (s .entry)) i j r ⌝ }
+{
+    octets::same_bytes(
+        term::term_part(s, arities, i),
+        term::term_part(s, arities, j),
+    )
+}
+
+// Moves the bytes from one place up to another down to o, and gives the place behind them.
+fn move_to(out: &mut [u8], o: usize, from: usize, to: usize) -> usize
+    requires { ⌜ (o ≤ from) × (from ≤ to) × (to ≤ length (now out)) ⌝ }
+    ensures { λ r. ⌜ Moves (now (out .entry)) o from to (now (out .exit)) r ⌝ }
+{
+    octets::copy_within(out, from, o, to - from);
+    o + (to - from)
+}
+
+// Whether the function of a tag is one, inv or mul.
+fn is_product(tag: usize) -> bool
+    ensures { λ r. ⌜ r ≡ isProduct tag ⌝ }
+{
+    (tag == 3) | ((tag == 11) | (tag == 12))
+}
+
+// Writes a number.
+fn put_number(out: &mut [u8], o: usize, n: usize) -> usize
+    requires { ⌜ (n < numberLimit) × (o + length (groups n) ≤ length (now out)) ⌝ }
+    ensures { λ r. ⌜ Wrote r (now (out .entry)) o (now (out .exit)) r (groups n) ⌝ }
+{
+    number::write_number(out, o, n as u32)
+}
+
+// Writes a leaf: the value of a variable, or a name as it stands.
+fn put_leaf(
+    out: &mut [u8],
+    o: usize,
+    tag: usize,
+    number: usize,
+    arities: &[u8],
+    vals: &[u8],
+    starts: &[usize],
+) -> usize
+    requires { ⌜ LeafReady (now arities) (now vals) (now starts) (length (now out)) o tag number ⌝ }
+    ensures { λ r. ⌜ LeafDone (now (arities .entry)) (now (vals .entry)) (now (starts .entry)) (now (out .entry)) o tag number (now (out .exit)) r ⌝ }
+{
+    if tag == 0 {
+        let from = starts[number];
+        return octets::copy_into(out, o, term::term_part(vals, arities, from));
+    }
+    let a = put_number(out, o, tag);
+    put_number(out, a, number)
+}
+
+// dec(enc(x, y), y) is x.
+fn unlock(out: &mut [u8], o: usize, e: usize, arities: &[u8]) -> usize
+    requires { ⌜ Whole (now arities) (now out) o e 5 ⌝ }
+    ensures { λ r. ⌜ Replaced (now (arities .entry)) (now (out .entry)) o e 5 (mk rules 5) (now (out .exit)) r ⌝ }
+{
+    let c = first(out, arities, o + 1);
+    if c.tag != 4 {
+        return e;
+    }
+    let message = c.next;
+    let key = end_of(out, arities, message);
+    let given = end_of(out, arities, key);
+    if same_terms(out, arities, key, given) {
+        return move_to(out, o, message, key);
+    }
+    e
+}
+
+// fst(pair(x, y)) is x.
+fn left(out: &mut [u8], o: usize, e: usize, arities: &[u8]) -> usize
+    requires { ⌜ Whole (now arities) (now out) o e 8 ⌝ }
+    ensures { λ r. ⌜ Replaced (now (arities .entry)) (now (out .entry)) o e 8 (mk rules 8) (now (out .exit)) r ⌝ }
+{
+    let c = first(out, arities, o + 1);
+    if c.tag != 7 {
+        return e;
+    }
+    let x = c.next;
+    let y = end_of(out, arities, x);
+    move_to(out, o, x, y)
+}
+
+// snd(pair(x, y)) is y.
+fn right(out: &mut [u8], o: usize, e: usize, arities: &[u8]) -> usize
+    requires { ⌜ Whole (now arities) (now out) o e 9 ⌝ }
+    ensures { λ r. ⌜ Replaced (now (arities .entry)) (now (out .entry)) o e 9 (mk rules 9) (now (out .exit)) r ⌝ }
+{
+    let c = first(out, arities, o + 1);
+    if c.tag != 7 {
+        return e;
+    }
+    let x = c.next;
+    let y = end_of(out, arities, x);
+    move_to(out, o, y, e)
+}
+
+// The function of a tag, no product function, of canonical arguments.
+fn reduce(out: &mut [u8], o: usize, e: usize, tag: usize, arities: &[u8]) -> usize
+    requires { ⌜ (isProduct tag ≡ false) × Whole (now arities) (now out) o e tag ⌝ }
+    ensures { λ r. ⌜ Replaced (now (arities .entry)) (now (out .entry)) o e tag (mk rules tag) (now (out .exit)) r ⌝ }
+{
+    if tag == 5 {
+        return unlock(out, o, e, arities);
+    }
+    if tag == 8 {
+        return left(out, o, e, arities);
+    }
+    if tag == 9 {
+        return right(out, o, e, arities);
+    }
+    if tag == 10 {
+        return product::exponent(out, o, e, arities);
+    }
+    e
+}
+
+// The function of a tag, of made arguments. Inside a product a product function stays as it stands: only the outermost is multiplied out.
+fn close(out: &mut [u8], o: usize, e: usize, tag: usize, inside: bool, arities: &[u8]) -> usize
+    requires { ⌜ Whole (now arities) (now out) o e tag ⌝ }
+    ensures { λ r. ⌜ Replaced (now (arities .entry)) (now (out .entry)) o e tag (closed inside tag) (now (out .exit)) r ⌝ }
+{
+    if is_product(tag) {
+        if inside {
+            return e;
+        }
+        return product::multiply(out, o, e, arities);
+    }
+    reduce(out, o, e, tag, arities)
+}
+
+// Makes k terms, inside a product or not.
+fn make(
+    out: &mut [u8],
+    o: usize,
+    src: &[u8],
+    at: usize,
+    k: usize,
+    inside: bool,
+    arities: &[u8],
+    vals: &[u8],
+    starts: &[usize],
+) -> Next
+    requires { ⌜ Ready (now arities) (now vals) (now starts) (now src) at k (length (now out)) o ⌝ }
+    ensures { λ r. ⌜ Making (now (arities .entry)) (now (vals .entry)) (now (starts .entry)) (now (src .entry)) at k inside (now (out .entry)) o (now (out .exit)) (r .at) (r .o) ⌝ }
+{
+    if k == 0 {
+        return Next { at: at, o: o };
+    }
+    let h = first(src, arities, at);
+    let leaf = h.leaf;
+    if leaf {
+        let p = put_leaf(out, o, h.tag, h.number, arities, vals, starts);
+        return make(out, p, src, h.next, k - 1, inside, arities, vals, starts);
+    }
+    let a = put_number(out, o, h.tag);
+    let within = is_product(h.tag);
+    let args = make(out, a, src, h.next, h.number, within, arities, vals, starts);
+    let r = close(out, o, args.o, h.tag, inside, arities);
+    make(out, r, src, args.at, k - 1, inside, arities, vals, starts)
+}
+
+// Reads k terms at a place of src and writes their canonical forms, filled in with the canonical values of their variables, into the part
+// of the output that starts at o. The value of variable i lies in `vals` from the i-th of `starts` on.
+pub fn canonical_into(
+    out: &mut [u8],
+    o: usize,
+    src: &[u8],
+    at: usize,
+    k: usize,
+    arities: &[u8],
+    vals: &[u8],
+    starts: &[usize],
+) -> Next
+    requires { ⌜ Ready (now arities) (now vals) (now starts) (now src) at k (length (now out)) o ⌝ }
+    ensures { λ r. ⌜ Done (now (arities .entry)) (now (vals .entry)) (now (starts .entry)) (now (src .entry)) at k (now (out .entry)) o (now (out .exit)) (r .at) (r .o) ⌝ }
+{
+    let n = make(&mut out[o..], 0, src, at, k, false, arities, vals, starts);
+    Next {
+        at: n.at,
+        o: o + n.o,
+    }
+}
+
+// Writes the canonical form of the message at a place to the start of an output.
+pub fn canonical_term(out: &mut [u8; 1280], s: &[u8], at: usize, arities: &[u8]) -> usize
+    requires { ⌜ HasMessage (now arities) (now s) at ⌝ }
+    ensures { λ r. ⌜ CanonAt (now (arities .entry)) (now (s .entry)) at (now (out .exit)) r ⌝ }
+{
+    let starts = [0usize; 1];
+    let n = canonical_into(out, 0, s, at, 1, arities, s, &starts);
+    n.o
+}
+
+// Whether the message at a place is in canonical form.
+pub fn is_canonical(s: &[u8], at: usize, arities: &[u8]) -> bool
+    requires { ⌜ HasMessage (now arities) (now s) at ⌝ }
+    ensures { λ r. ⌜ IsCanonical (now (arities .entry)) (now (s .entry)) at r ⌝ }
+{
+    let mut out = [0u8; 1280];
+    let n = canonical_term(&mut out, s, at, arities);
+    octets::same_bytes(&out[..n], term::term_part(s, arities, at))
+}
+
+// Whether two messages are the same: by the bytes of their canonical forms.
+pub fn same_message(s: &[u8], i: usize, u: &[u8], j: usize, arities: &[u8]) -> bool
+    requires { ⌜ HasMessage (now arities) (now s) i × HasMessage (now arities) (now u) j ⌝ }
+    ensures { λ r. ⌜ IsSame (now (arities .entry)) (now (s .entry)) i (now (u .entry)) j r ⌝ }
+{
+    let mut a = [0u8; 1280];
+    let mut b = [0u8; 1280];
+    let m = canonical_term(&mut a, s, i, arities);
+    let n = canonical_term(&mut b, u, j, arities);
+    octets::same_bytes(&a[..m], &b[..n])
+}

@@ -1,0 +1,76 @@
+-- "Canonical form reads protocol and term, writes the canonical term's bytes from the start of the output and returns their length."
+use Prim.Native.Nat.{ℕ, _<_}
+use mathlib.Core.List.{List, [], _∷_, _++_}
+use lib.ListN.{length}
+use Rattle.term.specs.Term.{Term, encode}
+use Rattle.term.specs.Arity.{slots}
+use Rattle.message.specs.Canon.{canon}
+use Rattle.rewriting.specs.Table.{Ruling, passed, refused, Row, fixedRow, Pass, rulingOf, rulingThen, rowsThen, andThen, rowsAfter}
+use Rattle.rewriting.specs.Table.Passes.{lessPass, needPass}
+use Rattle.protocol.specs.Protocol.{Protocol}
+use Rattle.checker.specs.Answer.{workNeed, workAfter, outputAfter}
+use Rattle.checker.specs.Files.{protocolLimit, termLimit, protocolItem, termItem, protocolRuling, protocolRows, termRuling, termRows}
+-- its outcome is what the table says
+pub mod Laws
+-- what the functions inside it are asked and promise
+pub mod Contracts
+-- the canonical form of a term file's term
+pub mod Forms
+-- case by case, as the code goes
+pub mod Cases
+-- from what the functions inside it find to what it promises
+pub mod Inside
+-- from the verdict on the protocol file to the whole call
+pub mod Whole
+-- what it writes, in terms of the files
+pub mod Files
+-- its packed answer comes apart into the outcome
+pub mod Bounds
+
+-- the protocol and the term that the files hold, or the refusal of one of them
+abbrev pub termOf : List ℕ → List ℕ → Ruling Term
+termOf protocol term = andThen (protocolRuling protocol) (λ p. termRuling (slots (p .functions)) term)
+
+abbrev pub need : Term → ℕ
+need t = length (encode (canon t))
+
+-- 1, and 2 for both files
+abbrev pub sizes : List ℕ → List ℕ → ℕ → List Pass
+sizes protocol term work =
+    lessPass 1 0 work workNeed
+    ∷ lessPass 2 protocolItem protocolLimit (length protocol)
+    ∷ lessPass 2 termItem termLimit (length term)
+    ∷ []
+
+-- 15, with the bytes needed
+abbrev pub roomRuling : ℕ → Term → Ruling ℕ
+roomRuling output t = rulingOf (needPass 15 output (need t) ∷ []) (need t)
+
+abbrev pub roomRows : ℕ → Term → List Row
+roomRows output t = fixedRow 15 (need t) (output < need t) ∷ []
+
+-- "Canonical form: 1 to 4, term 3, 8, 15"
+unfoldable pub canonicalOutcome : List ℕ → List ℕ → ℕ → ℕ → Ruling ℕ
+canonicalOutcome protocol term output work =
+    rulingThen (sizes protocol term work) (andThen (termOf protocol term) (roomRuling output))
+
+-- the same as rows of the table
+abbrev pub readRows : List ℕ → List ℕ → List Row
+readRows protocol term = protocolRows protocol ++ rowsAfter (protocolRuling protocol) (λ p. termRows (slots (p .functions)) term)
+
+abbrev pub canonicalRows : List ℕ → List ℕ → ℕ → ℕ → List Row
+canonicalRows protocol term output work =
+    rowsThen (sizes protocol term work) (readRows protocol term ++ rowsAfter (termOf protocol term) (roomRows output))
+
+-- the bytes that it writes where it passes
+abbrev pub formOf : Ruling Term → List ℕ
+formOf (passed t) = encode (canon t)
+formOf (refused n k) = []
+
+-- ── lent memory ──
+unfoldable pub canonicalOutput : List ℕ → List ℕ → List ℕ → ℕ → List ℕ
+canonicalOutput protocol term output work =
+    outputAfter (canonicalOutcome protocol term (length output) work) (formOf (termOf protocol term)) output
+
+unfoldable pub canonicalWork : List ℕ → List ℕ → ℕ → List ℕ → List ℕ
+canonicalWork protocol term output work = workAfter (canonicalOutcome protocol term output (length work)) work

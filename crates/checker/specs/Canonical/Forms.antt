@@ -1,0 +1,90 @@
+-- The canonical form of a term file's term: it may be asked for, it is short, and what becomes of the output.
+use Prim.Native.Nat.{ℕ, _+_, _-_, _^_, _≤_, _<_}
+use mathlib.Core.List.{List, [], _∷_, _++_, append-nil}
+use mathlib.Core.Path.{_≡_, refl, ap, ap₂, sym, _∙_, subst}
+use native.Mathlib.Omega.{arith}
+use lib.ListN.{length, take, drop}
+use Rattle.octets.specs.Choice.{by-size}
+use Rattle.octets.specs.Head.{Bytes, Stands, stands-part, stands-within}
+use Rattle.octets.specs.Splice.{splice}
+use Rattle.term.specs.Term.{Term, encode, symbols}
+use Rattle.term.specs.Term.Laws.{encode-some}
+use Rattle.term.specs.Arity.{arity, slots}
+use Rattle.message.specs.Canon.{canon}
+use Rattle.message.specs.Theorems.{fewer-bytes}
+use Rattle.canonical.specs.Builtins.{Builtins, declared, group}
+use Rattle.canonical.specs.Contract.{MessageAt}
+use Rattle.canonical.specs.Inner.{CanonAt}
+use Rattle.rewriting.specs.Table.{Ruling, passed, refused, Ruled}
+use Rattle.rewriting.specs.Table.Laws.{passed-good}
+use Rattle.checker.specs.declared.Written.{Written}
+use Rattle.checker.specs.declared.Written.the-variants as wr
+use Rattle.checker.specs.Answer.{written, outputAfter}
+use Rattle.checker.specs.Passing.{less-yes, less-no}
+use Rattle.checker.specs.Files.{termLimit, termRuling, termRows}
+use Rattle.checker.specs.Files.Laws.{IsSmall, term-ruled}
+use Rattle.checker.specs.Files.Terms.{IsTerm, file-form}
+use Rattle.checker.specs.Canonical.{need, roomRuling, formOf}
+use Rattle.checker.specs.Canonical.Contracts.{Form, Forms, Formed}
+
+small-enough : (n : ℕ) → (256 < n → ⊥) → n ≤ 256
+small-enough n f = by-size 256 n (λ l. absurd (f l)) (λ l. l)
+
+module _ (arities term free : List ℕ) (t : Term) (h : Form arities term free t) where
+  read : IsSmall arities term t
+  read =
+      passed-good (IsSmall arities term) (termRows arities term) t
+      (subst (λ (r : Ruling Term). Ruled (termRows arities term) (IsSmall arities term) r) (h .is) (term-ruled arities term))
+
+  is-term : IsTerm arities term t
+  is-term = file-form arities term (h .bytes) t (read .reads .next) (read .reads .there)
+
+  table : Builtins arities
+  table = subst Builtins (sym (h .table)) (declared free)
+
+  -- the file holds a message
+  pub message-at : MessageAt arities term 0 t
+  message-at = record {
+    table = table;
+    formed = is-term .formed;
+    ground = is-term .ground;
+    range = is-term .range;
+    rest = [];
+    there = is-term .bytes ∙ sym (append-nil (encode t));
+    small = small-enough (symbols t) (λ l. read .small .0 0 (refl, l));
+    short = omega (arith, h .short);
+  }
+
+  -- its canonical form is no longer than the file
+  pub form-bound : need t ≤ termLimit
+  form-bound =
+      omega (arith, h .short, ap length (is-term .bytes), fewer-bytes (arity arities) (group arities table) t (is-term .formed))
+
+module _ (t : Term) (out : List ℕ) (r : ℕ) (stands : Stands out 0 (encode (canon t)) r) where
+  pub form-length : r ≡ need t
+  form-length = omega (arith, stands .ends)
+
+  pub form-within : r ≤ length out
+  form-within = stands-within stands (encode-some (canon t))
+
+  pub form-bytes : take r out ≡ encode (canon t)
+  form-bytes = ap (λ (k : ℕ). take k out) (let e : r ≡ r - 0 = omega arith in e) ∙ stands-part stands
+
+  -- ── what becomes of the output ──
+  pub formed-short : (output : List ℕ) (w : Written) → length output < r → written w ≡ refused 15 r → Formed t output output w
+  formed-short output w h e =
+      let l : length output < need t = omega (arith, form-length) in
+      let q = less-yes 15 (need t) (length output) (need t) [] (passed (need t)) l in
+      record {
+        answer = e ∙ ap {B = Ruling ℕ} (refused 15) form-length ∙ sym q;
+        left = sym (ap (λ (x : Ruling ℕ). outputAfter x (formOf (passed t)) output) q);
+      }
+
+  pub formed-written : (output : List ℕ) → r ≤ length output → Formed t output (splice output 0 (take r out)) (wr.Length r)
+  formed-written output h =
+      let l : need t ≤ length output = omega (arith, form-length) in
+      let q = less-no 15 (need t) (length output) (need t) [] (passed (need t)) l in
+      record {
+        answer = ap {B = Ruling ℕ} passed form-length ∙ sym q;
+        left = ap (splice output 0) form-bytes ∙ sym (ap (λ (x : Ruling ℕ). outputAfter x (formOf (passed t)) output) q);
+      }

@@ -1,0 +1,177 @@
+-- From what the functions inside the call find to what the call promises.
+use Prim.Native.Nat.{ℕ, _≤_, _<_}
+use mathlib.Core.List.{List, [], _∷_}
+use mathlib.Core.Bool.{Bool, true, false}
+use mathlib.Core.Option.{Option, some, none}
+use mathlib.Core.Path.{_≡_, refl, ap, ap₂, sym, _∙_, subst}
+use native.Mathlib.Omega.{arith}
+use lib.ListN.{length, replicate}
+use lib.Dec.{eqb}
+use borrow.Author.Tests.{ne-eqb}
+use Rattle.octets.specs.Choice.{pick, by-size, clash}
+use Rattle.number.specs.Reading.{Read, got, fault}
+use Rattle.term.specs.Term.{Term, symbols}
+use Rattle.term.specs.Arity.{slots}
+use Rattle.rewriting.specs.Table.{Ruling, passed, refused, Pass, andThen, orRefuse, rulingThen}
+use Rattle.rewriting.specs.Table.Passes.{leastPass, lessPass, needPass}
+use Rattle.protocol.specs.Protocol.{Protocol}
+use Rattle.protocol.specs.Protocol as files
+use Rattle.rules.specs.Fit.{fits}
+use Rattle.checker.specs.declared.Written.{Written}
+use Rattle.checker.specs.declared.TermFile.{TermFile}
+use Rattle.checker.specs.declared.TermFile.the-variants.{Small, Layout, Large}
+use Rattle.checker.specs.Answer.{workNeed, written, workAfter, outputAfter}
+use Rattle.checker.specs.Passing.{less-yes, less-no}
+use Rattle.checker.specs.Files.{protocolLimit, termLimit, protocolItem, termItem, layout, fitRuling, protocolRuling, termFile, sizeRuling, termRuling}
+use Rattle.checker.specs.Files.Answers.{fileOf}
+use Rattle.checker.specs.Canonical.{termOf, need, roomRuling, formOf, canonicalOutcome, canonicalOutput, canonicalWork}
+use Rattle.checker.specs.Canonical.Contracts.{Form, Formed, Under, Judges, Inside, InsideAs}
+use Rattle.checker.specs.Canonical.Cases.{sized, output-kept}
+
+-- ── the ruling of a term file is one of three ──
+pub data View (r : Ruling Term) : Type 0 where
+  is-small : (t : Term) → r ≡ passed t → View r
+  is-layout : r ≡ refused 3 termItem → View r
+  is-large : r ≡ refused 8 0 → View r
+
+sized-view : (r : Ruling Term) (t : Term) → r ≡ sizeRuling t → View r
+sized-view r t e =
+    by-size 256 (symbols t)
+    (λ l. is-large (e ∙ less-yes 8 0 256 (symbols t) [] (passed t) l))
+    (λ l. is-small t (e ∙ less-no 8 0 256 (symbols t) [] (passed t) l))
+
+module _ (slots s : List ℕ) where
+  read-view : (o : Read Term) → termFile slots s ≡ o → View (termRuling slots s)
+  read-view (got t e) h = sized-view (termRuling slots s) t (ap (λ (o : Read Term). andThen (layout termItem o) sizeRuling) h)
+  read-view fault h = is-layout (ap (λ (o : Read Term). andThen (layout termItem o) sizeRuling) h)
+
+  pub view : View (termRuling slots s)
+  view = read-view (termFile slots s) refl
+
+-- the term that a small file holds
+pub record Holds (r : Ruling Term) : Type 0 where
+  pub term : Term
+  pub is : r ≡ passed term
+
+small-of : (r : Ruling Term) → View r → fileOf r ≡ Small → Holds r
+small-of r (is-small t e) h = record { term = t; is = e }
+small-of r (is-layout e) h = let q : Layout ≡ Small = sym (ap fileOf e) ∙ h in clash (cc)
+small-of r (is-large e) h = let q : Large ≡ Small = sym (ap fileOf e) ∙ h in clash (cc)
+
+layout-of : (r : Ruling Term) → View r → fileOf r ≡ Layout → r ≡ refused 3 termItem
+layout-of r (is-small t e) h = let q : Small ≡ Layout = sym (ap fileOf e) ∙ h in clash (cc)
+layout-of r (is-layout e) h = e
+layout-of r (is-large e) h = let q : Large ≡ Layout = sym (ap fileOf e) ∙ h in clash (cc)
+
+large-of : (r : Ruling Term) → View r → fileOf r ≡ Large → r ≡ refused 8 0
+large-of r (is-small t e) h = let q : Small ≡ Large = sym (ap fileOf e) ∙ h in clash (cc)
+large-of r (is-layout e) h = let q : Layout ≡ Large = sym (ap fileOf e) ∙ h in clash (cc)
+large-of r (is-large e) h = e
+
+pub holds-term : (slots s : List ℕ) → fileOf (termRuling slots s) ≡ Small → Holds (termRuling slots s)
+holds-term slots s h = small-of (termRuling slots s) (view slots s) h
+
+pub no-layout : (slots s : List ℕ) → fileOf (termRuling slots s) ≡ Layout → termRuling slots s ≡ refused 3 termItem
+no-layout slots s h = layout-of (termRuling slots s) (view slots s) h
+
+pub too-large : (slots s : List ℕ) → fileOf (termRuling slots s) ≡ Large → termRuling slots s ≡ refused 8 0
+too-large slots s h = large-of (termRuling slots s) (view slots s) h
+
+-- what is asked of the file's term
+pub form-of : (arities term free : List ℕ) → Under arities term free → (h : Holds (termRuling arities term)) → Form arities term free (h .term)
+form-of arities term free u h = record { table = u .table; is = h .is; bytes = u .bytes; short = u .short }
+
+-- ── the term's outcome ──
+pub judges-refused :
+    (r : Ruling Term) (n k : ℕ) (output : List ℕ) (w : Written) → r ≡ refused n k → written w ≡ refused n k → Judges r output output w
+judges-refused r n k output w e q = record {
+  answer = q ∙ sym (ap (λ (x : Ruling Term). andThen x (roomRuling (length output))) e);
+  left = sym (ap (λ (x : Ruling Term). outputAfter (andThen x (roomRuling (length output))) (formOf x) output) e);
+}
+
+pub judges-formed :
+    (r : Ruling Term) (t : Term) (output output′ : List ℕ) (w : Written) → r ≡ passed t → Formed t output output′ w → Judges r output output′ w
+judges-formed r t output output′ w e f = record {
+  answer = f .answer ∙ sym (ap (λ (x : Ruling Term). andThen x (roomRuling (length output))) e);
+  left = f .left ∙ sym (ap (λ (x : Ruling Term). outputAfter (andThen x (roomRuling (length output))) (formOf x) output) e);
+}
+
+-- ── the call's outcome ──
+module _ (protocol term output : List ℕ) (w : Written) where
+  pub inside-refused :
+      (n k : ℕ) → ((work : ℕ) → workNeed ≤ work → canonicalOutcome protocol term (length output) work ≡ refused n k)
+      → written w ≡ refused n k → InsideAs protocol term output output w
+  inside-refused n k h q work l =
+      record { answer = q ∙ sym (h work l); left = output-kept protocol term output work n k (h work l) }
+
+  pub inside-judged :
+      (p : length protocol ≤ protocolLimit) (t : length term ≤ termLimit) (q : Protocol) (output′ : List ℕ)
+      → protocolRuling protocol ≡ passed q → Judges (termRuling (slots (q .functions)) term) output output′ w
+      → InsideAs protocol term output output′ w
+  unfolding canonicalOutput
+  inside-judged p t q output′ fit j work l =
+      let under : termOf protocol term ≡ termRuling (slots (q .functions)) term =
+      ap (λ (r : Ruling Protocol). andThen r (λ q. termRuling (slots (q .functions)) term)) fit in
+      let o : canonicalOutcome protocol term (length output) work ≡ andThen (termRuling (slots (q .functions)) term) (roomRuling (length output)) =
+      sized protocol term (length output) work l p t ∙ ap (λ (r : Ruling Term). andThen r (roomRuling (length output))) under in
+      record {
+        answer = j .answer ∙ sym o;
+        left = j .left ∙ sym (ap₂ (λ (x : Ruling ℕ) (y : Ruling Term). outputAfter x (formOf y) output) o under);
+      }
+
+-- ── the work area ──
+-- refused, but not with 1
+abbrev Late : {A : Type 0} → Ruling A → Type 0
+Late (passed a) = Unit {0}
+Late (refused n k) = n ≡ 1 → ⊥
+
+late-then : {A B : Type 0} (r : Ruling A) (f : A → Ruling B) → Late r → ((a : A) → Late (f a)) → Late (andThen r f)
+late-then (passed a) f l h = h a
+late-then (refused n k) f l h = l
+
+late-refuse : {A : Type 0} (n : ℕ) (o : Option ℕ) (r : Ruling A) → (n ≡ 1 → ⊥) → Late r → Late (orRefuse n o r)
+late-refuse n none r h l = l
+late-refuse n (some k) r h l = h
+
+late-pass : {A : Type 0} (p : Pass) (ps : List Pass) (r : Ruling A) → (p .cause .number ≡ 1 → ⊥) → Late (rulingThen ps r) → Late (rulingThen (p ∷ ps) r)
+late-pass p ps r h l = late-refuse (p .cause .number) (p .found) (rulingThen ps r) h l
+
+late-layout : {A : Type 0} (item : ℕ) (r : Read A) → Late (layout item r)
+late-layout item (got x e) = tt
+late-layout item fault = λ e. omega arith
+
+late-work : {A : Type 0} (r : Ruling A) (work : List ℕ) → Late r → workAfter r work ≡ replicate (length work) 0
+late-work (passed a) work l = refl
+late-work (refused n k) work l =
+    ap (λ (b : Bool). pick b work (replicate (length work) 0)) (ne-eqb n 1 l)
+
+module _ (protocol term : List ℕ) (output : ℕ) where
+  late-protocol : Late (protocolRuling protocol)
+  late-protocol =
+      late-then (layout protocolItem (files.protocol protocol)) fitRuling (late-layout protocolItem (files.protocol protocol))
+      (λ p. late-pass (leastPass 4 (λ k r. fits r) (p .rules)) [] (passed p) (λ e. omega arith) tt)
+
+  late-term : (slots : List ℕ) → Late (termRuling slots term)
+  late-term slots =
+      late-then (layout termItem (termFile slots term)) sizeRuling (late-layout termItem (termFile slots term))
+      (λ t. late-pass (lessPass 8 0 256 (symbols t)) [] (passed t) (λ e. omega arith) tt)
+
+  late-files : Late (andThen (termOf protocol term) (roomRuling output))
+  late-files =
+      late-then (termOf protocol term) (roomRuling output)
+      (late-then (protocolRuling protocol) (λ p. termRuling (slots (p .functions)) term) late-protocol (λ p. late-term (slots (p .functions))))
+      (λ t. late-pass (needPass 15 output (need t)) [] (passed (need t)) (λ e. omega arith) tt)
+
+  late-call : (work : ℕ) → workNeed ≤ work → Late (canonicalOutcome protocol term output work)
+  unfolding canonicalOutcome
+  late-call work l =
+      let files = andThen (termOf protocol term) (roomRuling output) in
+      let p = lessPass 2 protocolItem protocolLimit (length protocol) in
+      let t = lessPass 2 termItem termLimit (length term) in
+      subst Late (sym (less-no 1 0 work workNeed (p ∷ t ∷ []) files l))
+      (late-pass p (t ∷ []) files (λ e. omega arith) (late-pass t [] files (λ e. omega arith) late-files))
+
+  pub work-cleared :
+      (work : List ℕ) → workNeed ≤ length work → replicate (length work) 0 ≡ canonicalWork protocol term output work
+  unfolding canonicalWork
+  work-cleared work l = sym (late-work (canonicalOutcome protocol term output (length work)) work (late-call (length work) l))

@@ -1,0 +1,10 @@
+-- The exported calls: their outcomes, the memory they leave, and what is proved of them.
+
+-- the answers' numbers and values, the lent memory, the C functions' packed answers
+pub mod Answer
+-- the pass of a bound, from the comparison that the code makes
+pub mod Passing
+-- the files: limits, items, what reading them rules
+pub mod Files
+-- the call canonical form
+pub mod Canonical

@@ -1,0 +1,21 @@
+-- Terms that stand in a slice one behind the other.
+use Prim.Native.Nat.{ℕ, _+_}
+use mathlib.Core.List.{List}
+use lib.ListN.{length}
+use Rattle.octets.specs.Head.{Stands}
+use Rattle.term.specs.Term.{Term, Terms, encode, encodes, Formed, Formeds, InRange, InRanges}
+use Rattle.term.specs.Arity.{arity}
+-- the first of them, the others, the arguments of one
+pub mod Laws
+
+-- the terms ts stand in s from `at` on, formed and in range
+pub record Laid (slots s : List ℕ) (at : ℕ) (ts : Terms) : Type 0 where
+  pub formed : Formeds (arity slots) ts
+  pub range : InRanges ts
+  pub there : Stands s at (encodes ts) (at + length (encodes ts))
+
+-- the term t stands in s from `at` up to e
+pub record OneAt (slots s : List ℕ) (at e : ℕ) (t : Term) : Type 0 where
+  pub formed : Formed (arity slots) t
+  pub range : InRange t
+  pub there : Stands s at (encode t) e

@@ -1,0 +1,101 @@
+-- The walk gathers the factors of a term.
+use Prim.Native.Nat.{ℕ, _+_, _≤_, _<_}
+use mathlib.Core.Path.{_≡_, refl, ap, sym, _∙_, subst}
+use mathlib.Core.Bool.{Bool, not}
+use mathlib.Core.List.{List}
+use native.Mathlib.Omega.{arith}
+use lib.ListN.{length, drop, length-append}
+use borrow.Author.Tests.{eq-eqb, ne-eqb}
+use Rattle.octets.specs.Choice.{cut-eq, clash}
+use Rattle.number.specs.Groups.{groups}
+use Rattle.number.specs.Groups.Laws.{groups-some}
+use Rattle.term.specs.Term.{Term, leaf, app, Terms, count, encode, encodes, symbols, symbolss}
+use Rattle.term.specs.Reader.{symbolAt}
+use Rattle.term.specs.Reader.Exact.{symbol-of-leaf, symbol-of-app}
+use Rattle.message.specs.Product.{Exps}
+use Rattle.message.specs.Gather.{enter, sign, pour, pours}
+use Rattle.message.specs.Gather.Laws.{pour-one, pour-mul, pour-inv, pour-factor}
+use Rattle.factors.specs.declared.Way.the-variants as way
+use Rattle.factors.specs.Laid.{Laid, OneAt}
+use Rattle.factors.specs.Laid.Laws.{args-of}
+use Rattle.factors.specs.Way.{wayAt, wayOf}
+
+-- ── at each function ──
+module _ (m : Bool) (f k e : ℕ) where
+  pub way-one : f ≡ 3 → way.Into m k e ≡ wayAt m f k e
+  way-one h = simp (eq-eqb f 3 h)
+
+  pub way-mul : (f ≡ 3 → ⊥) → f ≡ 12 → way.Into m k e ≡ wayAt m f k e
+  way-mul a h = simp (ne-eqb f 3 a, eq-eqb f 12 h)
+
+  pub way-inv : (f ≡ 3 → ⊥) → (f ≡ 12 → ⊥) → f ≡ 11 → way.Into (not m) k e ≡ wayAt m f k e
+  way-inv a b h = simp (ne-eqb f 3 a, ne-eqb f 12 b, eq-eqb f 11 h)
+
+  pub way-other : (f ≡ 3 → ⊥) → (f ≡ 12 → ⊥) → (f ≡ 11 → ⊥) → way.Factor ≡ wayAt m f k e
+  way-other a b c = simp (ne-eqb f 3 a, ne-eqb f 12 b, ne-eqb f 11 c)
+
+-- ── at a term that stands there ──
+-- a term that is gone into: its arguments, and that they have its factors
+pub record GoneInto (slots s : List ℕ) (at : ℕ) (minus m : Bool) (c next : ℕ) (t : Term) : Type 0 where
+  pub args : Terms
+  pub laid : Laid slots s next args
+  pub many : count args ≡ c
+  pub ends : next + length (encodes args) ≡ at + length (encode t)
+  pub after : at < next
+  pub fewer : symbolss args ≤ symbols t
+  pub same : (l : Exps) → pour minus t l ≡ pours m args l
+
+module _ {slots s : List ℕ} {at e : ℕ} (minus : Bool) where
+  -- what the walk does at a term
+  way-leaf : (k : _) (n : ℕ) → OneAt slots s at e (leaf k n) → wayOf minus (symbolAt s slots at) ≡ way.Factor
+  way-leaf k n O = ap (wayOf minus) (symbol-of-leaf s slots k n at (drop e s) (O .range) (O .there .there))
+
+  way-app :
+      (f : ℕ) (ts : Terms) → OneAt slots s at e (app f ts)
+      → wayOf minus (symbolAt s slots at) ≡ wayAt minus f (count ts) (at + length (groups f))
+  way-app f ts O =
+      ap (wayOf minus) (symbol-of-app s slots f ts at (drop e s) (O .formed .0) (O .range .0) (O .there .there))
+
+  -- ── it is gone into ──
+  module _ (m : Bool) (c next : ℕ) where
+    entered-at :
+        (f : ℕ) (ts : Terms) (w : Bool) → OneAt slots s at e (app f ts) → ((l : Exps) → pour minus (app f ts) l ≡ pours w ts l)
+        → way.Into w (count ts) (at + length (groups f)) ≡ way.Into m c next → GoneInto slots s at minus m c next (app f ts)
+    entered-at f ts w O same h =
+        let a : at + length (groups f) ≡ next = cc in
+        let b : w ≡ m = cc in
+        record {
+          args = ts;
+          laid = subst (λ (n : ℕ). Laid slots s n ts) a (args-of O);
+          many = cc;
+          ends = omega (arith, length-append (groups f) (encodes ts));
+          after = omega (arith, groups-some f);
+          fewer = omega arith;
+          same = λ l. same l ∙ ap (λ (x : Bool). pours x ts l) b;
+        }
+
+    pub way-into : (t : Term) → OneAt slots s at e t → wayOf minus (symbolAt s slots at) ≡ way.Into m c next → GoneInto slots s at minus m c next t
+    way-into (leaf k n) O h = let z : way.Factor ≡ way.Into m c next = sym (way-leaf k n O) ∙ h in clash (cc)
+    way-into (app f ts) O h =
+        cut-eq _ _ _ f 3 (sym (way-app f ts O) ∙ h)
+        (λ q h. entered-at f ts minus O (λ l. ap (λ (g : ℕ). pour minus (app g ts) l) q ∙ pour-one minus ts l) h)
+        (λ q h. cut-eq _ _ _ f 12 h
+        (λ q h. entered-at f ts minus O (λ l. ap (λ (g : ℕ). pour minus (app g ts) l) q ∙ pour-mul minus ts l) h)
+        (λ q h. cut-eq _ _ _ f 11 h
+        (λ q h. entered-at f ts (not minus) O (λ l. ap (λ (g : ℕ). pour minus (app g ts) l) q ∙ pour-inv minus ts l) h)
+        (λ q h. clash (cc))))
+
+  -- ── it is a factor ──
+  pub way-factor :
+      (t : Term) → OneAt slots s at e t → wayOf minus (symbolAt s slots at) ≡ way.Factor
+      → (l : Exps) → pour minus t l ≡ enter t (sign minus) l
+  unfolding pour
+  way-factor (leaf k n) O h l = refl
+  way-factor (app f ts) O h l =
+      cut-eq _ _ _ f 3 (sym (way-app f ts O) ∙ h)
+      (λ q h. clash (cc))
+      (λ a h. cut-eq _ _ _ f 12 h
+      (λ q h. clash (cc))
+      (λ b h. cut-eq _ _ _ f 11 h
+      (λ q h. clash (cc))
+      (λ c h. pour-factor minus ts l f a c b)))

@@ -1,0 +1,201 @@
+// The factors of some terms in a table: for each its place in the caller's slice and its exponent, ascending by encoded bytes.
+ghost use mathlib.Core.Path.{_≡_};
+ghost use Prim.Native.Nat.{_-_, _≤_, _<_};
+ghost use lib.ListN.{length, take, drop};
+ghost use lib.IntN.{pos};
+ghost use Rattle.octets.specs.Compare.{compareBytes};
+ghost use Rattle.term.specs.Reader.{symbolAt};
+ghost use Rattle.message.specs.Gather.{sign};
+ghost use Rattle.factors.specs.Rows.{Moved, Bounds, FoundAt};
+ghost use Rattle.factors.specs.Way.{wayOf};
+ghost use Rattle.factors.specs.Contracts.{Enters, EnteredAs, EntersAt, EnteredAt, Collects, CollectedAs};
+use octets::Order;
+use term::Symbol;
+
+// Where a factor belongs among the entries, and whether it stands there already.
+pub struct Place {
+    pub at: usize,
+    pub same: bool,
+}
+
+// What to do with the term at a place: walk its arguments with a sign (true is minus), so many from a place on; or enter it as a factor.
+pub enum Way {
+    Into(bool, usize, usize),
+    Factor,
+}
+
+// How far the walk is, and how many entries the table has.
+pub struct Filled {
+    pub at: usize,
+    pub n: usize,
+}
+
+// The order of a factor's bytes and a part.
+fn compare_at(key: &[u8], s: &[u8], a: usize, e: usize) -> Order
+    requires { ⌜ (a ≤ e) × (e ≤ length (now s)) ⌝ }
+    ensures { λ r. ⌜ r ≡ compareBytes (now (key .entry)) (take (e - a) (drop a (now (s .entry)))) ⌝ }
+{
+    octets::compare_bytes(key, &s[a..e])
+}
+
+// Where these bytes belong among n entries: past those that come before them.
+fn find_place(key: &[u8], s: &[u8], starts: &[usize], ends: &[usize], n: usize) -> Place
+    requires { ⌜ (n ≤ length (now starts)) × (n ≤ length (now ends)) × Bounds (now s) (now starts) (now ends) n ⌝ }
+    ensures { λ r. ⌜ FoundAt (now (key .entry)) (now (s .entry)) (now (starts .entry)) (now (ends .entry)) n r ⌝ }
+{
+    let mut i = 0;
+    while i < n {
+        match compare_at(key, s, starts[i], ends[i]) {
+            Order::Less => {
+                return Place { at: i, same: false };
+            }
+            Order::Equal => {
+                return Place { at: i, same: true };
+            }
+            Order::Greater => {
+                i += 1;
+            }
+        }
+    }
+    Place { at: n, same: false }
+}
+
+// Makes room for an entry at i among n: those from i on move up by one.
+fn open_row(a: &mut [usize], i: usize, n: usize)
+    requires { ⌜ (i ≤ n) × (n < length (now a)) ⌝ }
+    ensures { λ r. ⌜ Moved 0 (now (a .entry)) (now (a .exit)) i n ⌝ }
+{
+    let mut j = n;
+    while i < j {
+        let x = a[j - 1];
+        a[j] = x;
+        j -= 1;
+    }
+}
+
+fn open_power(a: &mut [i32], i: usize, n: usize)
+    requires { ⌜ (i ≤ n) × (n < length (now a)) ⌝ }
+    ensures { λ r. ⌜ Moved (pos 0) (now (a .entry)) (now (a .exit)) i n ⌝ }
+{
+    let mut j = n;
+    while i < j {
+        let x = a[j - 1];
+        a[j] = x;
+        j -= 1;
+    }
+}
+
+// The exponent of one factor.
+fn unit(minus: bool) -> i32
+    ensures { λ r. ⌜ r ≡ sign minus ⌝ }
+{
+    if minus { -1 } else { 1 }
+}
+
+// The factor whose bytes stand at a goes into the table of n entries with one exponent more or less: returns how many entries there are.
+fn enter(
+    starts: &mut [usize],
+    ends: &mut [usize],
+    powers: &mut [i32],
+    n: usize,
+    s: &[u8],
+    key: &[u8],
+    a: usize,
+    minus: bool,
+) -> usize
+    requires { ⌜ Enters (now key) (now s) (now starts) (now ends) (now powers) n a ⌝ }
+    ensures { λ r. ⌜ EnteredAs (now (key .entry)) (now (s .entry)) (now (starts .entry)) (now (ends .entry)) (now (powers .entry)) n a minus (now (starts .exit)) (now (ends .exit)) (now (powers .exit)) r ⌝ }
+{
+    let e = a + key.len();
+    let p = find_place(key, s, starts, ends, n);
+    let i = p.at;
+    let same = p.same;
+    let u = unit(minus);
+    if same {
+        let k = powers[i];
+        let v = k + u;
+        powers[i] = v;
+        return n;
+    }
+    open_row(starts, i, n);
+    open_row(ends, i, n);
+    open_power(powers, i, n);
+    starts[i] = a;
+    ends[i] = e;
+    powers[i] = u;
+    n + 1
+}
+
+// The way of the term at a place.
+fn way_at(s: &[u8], arities: &[u8], at: usize, minus: bool) -> Way
+    ensures { λ r. ⌜ r ≡ wayOf minus (symbolAt (now (s .entry)) (now (arities .entry)) at) ⌝ }
+{
+    match term::symbol_at(s, arities, at) {
+        Symbol::Leaf(_, _, _) => Way::Factor,
+        Symbol::Op(t, k, e) => {
+            if t == 3 {
+                return Way::Into(minus, k as usize, e);
+            }
+            if t == 12 {
+                return Way::Into(minus, k as usize, e);
+            }
+            if t == 11 {
+                return Way::Into(!minus, k as usize, e);
+            }
+            Way::Factor
+        }
+        Symbol::Fault => Way::Factor,
+    }
+}
+
+// The term at a place is entered as a factor.
+fn enter_at(
+    starts: &mut [usize],
+    ends: &mut [usize],
+    powers: &mut [i32],
+    n: usize,
+    s: &[u8],
+    at: usize,
+    arities: &[u8],
+    minus: bool,
+) -> Filled
+    requires { ⌜ EntersAt (now arities) (now s) (now starts) (now ends) (now powers) n at ⌝ }
+    ensures { λ r. ⌜ EnteredAt (now (arities .entry)) (now (s .entry)) (now (starts .entry)) (now (ends .entry)) (now (powers .entry)) n at minus (now (starts .exit)) (now (ends .exit)) (now (powers .exit)) r ⌝ }
+{
+    let key = term::term_part(s, arities, at);
+    let m = enter(starts, ends, powers, n, s, key, at, minus);
+    Filled {
+        at: at + key.len(),
+        n: m,
+    }
+}
+
+// The factors of the k terms at a place go into the table of n entries, with a sign.
+pub fn collect(
+    starts: &mut [usize],
+    ends: &mut [usize],
+    powers: &mut [i32],
+    n: usize,
+    s: &[u8],
+    at: usize,
+    k: usize,
+    arities: &[u8],
+    minus: bool,
+) -> Filled
+    requires { ⌜ Collects (now arities) (now s) (now starts) (now ends) (now powers) n at k ⌝ }
+    ensures { λ r. ⌜ CollectedAs (now (arities .entry)) (now (s .entry)) (now (starts .entry)) (now (ends .entry)) (now (powers .entry)) n at k minus (now (starts .exit)) (now (ends .exit)) (now (powers .exit)) r ⌝ }
+{
+    if k == 0 {
+        return Filled { at: at, n: n };
+    }
+    match way_at(s, arities, at, minus) {
+        Way::Into(m, c, next) => {
+            let f = collect(starts, ends, powers, n, s, next, c, arities, m);
+            collect(starts, ends, powers, f.n, s, f.at, k - 1, arities, minus)
+        }
+        Way::Factor => {
+            let f = enter_at(starts, ends, powers, n, s, at, arities, minus);
+            collect(starts, ends, powers, f.n, s, f.at, k - 1, arities, minus)
+        }
+    }
+}

@@ -1,0 +1,125 @@
+-- What `write_product` and `multiply` ask and promise.
+use Prim.Native.Nat.{ℕ, _+_, _≤_, _<_}
+use mathlib.Core.Path.{_≡_, refl, sym, ap, ap₂, subst, _∙_}
+use mathlib.Core.Bool.{true, false}
+use mathlib.Core.List.{List}
+use native.Mathlib.Omega.{arith}
+use lib.ListN.{length, take, set}
+use lib.IntN.{ℤ}
+use Rattle.octets.specs.Splice.{splice}
+use Rattle.octets.specs.Splice.Prefix.{Wrote, wrote-one}
+use Rattle.term.specs.Term.{Term, Terms, nil, _&_, encode}
+use Rattle.term.specs.Arity.{arity}
+use Rattle.message.specs.Product.{empty}
+use Rattle.message.specs.Gather.{gather, multiplied}
+use Rattle.factors.specs.declared.Filled.{Filled}
+use Rattle.factors.specs.Mass.{size, mass}
+use Rattle.factors.specs.Mass.Laws.{mass-pours}
+use Rattle.factors.specs.Rows.{Rows}
+use Rattle.factors.specs.Laid.{OneAt}
+use Rattle.factors.specs.Laid.Laws.{one-after, one-within, laid-one}
+use Rattle.factors.specs.Contracts.{Room, Collect, Collects, CollectedAs}
+use Rattle.product.specs.Writing.{wrote-same, copied, front, front-long}
+use Rattle.product.specs.Chain.{sides, written}
+use Rattle.product.specs.Chain.Laws.{written-none, written-some, written-short}
+use Rattle.product.specs.Side.{side}
+use Rattle.product.specs.Side.Laws.{side-ups, side-downs}
+use Rattle.product.specs.Length.{product-short}
+use Rattle.product.specs.Contracts.{scratch, Whole, Multiplies, MultipliedAs}
+use Rattle.product.specs.Steps.{Both, Boths, BothAs, Prod, Prods, ProdAs}
+
+-- ── write_product ──
+both-sides : (ts : Terms) → sides (side false (gather ts)) (side true (gather ts)) ≡ written ts
+unfolding written
+both-sides ts = ap₂ sides (side-ups (gather ts)) (side-downs (gather ts))
+
+module _ (slots s : List ℕ) (at k : ℕ) (out S E : List ℕ) (P : List ℤ) (R : Room S E P) where
+  start : (ts : Terms) → Prod slots s at k (length out) ts → Collect slots s S E P 0 at k empty ts
+  unfolding Rows size mass
+  start ts X = record {
+    table = record { rows = tt; many = refl };
+    room = R;
+    few = omega (arith, X .few);
+    laid = X .laid;
+    many = X .many;
+    inside = X .inside;
+    short = X .short;
+  }
+
+  pub collect-asks : Prods slots s at k (length out) → Collects slots s S E P 0 at k
+  collect-asks J = (empty, J .0, start (J .0) (J .1))
+
+  module _ (S₁ E₁ : List ℕ) (P₁ : List ℤ) (r : Filled) (D : CollectedAs slots s S E P 0 at k false S₁ E₁ P₁ r)
+      (lS : length S₁ ≡ length S) (lE : length E₁ ≡ length E) (lP : length P₁ ≡ length P) where
+    held : (ts : Terms) → Prod slots s at k (length out) ts → Both s S₁ E₁ P₁ (r .n) (length out) (gather ts)
+    unfolding mass
+    held ts X = record {
+      ready = record {
+        table = D empty ts (start ts X) .table;
+        room = record { starts = rw lS (R .starts); ends = rw lE (R .ends); powers = rw lP (R .powers) };
+        few = omega (arith, mass-pours false ts empty, X .few);
+      };
+      fits = rw (both-sides ts) (X .fits);
+    }
+
+    pub table-asks : Prods slots s at k (length out) → Boths s S₁ E₁ P₁ (r .n) (length out)
+    table-asks J = (_, held (J .0) (J .1))
+
+    pub table-wrote : (out′ : List ℕ) (i : ℕ) → BothAs s S₁ E₁ P₁ (r .n) out out′ i → ProdAs slots s at k out out′ i
+    table-wrote out′ i B ts X = wrote-same (both-sides ts) (B _ (held ts X))
+
+-- ── multiply ──
+module _ (slots out : List ℕ) (o e : ℕ) where
+  module _ (t : Term) (M : Whole slots out o e t) where
+    pub one : OneAt slots out o e t
+    one = record { formed = M .formed; range = M .range; there = M .stands }
+
+    short : length (encode (multiplied (t & nil))) ≤ length (encode t)
+    short = product-short (arity slots) (M .group) t (M .formed)
+
+    prod : Prod slots out o 1 scratch (t & nil)
+    prod = record {
+      laid = laid-one one;
+      many = refl;
+      inside = omega (arith, one-after one, one-within one);
+      short = M .short;
+      few = omega (arith, M .few);
+      fits = omega (arith, written-short (t & nil), short, M .small);
+    }
+
+  pub multiply-asks : Multiplies slots out o e → Prods slots out o 1 scratch
+  multiply-asks J = (_, prod (J .0) (J .1))
+
+  pub multiply-inside : Multiplies slots out o e → o < length out
+  multiply-inside J = let O = one (J .0) (J .1) in omega (arith, one-after O, one-within O)
+
+  module _ (tmp : List ℕ) (lt : length tmp ≡ scratch) (tmp′ : List ℕ) (n : ℕ) (D : ProdAs slots out o 1 tmp tmp′ n) where
+    wrote : (t : Term) (M : Whole slots out o e t) → Wrote (length tmp) tmp 0 tmp′ n (written (t & nil))
+    wrote t M = D (t & nil) (subst (λ (j : ℕ). Prod slots out o 1 j (t & nil)) (sym lt) (prod t M))
+
+    pub multiplied-none : n ≡ 0 → MultipliedAs slots out o e (set out o 3) (o + 1)
+    multiplied-none h t M =
+        let N = written-none (t & nil) (omega (arith, wrote t M .ends)) in
+        wrote-same (sym (N .bytes))
+        (wrote-one e o 3 out (one-after (one t M)) (multiply-inside (t, M)))
+
+    module _ (h : n ≡ 0 → ⊥) where
+      bytes : (t : Term) (M : Whole slots out o e t) → take n tmp′ ≡ encode (multiplied (t & nil))
+      bytes t M = front (wrote t M) ∙ sym (written-some (t & nil) (λ z. h (omega (arith, wrote t M .ends))) .bytes)
+
+      ends : (t : Term) (M : Whole slots out o e t) → o + length (take n tmp′) ≤ e
+      ends t M = omega (arith, ap length (bytes t M), short t M, M .stands .ends)
+
+      pub multiply-fits : Multiplies slots out o e → n ≤ length tmp
+      multiply-fits J = omega (arith, wrote (J .0) (J .1) .ends, prod (J .0) (J .1) .fits)
+
+      pub multiply-part : Multiplies slots out o e → n ≡ length (take n tmp′)
+      multiply-part J = front-long (wrote (J .0) (J .1))
+
+      pub multiply-copies : Multiplies slots out o e → o + length (take n tmp′) ≤ length out
+      multiply-copies J = omega (arith, ends (J .0) (J .1), one-within (one (J .0) (J .1)))
+
+      pub multiplied-some :
+          (out′ : List ℕ) (r : ℕ) → r ≡ o + length (take n tmp′) → out′ ≡ splice out o (take n tmp′) → MultipliedAs slots out o e out′ r
+      multiplied-some out′ r a b t M =
+          wrote-same (bytes t M) (copied e out out′ (take n tmp′) o r (multiply-copies (t, M)) (ends t M) a b)

@@ -1,0 +1,144 @@
+use borrow.Author.Needs.{needs}
+use lib.ListN.{length}
+use mathlib.Core.Path.{_≡_, refl, _∙_}
+use native.Mathlib.Omega.{arith}
+use Prim.Native.Nat.{_-_}
+use Rattle.message.specs.Product.{Exps}
+use Rattle.product.specs.Steps.{Lay}
+use Rattle.product.proofs.RisePaths.{rises-asks}
+use Rattle.product.proofs.LayPaths.{lay-held, next-asks, Laying, laying-first, laying-done, part-ends, lay-put, laying-next}
+use Rattle.product.proofs.write_rows.Statement.{statement}
+use Rattle.product.proofs.write_rows.Tie as tie
+use Rattle.product.proofs.write_rows.Reads as reads
+use Rattle.product.proofs.write_rows.Lts as lts
+use Rattle.product.proofs.next_row.Reads as next-row-reads
+use Rattle.product.proofs.put_factor.Reads as put-factor-reads
+use Rattle.product.proofs.rises.Reads as rises-reads
+
+abbrev Inv-loop : tie.InvT-loop
+Inv-loop out₀ s starts ends powers n minus i₀ p₀ out i p =
+    (length out ≡ length out₀) × ((l : Exps) → Lay s starts ends powers n minus 0 (length out₀) l → Laying s starts ends powers n minus out₀ out p i l)
+
+abbrev μ-loop : tie.MeasureT-loop
+μ-loop out₀ s starts ends powers n minus i₀ p₀ out i p =
+    n - i
+
+-- src/lib.rt:95:9
+next-row-requires : tie.Need-next-row-requires Inv-loop μ-loop
+next-row-requires c κs =
+    let r = c .before .before .before .before .args in let h = lay-held (r .s .now) (r .starts .now) (r .ends .now) (r .powers .now) (r .n) (r .minus) 0 _ (c .before .before .before .before .pre) in next-asks (r .s .now) (r .starts .now) (r .ends .now) (r .powers .now) (r .n) 0 (omega arith) h
+
+-- src/lib.rt:97:5
+loop-holds : tie.Need-loop-holds Inv-loop μ-loop
+loop-holds c =
+    let r = c .before .before .before .before .before .args in (refl, λ l L. laying-first (r .s .now) (r .starts .now) (r .ends .now) (r .powers .now) (r .n) (r .minus) (r .out .now) _ (c .next-row .ensures) l L)
+
+-- src/lib.rt:98:17
+mul-a : tie.Need-mul-a Inv-loop μ-loop
+mul-a c =
+    let r = c .before .before .before .before .before .before .before .args in let h = lay-held (r .s .now) (r .starts .now) (r .ends .now) (r .powers .now) (r .n) (r .minus) 0 _ (c .before .before .before .before .before .before .before .pre) in omega arith
+
+-- src/lib.rt:98:17
+shared-slice-read-a : tie.Need-shared-slice-read-a Inv-loop μ-loop
+shared-slice-read-a c =
+    let r = c .before .before .before .before .before .before .before .before .args in let h = lay-held (r .s .now) (r .starts .now) (r .ends .now) (r .powers .now) (r .n) (r .minus) 0 _ (c .before .before .before .before .before .before .before .before .pre) in omega arith
+
+-- src/lib.rt:99:17
+mul-e : tie.Need-mul-e Inv-loop μ-loop
+mul-e c =
+    let r = c .before .before .before .before .before .before .before .before .args in let h = lay-held (r .s .now) (r .starts .now) (r .ends .now) (r .powers .now) (r .n) (r .minus) 0 _ (c .before .before .before .before .before .before .before .before .pre) in omega arith
+
+-- src/lib.rt:99:17
+shared-slice-read-e : tie.Need-shared-slice-read-e Inv-loop μ-loop
+shared-slice-read-e c =
+    let r = c .before .before .before .before .before .before .before .before .before .args in let h = lay-held (r .s .now) (r .starts .now) (r .ends .now) (r .powers .now) (r .n) (r .minus) 0 _ (c .before .before .before .before .before .before .before .before .before .pre) in omega arith
+
+-- src/lib.rt:100:17
+mul-w : tie.Need-mul-w Inv-loop μ-loop
+mul-w c =
+    let r = c .before .before .before .before .before .before .before .before .before .args in let h = lay-held (r .s .now) (r .starts .now) (r .ends .now) (r .powers .now) (r .n) (r .minus) 0 _ (c .before .before .before .before .before .before .before .before .before .pre) in omega arith
+
+-- src/lib.rt:100:17
+shared-slice-copy-out-w : tie.Need-shared-slice-copy-out-w Inv-loop μ-loop
+shared-slice-copy-out-w c =
+    let r = c .before .before .before .before .before .before .before .before .before .args in let h = lay-held (r .s .now) (r .starts .now) (r .ends .now) (r .powers .now) (r .n) (r .minus) 0 _ (c .before .before .before .before .before .before .before .before .before .pre) in omega arith
+
+-- src/lib.rt:101:13
+rises-requires : tie.Need-rises-requires Inv-loop μ-loop
+rises-requires c κs =
+    let r = c .before .before .before .before .before .before .before .before .before .before .args in let h = lay-held (r .s .now) (r .starts .now) (r .ends .now) (r .powers .now) (r .n) (r .minus) 0 _ (c .before .before .before .before .before .before .before .before .before .before .pre) in rises-asks (r .powers .now) 0 (r .n) (r .minus) (next-asks (r .s .now) (r .starts .now) (r .ends .now) (r .powers .now) (r .n) 0 (omega arith) h) _ (c .before .before .before .loop-test .taken)
+
+-- src/lib.rt:102:34
+add-next-row : tie.Need-add-next-row Inv-loop μ-loop
+add-next-row c = search needs
+
+-- src/lib.rt:102:13
+next-row-requires-2 : tie.Need-next-row-requires-2 Inv-loop μ-loop
+next-row-requires-2 c κs =
+    let r = c .before .before .before .before .before .before .before .before .before .before .before .args in let h = lay-held (r .s .now) (r .starts .now) (r .ends .now) (r .powers .now) (r .n) (r .minus) 0 _ (c .before .before .before .before .before .before .before .before .before .before .before .pre) in next-asks (r .s .now) (r .starts .now) (r .ends .now) (r .powers .now) (r .n) _ (omega arith) h
+
+-- src/lib.rt:104:32
+sub-put-factor : tie.Need-sub-put-factor Inv-loop μ-loop
+sub-put-factor c =
+    let r = c .before .before .before .before .before .before .before .before .before .before .before .before .before .args in let g = c .before .before .before .before .before .before .before .loop in let b = part-ends (r .s .now) (r .starts .now) (r .ends .now) (r .powers .now) (r .n) (r .minus) (r .out .now) (g .out) (g .p) (g .i) (c .before .before .before .before .before .before .loop-test .taken) _ (g .inv .1 _ (c .before .before .before .before .before .before .before .before .before .before .before .before .before .pre .1)) in omega arith
+
+-- src/lib.rt:104:32
+part-put-factor-start : tie.Need-part-put-factor-start Inv-loop μ-loop
+part-put-factor-start c =
+    let r = c .before .before .before .before .before .before .before .before .before .before .before .before .before .args in let g = c .before .before .before .before .before .before .before .loop in let b = part-ends (r .s .now) (r .starts .now) (r .ends .now) (r .powers .now) (r .n) (r .minus) (r .out .now) (g .out) (g .p) (g .i) (c .before .before .before .before .before .before .loop-test .taken) _ (g .inv .1 _ (c .before .before .before .before .before .before .before .before .before .before .before .before .before .pre .1)) in omega arith
+
+-- src/lib.rt:104:32
+part-put-factor-end : tie.Need-part-put-factor-end Inv-loop μ-loop
+part-put-factor-end c =
+    let r = c .before .before .before .before .before .before .before .before .before .before .before .before .before .args in let g = c .before .before .before .before .before .before .before .loop in let b = part-ends (r .s .now) (r .starts .now) (r .ends .now) (r .powers .now) (r .n) (r .minus) (r .out .now) (g .out) (g .p) (g .i) (c .before .before .before .before .before .before .loop-test .taken) _ (g .inv .1 _ (c .before .before .before .before .before .before .before .before .before .before .before .before .before .pre .1)) in omega arith
+
+-- src/lib.rt:104:9
+put-factor-requires : tie.Need-put-factor-requires Inv-loop μ-loop
+put-factor-requires c κs =
+    let r = c .before .before .before .before .before .before .before .before .before .before .before .before .before .before .args in let h = lay-held (r .s .now) (r .starts .now) (r .ends .now) (r .powers .now) (r .n) (r .minus) 0 _ (c .before .before .before .before .before .before .before .before .before .before .before .before .before .before .pre) in let g = c .before .before .before .before .before .before .before .before .loop in lay-put (r .s .now) (r .starts .now) (r .ends .now) (r .powers .now) (r .n) (r .minus) (r .out .now) (g .out) (g .p) (g .i) (c .before .before .before .before .before .before .before .loop-test .taken) h _ (c .before .before .before .rises .ensures) _ (c .before .before .next-row2 .ensures) _ (g .inv .1 _ (c .before .before .before .before .before .before .before .before .before .before .before .before .before .before .pre .1)) (c .before .before .before .before .before .before .before .before .before .before .before .before .before .before .pre .1) (g .inv .0)
+
+-- src/lib.rt:97:5
+loop-less : tie.Need-loop-less Inv-loop μ-loop
+loop-less c =
+    let z = c .before .before .before .before .before .next-row2 .ensures .from in omega (arith, c .before .before .before .before .before .next-row2 .ensures .within)
+
+-- src/lib.rt:97:5
+loop-again : tie.Need-loop-again Inv-loop μ-loop
+loop-again c =
+    let r = c .before .before .before .before .before .before .before .before .before .before .before .before .before .before .before .before .before .args in let h = lay-held (r .s .now) (r .starts .now) (r .ends .now) (r .powers .now) (r .n) (r .minus) 0 _ (c .before .before .before .before .before .before .before .before .before .before .before .before .before .before .before .before .before .pre) in let g = c .before .before .before .before .before .before .before .before .before .before .before .loop in (c .before .before .put-factor .kept .0 ∙ g .inv .0, λ l L. laying-next (r .s .now) (r .starts .now) (r .ends .now) (r .powers .now) (r .n) (r .minus) (r .out .now) (g .out) (g .p) (g .i) (c .before .before .before .before .before .before .before .before .before .before .loop-test .taken) h _ (c .before .before .before .before .before .before .rises .ensures) _ (c .before .before .before .before .before .next-row2 .ensures) l (g .inv .1 l L) _ _ (g .inv .0) (c .before .before .put-factor .ensures))
+
+-- src/lib.rt:83:1
+same-length : tie.Need-same-length Inv-loop μ-loop
+same-length c =
+    c .before .loop .inv .0
+
+-- src/lib.rt:83:1
+returns : tie.Need-returns Inv-loop μ-loop
+returns c =
+    let r = c .before .before .before .before .before .before .before .args in λ l L. laying-done (r .s .now) (r .starts .now) (r .ends .now) (r .powers .now) (r .n) (r .minus) (r .out .now) _ _ _ l (c .before .loop .inv .1 l L) (c .loop-test .left)
+
+pub write-rows-spec : {M : Type 1} → statement M
+write-rows-spec =
+    tie.close
+    (tie.spec
+    Inv-loop
+    μ-loop
+    next-row-requires
+    loop-holds
+    mul-a
+    shared-slice-read-a
+    mul-e
+    shared-slice-read-e
+    mul-w
+    shared-slice-copy-out-w
+    rises-requires
+    add-next-row
+    next-row-requires-2
+    sub-put-factor
+    part-put-factor-start
+    part-put-factor-end
+    put-factor-requires
+    loop-less
+    loop-again
+    same-length
+    returns)

@@ -1,0 +1,247 @@
+// Products in place: mul, inv and one with any arguments become the product of their factors, exp the power.
+ghost use mathlib.Core.Path.{_≡_};
+ghost use Prim.Native.Nat.{_+_, _≤_, _<_};
+ghost use lib.ListN.{length};
+ghost use lib.IntN.{natAbs};
+ghost use Rattle.octets.specs.Splice.Prefix.{Wrote};
+ghost use Rattle.term.specs.Reader.{symbolAt};
+ghost use Rattle.product.specs.Chain.{repeated, copies};
+ghost use Rattle.product.specs.Side.{rise, Next, Small};
+ghost use Rattle.product.specs.Base.{baseOf};
+ghost use Rattle.product.specs.Contracts.{Multiplies, MultipliedAs, Raises, RaisedAs};
+ghost use Rattle.product.specs.Steps.{Lays, LaidAs, TaggedAs, Boths, BothAs, Prods, ProdAs, Powers, PoweredAs, Behinds, BehindAs};
+use term::Symbol;
+
+// Whether the base of an exp is an exp itself, whose arguments begin at a place.
+pub enum Base {
+    Power(usize),
+    Plain,
+}
+
+// How often a factor of exponent p stands on the side of the sign; true is minus.
+fn rises(p: i32, minus: bool) -> usize
+    requires { ⌜ natAbs p < 2147483647 ⌝ }
+    ensures { λ r. ⌜ r ≡ rise minus p ⌝ }
+{
+    if minus {
+        if p < 0 {
+            let q = 0 - p;
+            return q as usize;
+        }
+        return 0;
+    }
+    if 0 < p {
+        return p as usize;
+    }
+    0
+}
+
+// The first entry from i on that stands on the side, or n.
+fn next_row(powers: &[i32], i: usize, n: usize, minus: bool) -> usize
+    requires { ⌜ (i ≤ n) × (n ≤ length (now powers)) × Small (now powers) n ⌝ }
+    ensures { λ r. ⌜ Next (now (powers .entry)) i n minus r ⌝ }
+{
+    let mut j = i;
+    while j < n {
+        let p = powers[j];
+        let c = rises(p, minus);
+        if 0 < c {
+            return j;
+        }
+        j += 1;
+    }
+    j
+}
+
+// Writes a factor m times, each behind the tag of mul.
+fn put_many(out: &mut [u8], o: usize, x: &[u8], m: usize) -> usize
+    requires { ⌜ o + length (repeated m (now x)) ≤ length (now out) ⌝ }
+    ensures { λ r. ⌜ Wrote (length (now (out .entry))) (now (out .entry)) o (now (out .exit)) r (repeated m (now (x .entry))) ⌝ }
+{
+    let mut p = o;
+    let mut i = 0;
+    while i < m {
+        out[p] = 12;
+        p = octets::copy_into(out, p + 1, x);
+        i += 1;
+    }
+    p
+}
+
+// Writes a factor n times, the last without a tag unless more comes.
+fn put_factor(out: &mut [u8], o: usize, x: &[u8], n: usize, more: bool) -> usize
+    requires { ⌜ (0 < n) × (o + length (copies n (now x) more) ≤ length (now out)) ⌝ }
+    ensures { λ r. ⌜ Wrote (length (now (out .entry))) (now (out .entry)) o (now (out .exit)) r (copies n (now (x .entry)) more) ⌝ }
+{
+    if more {
+        return put_many(out, o, x, n);
+    }
+    let p = put_many(out, o, x, n - 1);
+    octets::copy_into(out, p, x)
+}
+
+// Writes the entries that stand on the side as a product.
+fn write_rows(
+    out: &mut [u8],
+    s: &[u8],
+    starts: &[usize],
+    ends: &[usize],
+    powers: &[i32],
+    n: usize,
+    minus: bool,
+) -> usize
+    requires { ⌜ Lays (now s) (now starts) (now ends) (now powers) n minus 0 (length (now out)) ⌝ }
+    ensures { λ r. ⌜ LaidAs (now (s .entry)) (now (starts .entry)) (now (ends .entry)) (now (powers .entry)) n minus (now (out .entry)) (now (out .exit)) r ⌝ }
+{
+    let mut i = next_row(powers, 0, n, minus);
+    let mut p = 0;
+    while i < n {
+        let a = starts[i];
+        let e = ends[i];
+        let w = powers[i];
+        let c = rises(w, minus);
+        let j = next_row(powers, i + 1, n, minus);
+        let more = j < n;
+        p = put_factor(out, p, &s[a..e], c, more);
+        i = j;
+    }
+    p
+}
+
+// The same behind a tag, into the part of the output that starts there.
+fn write_tagged(
+    out: &mut [u8],
+    at: usize,
+    tag: u8,
+    s: &[u8],
+    starts: &[usize],
+    ends: &[usize],
+    powers: &[i32],
+    n: usize,
+    minus: bool,
+) -> usize
+    requires { ⌜ Lays (now s) (now starts) (now ends) (now powers) n minus (at + 1) (length (now out)) ⌝ }
+    ensures { λ r. ⌜ TaggedAs (now (s .entry)) (now (starts .entry)) (now (ends .entry)) (now (powers .entry)) n minus tag (now (out .entry)) at (now (out .exit)) r ⌝ }
+{
+    out[at] = tag;
+    let i = at + 1;
+    let r = write_rows(&mut out[i..], s, starts, ends, powers, n, minus);
+    i + r
+}
+
+// Writes the table's product as P, inv(N) or mul(P, inv(N)), and nothing where no factor is left.
+fn write_table(
+    out: &mut [u8],
+    s: &[u8],
+    starts: &[usize],
+    ends: &[usize],
+    powers: &[i32],
+    n: usize,
+) -> usize
+    requires { ⌜ Boths (now s) (now starts) (now ends) (now powers) n (length (now out)) ⌝ }
+    ensures { λ r. ⌜ BothAs (now (s .entry)) (now (starts .entry)) (now (ends .entry)) (now (powers .entry)) n (now (out .entry)) (now (out .exit)) r ⌝ }
+{
+    let d = next_row(powers, 0, n, true);
+    if n <= d {
+        return write_rows(out, s, starts, ends, powers, n, false);
+    }
+    let u = next_row(powers, 0, n, false);
+    if n <= u {
+        return write_tagged(out, 0, 11, s, starts, ends, powers, n, true);
+    }
+    let i = write_tagged(out, 0, 12, s, starts, ends, powers, n, false);
+    write_tagged(out, i, 11, s, starts, ends, powers, n, true)
+}
+
+// Writes the product of the k terms at a place, and nothing where no factor is left.
+fn write_product(out: &mut [u8], s: &[u8], at: usize, k: usize, arities: &[u8]) -> usize
+    requires { ⌜ Prods (now arities) (now s) at k (length (now out)) ⌝ }
+    ensures { λ r. ⌜ ProdAs (now (arities .entry)) (now (s .entry)) at k (now (out .entry)) (now (out .exit)) r ⌝ }
+{
+    let mut starts = [0usize; 256];
+    let mut ends = [0usize; 256];
+    let mut powers = [0i32; 256];
+    let f = factors::collect(
+        &mut starts,
+        &mut ends,
+        &mut powers,
+        0,
+        s,
+        at,
+        k,
+        arities,
+        false,
+    );
+    write_table(out, s, &starts, &ends, &powers, f.n)
+}
+
+// The term at o, up to e, becomes the product of its factors: returns where that ends.
+pub fn multiply(out: &mut [u8], o: usize, e: usize, arities: &[u8]) -> usize
+    requires { ⌜ Multiplies (now arities) (now out) o e ⌝ }
+    ensures { λ r. ⌜ MultipliedAs (now (arities .entry)) (now (out .entry)) o e (now (out .exit)) r ⌝ }
+{
+    let mut tmp = [0u8; 1280];
+    let n = write_product(&mut tmp, out, o, 1, arities);
+    if n == 0 {
+        out[o] = 3;
+        return o + 1;
+    }
+    octets::copy_into(out, o, &tmp[..n])
+}
+
+// exp at o, whose base stands from b up to z and the k factors of whose exponent stand from z on: returns where the power ends.
+fn power_at(out: &mut [u8], o: usize, b: usize, z: usize, k: usize, arities: &[u8]) -> usize
+    requires { ⌜ Powers (now arities) (now out) o b z k ⌝ }
+    ensures { λ r. ⌜ PoweredAs (now (arities .entry)) (now (out .entry)) o b z k (now (out .exit)) r ⌝ }
+{
+    let mut tmp = [0u8; 1280];
+    let n = write_product(&mut tmp, out, z, k, arities);
+    if n == 0 {
+        octets::copy_within(out, b, o, z - b);
+        return o + (z - b);
+    }
+    octets::copy_within(out, b, o + 1, z - b);
+    octets::copy_into(out, o + 1 + (z - b), &tmp[..n])
+}
+
+// What the first argument of an exp is.
+fn base_at(s: &[u8], arities: &[u8], at: usize) -> Base
+    ensures { λ r. ⌜ r ≡ baseOf (symbolAt (now (s .entry)) (now (arities .entry)) at) ⌝ }
+{
+    match term::symbol_at(s, arities, at) {
+        Symbol::Leaf(_, _, _) => Base::Plain,
+        Symbol::Op(t, _, e) => {
+            if t == 10 {
+                return Base::Power(e);
+            }
+            Base::Plain
+        }
+        Symbol::Fault => Base::Plain,
+    }
+}
+
+// The place behind the term at a place.
+fn behind(s: &[u8], arities: &[u8], at: usize) -> usize
+    requires { ⌜ Behinds (now arities) (now s) at ⌝ }
+    ensures { λ r. ⌜ BehindAs (now (arities .entry)) (now (s .entry)) at r ⌝ }
+{
+    at + term::term_part(s, arities, at).len()
+}
+
+// exp(x, y) at o, up to e, becomes the power: returns where that ends.
+pub fn exponent(out: &mut [u8], o: usize, e: usize, arities: &[u8]) -> usize
+    requires { ⌜ Raises (now arities) (now out) o e ⌝ }
+    ensures { λ r. ⌜ RaisedAs (now (arities .entry)) (now (out .entry)) o e (now (out .exit)) r ⌝ }
+{
+    let a = o + 1;
+    match base_at(out, arities, a) {
+        Base::Power(b) => {
+            let z = behind(out, arities, b);
+            power_at(out, o, b, z, 2, arities)
+        }
+        Base::Plain => {
+            let z = behind(out, arities, a);
+            power_at(out, o, a, z, 1, arities)
+        }
+    }
+}

@@ -1,0 +1,91 @@
+use borrow.Author.Needs.{needs}
+use Rattle.protocol.specs.Index.Fill.{places-more, places-end}
+use Rattle.protocol.specs.Protocol.{Rule, noRule, rule}
+use Rattle.number.specs.Reading.Many.{Came, came-none, came-more, came-stop}
+use Rattle.number.specs.Reading.Laws.{cut-seen, cut-fault}
+use mathlib.Core.Path.{_≡_, sym, _∙_, subst}
+use mathlib.Core.Bool.{false}
+use Prim.Native.Nat.{ℕ, _-_, _≤_, _<_}
+use lib.ListN.{length, getD, length-set}
+use denote.Ref.{now}
+use native.Mathlib.Omega.{arith}
+use Rattle.protocol.proofs.index.rules_from.Statement.{statement}
+use Rattle.protocol.proofs.index.rules_from.Tie as tie
+
+abbrev Inv-loop : tie.InvT-loop
+Inv-loop s arities ars at n places₀ i₀ j₀ places i j =
+    (j ≤ n) × (length places ≡ length places₀) × ((k : ℕ) → k < j → Came (rule s arities ars) at k (getD places k 0)) × Came (rule s arities ars) at j i
+
+abbrev μ-loop : tie.MeasureT-loop
+μ-loop s arities ars at n places₀ i₀ j₀ places i j =
+    n - j
+
+loop-holds : tie.Need-loop-holds Inv-loop μ-loop
+loop-holds c =
+    (search needs, search needs, (λ k l. absurd (omega arith)), came-none _ _)
+
+one-rule-requires : tie.Need-one-rule-requires Inv-loop μ-loop
+one-rule-requires c κs = search needs
+
+enum-known-e : tie.Need-enum-known-e Inv-loop μ-loop
+enum-known-e c = search needs
+
+cast-places : tie.Need-cast-places Inv-loop μ-loop
+cast-places c = search needs
+
+mul-places : tie.Need-mul-places Inv-loop μ-loop
+mul-places c = search needs
+
+slice-write-places : tie.Need-slice-write-places Inv-loop μ-loop
+slice-write-places c = search needs
+
+add-j : tie.Need-add-j Inv-loop μ-loop
+add-j c = search needs
+
+loop-less : tie.Need-loop-less Inv-loop μ-loop
+loop-less c = search needs
+
+loop-again : tie.Need-loop-again Inv-loop μ-loop
+loop-again c =
+    let b : c .before .before .before .before .before .loop .j < length (c .before .before .before .before .before .loop .places) = omega arith in
+    (search needs, simp length-set (omega arith), places-more (rule (now (c .before .before .before .before .before .before .before .before .before .before .args .s)) (now (c .before .before .before .before .before .before .before .before .before .before .args .arities)) (now (c .before .before .before .before .before .before .before .before .before .before .args .ars))) (c .before .before .before .before .before .before .before .before .before .before .args .at) (c .before .before .before .before .before .loop .j) (c .before .before .before .before .before .loop .i) (c .before .before .before .before .before .loop .places) (c .before .before .before .before .before .loop .inv .2) (c .before .before .before .before .before .loop .inv .3) b, cut-seen (λ (x : Rule). false) (rule (now (c .before .before .before .before .before .before .before .before .before .before .args .s)) (now (c .before .before .before .before .before .before .before .before .before .before .args .arities)) (now (c .before .before .before .before .before .before .before .before .before .before .args .ars)) (c .before .before .before .before .before .loop .i)) (sym (c .before .before .before .one-rule .ensures) ∙ c .before .e .given .1) (λ x g h. came-more _ _ _ _ _ x (c .before .before .before .before .before .loop .inv .3) g))
+
+enum-told : tie.Need-enum-told Inv-loop μ-loop
+enum-told c = search needs
+
+same-length : tie.Need-same-length Inv-loop μ-loop
+same-length c = search needs
+
+returns : tie.Need-returns Inv-loop μ-loop
+returns c =
+    (search needs, came-stop _ _ _ _ _ (c .before .before .before .before .loop .inv .3) (cut-fault (λ (x : Rule). false) (rule (now (c .before .before .before .before .before .before .before .before .before .args .s)) (now (c .before .before .before .before .before .before .before .before .before .args .arities)) (now (c .before .before .before .before .before .before .before .before .before .args .ars)) (c .before .before .before .before .loop .i)) (sym (c .before .before .one-rule .ensures) ∙ c .enum-told .given .1)) (c .before .before .before .loop-test .taken))
+
+same-length-2 : tie.Need-same-length-2 Inv-loop μ-loop
+same-length-2 c = search needs
+
+returns-2 : tie.Need-returns-2 Inv-loop μ-loop
+returns-2 c =
+    let m : c .before .loop .j ≡ c .before .before .before .before .before .before .args .n = omega arith in
+    let o : Came (rule (now (c .before .before .before .before .before .before .args .s)) (now (c .before .before .before .before .before .before .args .arities)) (now (c .before .before .before .before .before .before .args .ars))) (c .before .before .before .before .before .before .args .at) (c .before .before .before .before .before .before .args .n) (c .before .loop .i) = subst (λ (k : ℕ). Came (rule (now (c .before .before .before .before .before .before .args .s)) (now (c .before .before .before .before .before .before .args .arities)) (now (c .before .before .before .before .before .before .args .ars))) (c .before .before .before .before .before .before .args .at) k (c .before .loop .i)) m (c .before .loop .inv .3) in
+    (search needs, record { item = o .items; there = o .there; says = places-end (rule (now (c .before .before .before .before .before .before .args .s)) (now (c .before .before .before .before .before .before .args .arities)) (now (c .before .before .before .before .before .before .args .ars))) (c .before .before .before .before .before .before .args .at) noRule (c .before .before .before .before .before .before .args .n) (c .before .loop .i) (o .items) (c .before .loop .places) (o .there) (λ k l. c .before .loop .inv .2 k (omega arith)) })
+
+pub rules-from-spec : {M : Type 1} → statement M
+rules-from-spec =
+    tie.close
+    (tie.spec
+    Inv-loop
+    μ-loop
+    loop-holds
+    one-rule-requires
+    enum-known-e
+    cast-places
+    mul-places
+    slice-write-places
+    add-j
+    loop-less
+    loop-again
+    enum-told
+    same-length
+    returns
+    same-length-2
+    returns-2)

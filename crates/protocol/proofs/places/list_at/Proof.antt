@@ -1,0 +1,44 @@
+use Rattle.protocol.specs.Places.Steps.{end-walk, list-got, list-none}
+use Rattle.protocol.specs.Protocol.Walks.{asks}
+use Rattle.protocol.specs.Protocol.{facts}
+use Rattle.number.specs.Reading.{asRead, many, any}
+use mathlib.Core.Path.{ap, sym, _∙_}
+use denote.Ref.{now}
+use borrow.Author.Needs.{needs}
+use Rattle.protocol.proofs.places.list_at.Statement.{statement}
+use Rattle.protocol.proofs.places.list_at.Tie as tie
+
+sorts-at-requires : tie.Need-sorts-at-requires
+sorts-at-requires c κs = search needs
+
+enum-known-e : tie.Need-enum-known-e
+enum-known-e c = search needs
+
+some-parts-requires : tie.Need-some-parts-requires
+some-parts-requires c κs = search needs
+
+end-of-requires : tie.Need-end-of-requires
+end-of-requires c κs = search needs
+
+enum-told : tie.Need-enum-told
+enum-told c = search needs
+
+returns : tie.Need-returns
+returns c =
+    end-walk (any (any (asks 0 0 0))) (many (facts (now (c .before .before .before .before .before .before .before .before .before .args .s)) (now (c .before .before .before .before .before .before .before .before .before .args .arities)) (now (c .before .before .before .before .before .before .before .before .before .args .ars))) (c .before .before .before .before .before .before .before .before .before .args .w) (c .before .before .before .e .given .0 .1 .0)) (c .end-of .ensures) (c .before .some-parts .ensures) ∙ sym (list-got _ (now (c .before .before .before .before .before .before .before .before .before .args .arities)) (now (c .before .before .before .before .before .before .before .before .before .args .ars)) _ (c .before .before .before .before .before .before .before .before .before .args .w) (sym (c .before .before .before .before .before .sorts-at .ensures) ∙ ap asRead (c .before .before .before .e .given .1)))
+
+returns-2 : tie.Need-returns-2
+returns-2 c =
+    sym (list-none _ (now (c .before .before .before .before .before .before .args .arities)) (now (c .before .before .before .before .before .before .args .ars)) _ (c .before .before .before .before .before .before .args .w) (sym (c .before .before .sorts-at .ensures) ∙ ap asRead (c .enum-told .given .1)))
+
+pub list-at-spec : {M : Type 1} → statement M
+list-at-spec =
+    tie.close
+    (tie.spec
+    sorts-at-requires
+    enum-known-e
+    some-parts-requires
+    end-of-requires
+    enum-told
+    returns
+    returns-2)

@@ -1,0 +1,42 @@
+use Rattle.protocol.specs.Protocol.Walks.{asks, facts-got, facts-fault}
+use Rattle.number.specs.Reading.{seen, any, asRead}
+use mathlib.Core.Path.{ap, sym, _∙_}
+use denote.Ref.{now}
+use borrow.Author.Needs.{needs}
+use Rattle.protocol.proofs.walks.one_part.Statement.{statement}
+use Rattle.protocol.proofs.walks.one_part.Tie as tie
+
+below-requires : tie.Need-below-requires
+below-requires c κs = search needs
+
+enum-known-n : tie.Need-enum-known-n
+enum-known-n c = search needs
+
+cast-some-facts : tie.Need-cast-some-facts
+cast-some-facts c = search needs
+
+some-facts-requires : tie.Need-some-facts-requires
+some-facts-requires c κs = search needs
+
+enum-told : tie.Need-enum-told
+enum-told c = search needs
+
+returns : tie.Need-returns
+returns c =
+    c .some-facts .ensures ∙ sym (ap (seen (any (asks (c .before .before .before .before .before .before .before .before .args .kind) (c .before .before .before .before .before .before .before .before .args .lo) (c .before .before .before .before .before .before .before .before .args .hi)))) (facts-got _ (now (c .before .before .before .before .before .before .before .before .args .arities)) (now (c .before .before .before .before .before .before .before .before .args .ars)) _ (sym (c .before .before .before .before .below .ensures) ∙ ap asRead (c .before .before .n .given .1))))
+
+returns-2 : tie.Need-returns-2
+returns-2 c =
+    sym (ap (seen (any (asks (c .before .before .before .before .before .before .args .kind) (c .before .before .before .before .before .before .args .lo) (c .before .before .before .before .before .before .args .hi)))) (facts-fault _ (now (c .before .before .before .before .before .before .args .arities)) (now (c .before .before .before .before .before .before .args .ars)) _ (sym (c .before .before .below .ensures) ∙ ap asRead (c .enum-told .given .1))))
+
+pub one-part-spec : {M : Type 1} → statement M
+one-part-spec =
+    tie.close
+    (tie.spec
+    below-requires
+    enum-known-n
+    cast-some-facts
+    some-facts-requires
+    enum-told
+    returns
+    returns-2)

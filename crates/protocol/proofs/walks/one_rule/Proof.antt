@@ -1,0 +1,42 @@
+use Rattle.protocol.specs.Protocol.Walks.{ended, rule-got, rule-fault, layout-fault}
+use Rattle.number.specs.Reading.{asRead}
+use mathlib.Core.Path.{ap, sym, _∙_}
+use denote.Ref.{now}
+use borrow.Author.Needs.{needs}
+use Rattle.protocol.proofs.walks.one_rule.Statement.{statement}
+use Rattle.protocol.proofs.walks.one_rule.Tie as tie
+
+sorts-at-requires : tie.Need-sorts-at-requires
+sorts-at-requires c κs = search needs
+
+enum-known-n : tie.Need-enum-known-n
+enum-known-n c = search needs
+
+cast-closed-parts : tie.Need-cast-closed-parts
+cast-closed-parts c = search needs
+
+closed-parts-requires : tie.Need-closed-parts-requires
+closed-parts-requires c κs = search needs
+
+enum-told : tie.Need-enum-told
+enum-told c = search needs
+
+returns : tie.Need-returns
+returns c =
+    c .closed-parts .ensures ∙ sym (rule-got _ (now (c .before .before .before .before .before .before .before .before .args .arities)) (now (c .before .before .before .before .before .before .before .before .args .ars)) _ (sym (c .before .before .before .before .sorts-at .ensures) ∙ ap asRead (c .before .before .n .given .1)))
+
+returns-2 : tie.Need-returns-2
+returns-2 c =
+    sym (ap ended (rule-fault _ (now (c .before .before .before .before .before .before .args .arities)) (now (c .before .before .before .before .before .before .args .ars)) _ (layout-fault _ (now (c .before .before .before .before .before .before .args .arities)) (now (c .before .before .before .before .before .before .args .ars)) _ (sym (c .before .before .sorts-at .ensures) ∙ ap asRead (c .enum-told .given .1)))))
+
+pub one-rule-spec : {M : Type 1} → statement M
+one-rule-spec =
+    tie.close
+    (tie.spec
+    sorts-at-requires
+    enum-known-n
+    cast-closed-parts
+    closed-parts-requires
+    enum-told
+    returns
+    returns-2)

@@ -1,0 +1,68 @@
+use borrow.Author.Needs.{needs}
+use Rattle.number.specs.Reading.Many.{walk-none, walk-more, walk-stop}
+use Rattle.number.specs.Reading.{many, any, seen}
+use Rattle.number.specs.declared.Seen.the-variants.{End}
+use Rattle.protocol.specs.Protocol.Walks.{asks}
+use Rattle.protocol.specs.Protocol.{facts}
+use mathlib.Core.Path.{_≡_, ap, sym, _∙_}
+use Prim.Native.Nat.{ℕ, _-_, _≤_}
+use denote.Ref.{now}
+use native.Mathlib.Omega.{arith}
+use Rattle.protocol.proofs.walks.some_parts.Statement.{statement}
+use Rattle.protocol.proofs.walks.some_parts.Tie as tie
+
+abbrev Inv-loop : tie.InvT-loop
+Inv-loop s arities ars at n kind lo hi i₀ j₀ found₀ i j found =
+    (j ≤ n) × (seen (any (any (asks kind lo hi))) (many (facts s arities ars) j at) ≡ End i found)
+
+abbrev μ-loop : tie.MeasureT-loop
+μ-loop s arities ars at n kind lo hi i₀ j₀ found₀ i j found =
+    n - j
+
+loop-holds : tie.Need-loop-holds Inv-loop μ-loop
+loop-holds c =
+    (search needs, walk-none _ _ _)
+
+one-part-requires : tie.Need-one-part-requires Inv-loop μ-loop
+one-part-requires c κs = search needs
+
+enum-known-e : tie.Need-enum-known-e Inv-loop μ-loop
+enum-known-e c = search needs
+
+add-j : tie.Need-add-j Inv-loop μ-loop
+add-j c = search needs
+
+loop-less : tie.Need-loop-less Inv-loop μ-loop
+loop-less c = search needs
+
+loop-again : tie.Need-loop-again Inv-loop μ-loop
+loop-again c =
+    (search needs, walk-more (facts (now (c .before .before .before .before .before .before .before .before .before .args .s)) (now (c .before .before .before .before .before .before .before .before .before .args .arities)) (now (c .before .before .before .before .before .before .before .before .before .args .ars))) (any (asks (c .before .before .before .before .before .before .before .before .before .args .kind) (c .before .before .before .before .before .before .before .before .before .args .lo) (c .before .before .before .before .before .before .before .before .before .args .hi))) _ _ _ _ _ _ (c .before .before .before .before .before .loop .inv .1) (sym (c .before .before .before .one-part .ensures) ∙ c .before .e .given .1))
+
+enum-told : tie.Need-enum-told Inv-loop μ-loop
+enum-told c = search needs
+
+returns : tie.Need-returns Inv-loop μ-loop
+returns c =
+    sym (walk-stop (facts (now (c .before .before .before .before .before .before .before .before .args .s)) (now (c .before .before .before .before .before .before .before .before .args .arities)) (now (c .before .before .before .before .before .before .before .before .args .ars))) (any (asks (c .before .before .before .before .before .before .before .before .args .kind) (c .before .before .before .before .before .before .before .before .args .lo) (c .before .before .before .before .before .before .before .before .args .hi))) _ _ _ _ _ (c .before .before .before .before .loop .inv .1) (sym (c .before .before .one-part .ensures) ∙ c .enum-told .given .1) (c .before .before .before .loop-test .taken))
+
+returns-2 : tie.Need-returns-2 Inv-loop μ-loop
+returns-2 c =
+    let m : c .before .loop .j ≡ c .before .before .before .before .before .args .n = omega arith in
+    sym (ap (λ (k : ℕ). seen (any (any (asks (c .before .before .before .before .before .args .kind) (c .before .before .before .before .before .args .lo) (c .before .before .before .before .before .args .hi)))) (many (facts (now (c .before .before .before .before .before .args .s)) (now (c .before .before .before .before .before .args .arities)) (now (c .before .before .before .before .before .args .ars))) k (c .before .before .before .before .before .args .at))) (sym m) ∙ c .before .loop .inv .1)
+
+pub some-parts-spec : {M : Type 1} → statement M
+some-parts-spec =
+    tie.close
+    (tie.spec
+    Inv-loop
+    μ-loop
+    loop-holds
+    one-part-requires
+    enum-known-e
+    add-j
+    loop-less
+    loop-again
+    enum-told
+    returns
+    returns-2)

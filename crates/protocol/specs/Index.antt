@@ -1,0 +1,65 @@
+-- What the index of a protocol file says of it: an arity a slot for each tag, the arity and the persistence of each fact symbol, a place
+-- for each rule.
+use Prim.Native.Nat.{ℕ, _+_, _≤_, _<_}
+use mathlib.Core.List.{List}
+use mathlib.Core.Path.{_≡_}
+use lib.ListN.{length, getD, take}
+use Rattle.number.specs.Reading.{Read, got, fault}
+use Rattle.number.specs.declared.Number.{Number}
+use Rattle.number.specs.declared.Number.the-variants as num
+use Rattle.term.specs.Arity.{slots}
+use Rattle.protocol.specs.declared.index.Index.{Index}
+use Rattle.protocol.specs.declared.index.Index.the-variants as ix
+use Rattle.protocol.specs.Protocol.{Own, Protocol, noRule, factArities, factFlags, rule, protocol}
+use Rattle.protocol.specs.Protocol.Limits.{Within}
+use Rattle.protocol.specs.Places.{Here}
+-- filling it
+pub mod Fill
+-- the whole pass
+pub mod Laws
+
+-- ── a table filled while reading ──
+module _ {A : Type 0} (r : Read A) (Says : A → ℕ → Type 0) where
+  -- what was read, the place behind it, and what a count says of it
+  pub record ToldOf (n e : ℕ) : Type 0 where
+    pub item : A
+    pub there : r ≡ got item e
+    pub says : Says item n
+
+  abbrev pub Told : Number → Type 0
+  Told (num.Value n e) = ToldOf n e
+  Told num.Fault = r ≡ fault
+
+-- the slots are of these functions
+abbrev pub Slotted : List ℕ → List ℕ → ℕ → Type 0
+Slotted arities fs n = arities ≡ slots fs
+
+-- the tables have the n own symbols behind the four built-in ones
+pub record Tabled (ars flags : List ℕ) (os : List Own) (n : ℕ) : Type 0 where
+  pub count : length os ≡ n
+  pub few : n ≤ 32
+  pub arities : take (n + 4) ars ≡ factArities os
+  pub flagged : take (n + 4) flags ≡ factFlags os
+
+-- the n things stand at their places
+pub record Placed {A : Type 0} (p : ℕ → Read A) (d : A) (places : List ℕ) (xs : List A) (n : ℕ) : Type 0 where
+  pub count : length xs ≡ n
+  pub each : (k : ℕ) → k < n → Here p (getD xs k d) (getD places k 0)
+
+-- ── the index of ns fact symbols, the four built-in ones among them, and nr rules ──
+pub record Entries (s : List ℕ) (ns nr : ℕ) (arities ars flags places : List ℕ) : Type 0 where
+  pub is : Protocol
+  pub reads : protocol s ≡ got is (length s)
+  pub within : Within is
+  pub slotted : arities ≡ slots (is .functions)
+  pub tabled : take ns ars ≡ factArities (is .symbols)
+  pub flagged : take ns flags ≡ factFlags (is .symbols)
+  pub count : length (is .symbols) + 4 ≡ ns
+  pub few-symbols : ns ≤ 36
+  pub few-rules : nr ≤ 64
+  pub placed : Placed (rule s arities (take ns ars)) noRule places (is .rules) nr
+
+-- the counts and the right entries, or a fault, just as the definition says
+abbrev pub Indexed : List ℕ → Index → List ℕ → List ℕ → List ℕ → List ℕ → Type 0
+Indexed s (ix.Counts ns nr) arities ars flags places = Entries s ns nr arities ars flags places
+Indexed s ix.Fault arities ars flags places = protocol s ≡ fault

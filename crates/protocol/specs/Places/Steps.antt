@@ -1,0 +1,80 @@
+-- The places as the code goes to them: one reading, and then from behind it.
+use Prim.Native.Nat.{ℕ}
+use mathlib.Core.List.{List}
+use mathlib.Core.Bool.{Bool}
+use mathlib.Core.Path.{_≡_, refl, ap, _∙_}
+use lib.ListN.{length}
+use Rattle.number.specs.Reading.{Read, got, fault, andThen, below, many, seen}
+use Rattle.number.specs.declared.Seen.{Seen}
+use Rattle.number.specs.declared.Seen.the-variants as sn
+use Rattle.protocol.specs.Protocol.{ruleTerm, fact, facts}
+use Rattle.protocol.specs.Protocol.Walks.{sortsAt, sortsFrom}
+use Rattle.protocol.specs.Places.{placeOf, sortOf, listPlace, factPlace, termPlace}
+
+-- what code has of a reading: its end, or 0; its test, or no
+abbrev pub endOf : Seen → ℕ
+endOf (sn.End e b) = e
+endOf sn.Fault = 0
+
+end-place : {A : Type 0} (q : A → Bool) (r : Read A) → endOf (seen q r) ≡ placeOf r
+end-place q (got x e) = refl
+end-place q fault = refl
+
+-- a walk's end, where the walk stands for a reading
+pub end-walk : {A : Type 0} (q : A → Bool) (r : Read A) {w : Seen} {n : ℕ} → n ≡ endOf w → w ≡ seen q r → n ≡ placeOf r
+end-walk q r h k = h ∙ ap endOf k ∙ end-place q r
+
+place-then : {A B : Type 0} (f : A → ℕ → Read B) {r o : Read A} → r ≡ o → placeOf (andThen r f) ≡ placeOf (andThen o f)
+place-then {A} f h = ap (λ (o : Read A). placeOf (andThen o f)) h
+
+module _ (s slots ars : List ℕ) (at i : ℕ) where
+  pub list-got : {n e : ℕ} → sortsAt s at ≡ got n e → listPlace s slots ars at i ≡ placeOf (many (facts s slots ars) i e)
+  unfolding listPlace
+  list-got h = place-then _ h
+
+  pub list-none : sortsAt s at ≡ fault → listPlace s slots ars at i ≡ 0
+  unfolding listPlace
+  list-none h = place-then _ h
+
+  pub fact-got : {n e : ℕ} → below s 9 at ≡ got n e → factPlace s slots ars at i ≡ placeOf (many (fact s slots ars) i e)
+  unfolding factPlace
+  fact-got h = place-then _ h
+
+  pub fact-none : below s 9 at ≡ fault → factPlace s slots ars at i ≡ 0
+  unfolding factPlace
+  fact-none h = place-then _ h
+
+  pub term-got : {n e : ℕ} → below s (length ars) at ≡ got n e → termPlace s slots ars at i ≡ placeOf (many (ruleTerm s slots) i e)
+  unfolding termPlace
+  term-got h = place-then _ h
+
+  pub term-none : below s (length ars) at ≡ fault → termPlace s slots ars at i ≡ 0
+  unfolding termPlace
+  term-none h = place-then _ h
+
+-- the sort of a variable
+unfoldable pub sortFrom : List ℕ → ℕ → ℕ → Read ℕ
+sortFrom s v at = andThen (many (below s 3) v at) (λ vs f. below s 3 f)
+
+module _ (s : List ℕ) (v : ℕ) where
+  from-any : (r : Read (List ℕ)) {o : Read ℕ} → andThen r (λ vs e. got v e) ≡ o → andThen r (λ vs f. below s 3 f) ≡ andThen o (λ n f. below s 3 f)
+  from-any (got vs f) h = ap (λ (x : Read ℕ). andThen x (λ n f. below s 3 f)) h
+  from-any fault h = ap (λ (x : Read ℕ). andThen x (λ n f. below s 3 f)) h
+
+  module _ (at : ℕ) where
+    pub sort-got : {n e : ℕ} → below s 17 at ≡ got n e → sortOf s at v ≡ sortFrom s v e
+    unfolding sortOf sortFrom
+    sort-got h = ap (λ (o : Read ℕ). andThen o (λ n e. andThen (many (below s 3) v e) (λ vs f. below s 3 f))) h
+
+    pub sort-none : below s 17 at ≡ fault → sortOf s at v ≡ fault
+    unfolding sortOf
+    sort-none h = ap (λ (o : Read ℕ). andThen o (λ n e. andThen (many (below s 3) v e) (λ vs f. below s 3 f))) h
+
+    -- behind the sorts before it
+    pub from-got : {n e : ℕ} → sortsFrom s v at ≡ got n e → sortFrom s v at ≡ below s 3 e
+    unfolding sortsFrom sortFrom
+    from-got h = from-any (many (below s 3) v at) h
+
+    pub from-none : sortsFrom s v at ≡ fault → sortFrom s v at ≡ fault
+    unfolding sortsFrom sortFrom
+    from-none h = from-any (many (below s 3) v at) h

@@ -1,0 +1,56 @@
+-- The limits of a protocol file, as one predicate. "A figure in brackets after a file or a count is the most allowed."
+use Prim.Native.Nat.{ℕ, _≤_, _<_}
+use mathlib.Core.List.{List}
+use mathlib.Core.Bool.{true}
+use mathlib.Core.Path.{_≡_}
+use lib.ListN.{length, getD}
+use Rattle.number.specs.Layout.{All}
+use Rattle.term.specs.Term.{Term, symbols, Formed, InRange}
+use Rattle.term.specs.Arity.{arity, slots}
+use Rattle.protocol.specs.Protocol.{Fact, Rule, Own, Protocol, factArities, declared}
+
+-- under the arities of functions (slots) and of fact symbols (ars)
+module _ (slots : List ℕ) where
+  -- "a rule's term has at most 64 symbols", each a declared function's, its numbers as a file can hold them
+  pub record TermWithin (t : Term) : Type 0 where
+    pub formed : Formed (arity slots) t
+    pub range : InRange t
+    pub short : symbols t ≤ 64
+
+  module _ (ars : List ℕ) where
+    pub record FactWithin (f : Fact) : Type 0 where
+      pub known : f .symbol < length ars
+      pub takes : length (f .terms) ≡ getD ars (f .symbol) 0
+      pub each : All TermWithin (f .terms)
+
+    -- "each a count (8) and facts"
+    pub record FactsWithin (fs : List Fact) : Type 0 where
+      pub few : length fs ≤ 8
+      pub each : All FactWithin fs
+
+    -- the layout of a rule: "count of variables (16), each sort (0 message, 1 fresh, 2 public)", and three lists
+    pub record LayoutWithin (r : Rule) : Type 0 where
+      pub few : length (r .sorts) ≤ 16
+      pub sorted : All (λ v. v < 3) (r .sorts)
+      pub three : length (r .parts) ≡ 3
+      pub each : All FactsWithin (r .parts)
+
+    pub record RuleWithin (r : Rule) : Type 0 where
+      pub laid : LayoutWithin r
+      pub bound : declared r ≡ true
+
+-- "each arity (0 to 8) and 0 linear or 1 persistent"
+pub record OwnWithin (o : Own) : Type 0 where
+  pub small : o .arity < 9
+  pub either : o .flag < 2
+
+pub record Within (p : Protocol) : Type 0 where
+  -- "count of free functions (16), each arity (0 to 4)"
+  pub few-functions : length (p .functions) ≤ 16
+  pub arities : All (λ a. a < 5) (p .functions)
+  -- "count of own fact symbols (32)"
+  pub few-symbols : length (p .symbols) ≤ 32
+  pub symbols : All OwnWithin (p .symbols)
+  -- "count of rules (64)"
+  pub few-rules : length (p .rules) ≤ 64
+  pub rules : All (RuleWithin (slots (p .functions)) (factArities (p .symbols))) (p .rules)

@@ -1,0 +1,245 @@
+-- What code answers of a rule's terms, facts and lists: the place behind them, and whether one test holds of one of them.
+use Prim.Native.Nat.{ℕ, _≤_, _<_}
+use mathlib.Core.List.{List}
+use mathlib.Core.Bool.{Bool, true, false, _&&_, not}
+use mathlib.Core.Path.{_≡_, refl, ap, ap₂, sym, _∙_}
+use lib.ListN.{length, getD}
+use lib.Dec.{ltb}
+use borrow.Author.Tests.{lt-ltb, le-ltb}
+use Rattle.octets.specs.Choice.{pick, clash}
+use Rattle.number.specs.Groups.{numberLimit}
+use Rattle.number.specs.Reading.{Read, got, fault, andThen, below, many, counted, any, seen}
+use Rattle.number.specs.Reading.Laws.{then-got, then-fault, then-same-at}
+use Rattle.number.specs.Reading.Many.{many-length, counted-got, counted-fault, Came}
+use Rattle.number.specs.declared.Seen.{Seen}
+use Rattle.number.specs.declared.Seen.the-variants as sn
+use Rattle.term.specs.Term.{Term, symbols}
+use Rattle.term.specs.Reader.{term}
+use Rattle.term.specs.Walk.{holds, walked}
+use Rattle.term.specs.declared.Walk.{Walk}
+use Rattle.term.specs.declared.Walk.the-variants as wk
+use Rattle.protocol.specs.Protocol.{Fact, Rule, fact-of, rule-of, leafIn, declared, ruleTerm, fact, facts, layout, rule}
+
+-- ── one test by three numbers ──
+-- a leaf of the kind with this tag, its number from lo on and below hi, stands in a term
+abbrev pub leafAt : ℕ → ℕ → ℕ → Term → Bool
+leafAt kind lo hi t = holds t kind lo hi
+
+-- the symbol of a fact, from lo on and below hi
+abbrev pub symbolIn : ℕ → ℕ → Fact → Bool
+symbolIn lo hi f = not (ltb (f .symbol) lo) && ltb (f .symbol) hi
+
+-- kinds 0, 1, 2 are leaves in the fact's terms, 3 is its symbol
+abbrev pub asks : ℕ → ℕ → ℕ → Fact → Bool
+asks kind lo hi f = pick (ltb kind 3) (leafIn kind lo hi f) (symbolIn lo hi f)
+
+-- in one of the three lists of a rule
+abbrev pub ruleAsks : ℕ → ℕ → ℕ → Rule → Bool
+ruleAsks kind lo hi r = any (any (asks kind lo hi)) (r .parts)
+
+-- ── a term of a rule ──
+abbrev cutWalk : Walk → Seen
+cutWalk (wk.End e n b) = pick (ltb n 65) (sn.End e b) sn.Fault
+cutWalk wk.Fault = sn.Fault
+
+pick-seen : {A : Type 0} (q : A → Bool) (b : Bool) (x : A) (e : ℕ) → seen q (pick b (got x e) fault) ≡ pick b (sn.End e (q x)) sn.Fault
+pick-seen q true x e = refl
+pick-seen q false x e = refl
+
+module _ (kind lo hi : ℕ) where
+  sized-seen :
+      (r : Read Term)
+      → seen (leafAt kind lo hi) (andThen r (λ t e. pick (ltb (symbols t) 65) (got t e) fault)) ≡ cutWalk (walked kind lo hi r)
+  sized-seen (got t e) = pick-seen (leafAt kind lo hi) (ltb (symbols t) 65) t e
+  sized-seen fault = refl
+
+  module _ (s slots : List ℕ) (at : ℕ) where
+    abbrev Term-seen : Seen → Type 0
+    Term-seen r = r ≡ seen (leafAt kind lo hi) (ruleTerm s slots at)
+
+    pub rule-term-seen : {w : Walk} → w ≡ walked kind lo hi (term s slots at) → Term-seen (cutWalk w)
+    unfolding ruleTerm
+    rule-term-seen h = ap cutWalk h ∙ sym (sized-seen (term s slots at))
+
+    pub rule-term-end : {e n : ℕ} {b : Bool} → wk.End e n b ≡ walked kind lo hi (term s slots at) → n < 65 → Term-seen (sn.End e b)
+    rule-term-end {e} {n} {b} h l = simp (lt-ltb n 65 l) at (rule-term-seen h)
+
+    pub rule-term-long : {e n : ℕ} {b : Bool} → wk.End e n b ≡ walked kind lo hi (term s slots at) → 65 ≤ n → Term-seen sn.Fault
+    rule-term-long {e} {n} {b} h l = simp (le-ltb n 65 l) at (rule-term-seen h)
+
+-- ── a fact, from behind its symbol ──
+unfoldable pub factFrom : List ℕ → List ℕ → List ℕ → ℕ → ℕ → Read Fact
+factFrom s slots ars y at = andThen (many (ruleTerm s slots) (getD ars y 0) at) (λ ts f. got (fact-of y ts) f)
+
+module _ (kind lo hi y : ℕ) where
+  abbrev as-fact : Read (List Term) → Seen
+  as-fact r = seen (asks kind lo hi) (andThen r (λ ts f. got (fact-of y ts) f))
+
+  fact-leaves : kind < 3 → (r : Read (List Term)) → as-fact r ≡ seen (any (leafAt kind lo hi)) r
+  fact-leaves l (got ts f) = simp (lt-ltb kind 3 l)
+  fact-leaves l fault = refl
+
+  fact-symbol :
+      3 ≤ kind → (r : Read (List Term)) {e : ℕ} {b : Bool} → sn.End e b ≡ seen (any (leafAt kind lo hi)) r
+      → as-fact r ≡ sn.End e (not (ltb y lo) && ltb y hi)
+  fact-symbol l (got ts f) {e} {b} h = let a : f ≡ e = cc in simp (le-ltb kind 3 l, a)
+  fact-symbol l fault h = clash (cc)
+
+  fact-none : (r : Read (List Term)) → sn.Fault ≡ seen (any (leafAt kind lo hi)) r → as-fact r ≡ sn.Fault
+  fact-none (got ts f) h = clash (cc)
+  fact-none fault h = refl
+
+  module _ (s slots ars : List ℕ) (at : ℕ) where
+    abbrev its-terms : Read (List Term)
+    its-terms = many (ruleTerm s slots) (getD ars y 0) at
+
+    pub from-leaves :
+        kind < 3 → {r : Seen} → r ≡ seen (any (leafAt kind lo hi)) its-terms → r ≡ seen (asks kind lo hi) (factFrom s slots ars y at)
+    unfolding factFrom
+    from-leaves l h = h ∙ sym (fact-leaves l its-terms)
+
+    pub from-symbol :
+        3 ≤ kind → {e : ℕ} {b : Bool} → sn.End e b ≡ seen (any (leafAt kind lo hi)) its-terms
+        → sn.End e (not (ltb y lo) && ltb y hi) ≡ seen (asks kind lo hi) (factFrom s slots ars y at)
+    unfolding factFrom
+    from-symbol l h = sym (fact-symbol l its-terms h)
+
+    pub from-none : sn.Fault ≡ seen (any (leafAt kind lo hi)) its-terms → sn.Fault ≡ seen (asks kind lo hi) (factFrom s slots ars y at)
+    unfolding factFrom
+    from-none h = sym (fact-none its-terms h)
+
+module _ (s slots ars : List ℕ) (at : ℕ) where
+  pub fact-got : {y e : ℕ} → below s (length ars) at ≡ got y e → fact s slots ars at ≡ factFrom s slots ars y e
+  unfolding fact factFrom
+  fact-got h = then-got (below s (length ars) at) _ h
+
+  pub fact-fault : below s (length ars) at ≡ fault → fact s slots ars at ≡ fault
+  unfolding fact
+  fact-fault h = then-fault (below s (length ars) at) _ h
+
+  -- ── a count and that many facts ──
+  pub facts-got : {n e : ℕ} → below s 9 at ≡ got n e → facts s slots ars at ≡ many (fact s slots ars) n e
+  unfolding facts
+  facts-got {n} {e} h = counted-got s (fact s slots ars) 8 at n e h
+
+  pub facts-fault : below s 9 at ≡ fault → facts s slots ars at ≡ fault
+  unfolding facts
+  facts-fault h = counted-fault s (fact s slots ars) 8 at h
+
+-- ── the sorts of the variables ──
+-- the number of variables of the rule at a place, and the place of its premises
+unfoldable pub sortsAt : List ℕ → ℕ → Read ℕ
+sortsAt s at = andThen (counted s 16 (below s 3) at) (λ vs e. got (length vs) e)
+
+-- the sorts of n variables
+unfoldable pub sortsFrom : List ℕ → ℕ → ℕ → Read ℕ
+sortsFrom s n at = andThen (many (below s 3) n at) (λ vs e. got n e)
+
+module _ (s : List ℕ) (n at : ℕ) where
+  pub sorts-came : {i : ℕ} → Came (below s 3) at n i → sortsFrom s n at ≡ got n i
+  unfolding sortsFrom
+  sorts-came c = then-got (many (below s 3) n at) _ (c .there)
+
+  pub sorts-stop : many (below s 3) n at ≡ fault → sortsFrom s n at ≡ fault
+  unfolding sortsFrom
+  sorts-stop h = then-fault (many (below s 3) n at) _ h
+
+module _ (s : List ℕ) (at : ℕ) where
+  pub sorts-got : {n e : ℕ} → below s 17 at ≡ got n e → sortsAt s at ≡ sortsFrom s n e
+  unfolding sortsAt sortsFrom
+  sorts-got {n} {e} h =
+      ap (λ (r : Read (List ℕ)). andThen r (λ vs e. got (length vs) e)) (counted-got s (below s 3) 16 at n e h)
+      ∙ then-same-at (many (below s 3) n e) _ _ (λ vs f k. ap (λ (m : ℕ). got m f) (many-length (below s 3) n e f vs k))
+
+  pub sorts-fault : below s 17 at ≡ fault → sortsAt s at ≡ fault
+  unfolding sortsAt
+  sorts-fault h = ap (λ (r : Read (List ℕ)). andThen r (λ vs e. got (length vs) e)) (counted-fault s (below s 3) 16 at h)
+
+-- ── a rule ──
+pub limit-is : 2097152 ≡ numberLimit
+unfolding numberLimit
+limit-is = refl
+
+-- only the place behind it
+abbrev pub ended : {A : Type 0} → Read A → Seen
+ended {A} r = seen (λ (x : A). false) r
+
+-- a fault where the test holds
+abbrev pub closed : Seen → Seen
+closed (sn.End e b) = pick b sn.Fault (sn.End e false)
+closed sn.Fault = sn.Fault
+
+-- as the code has it
+module _ (n : ℕ) (o : Read (List (List Fact))) {w : Seen} (asked : w ≡ seen (any (any (asks 0 n 2097152))) o) where
+  pub parts-closed : closed w ≡ closed (seen (any (any (asks 0 n numberLimit))) o)
+  parts-closed = ap closed (asked ∙ ap (λ (m : ℕ). seen (any (any (asks 0 n m))) o) limit-is)
+
+  pub parts-by : (e : ℕ) (b : Bool) → w ≡ sn.End e b → pick b sn.Fault (sn.End e false) ≡ closed (seen (any (any (asks 0 n numberLimit))) o)
+  parts-by e b h = ap closed (sym h) ∙ parts-closed
+
+module _ (s slots ars : List ℕ) (at : ℕ) where
+  abbrev lists-from : List ℕ → ℕ → Read Rule
+  lists-from vs e = andThen (many (facts s slots ars) 3 e) (λ ps f. got (rule-of vs ps) f)
+
+  module _ (kind lo hi : ℕ) where
+    parts-seen :
+        (vs : List ℕ) (r : Read (List (List Fact)))
+        → seen (ruleAsks kind lo hi) (andThen r (λ ps f. got (rule-of vs ps) f)) ≡ seen (any (any (asks kind lo hi))) r
+    parts-seen vs (got ps f) = refl
+    parts-seen vs fault = refl
+
+    layout-from :
+        (r : Read (List ℕ)) {n e : ℕ} → andThen r (λ vs e. got (length vs) e) ≡ got n e
+        → seen (ruleAsks kind lo hi) (andThen r lists-from) ≡ seen (any (any (asks kind lo hi))) (many (facts s slots ars) 3 e)
+    layout-from (got vs d) {n} {e} h =
+        let b : d ≡ e = cc in
+        parts-seen vs (many (facts s slots ars) 3 d)
+        ∙ ap (λ (i : ℕ). seen (any (any (asks kind lo hi))) (many (facts s slots ars) 3 i)) b
+    layout-from fault h = clash (cc)
+
+    pub layout-got :
+        {n e : ℕ} → sortsAt s at ≡ got n e
+        → seen (ruleAsks kind lo hi) (layout s slots ars at) ≡ seen (any (any (asks kind lo hi))) (many (facts s slots ars) 3 e)
+    unfolding sortsAt layout
+    layout-got h = layout-from (counted s 16 (below s 3) at) h
+
+  no-sorts : (r : Read (List ℕ)) → andThen r (λ vs e. got (length vs) e) ≡ fault → r ≡ fault
+  no-sorts (got vs d) h = clash (cc)
+  no-sorts fault h = refl
+
+  pub layout-fault : sortsAt s at ≡ fault → layout s slots ars at ≡ fault
+  unfolding sortsAt layout
+  layout-fault h = then-fault (counted s 16 (below s 3) at) _ (no-sorts (counted s 16 (below s 3) at) h)
+
+  -- ── its variables are declared: no leaf of kind 0 from their count on ──
+  by-hit : (t : Bool) (x : Rule) (d : ℕ) → ended (pick (not t) (got x d) fault) ≡ pick t sn.Fault (sn.End d false)
+  by-hit true x d = refl
+  by-hit false x d = refl
+
+  lists-closed :
+      (vs : List ℕ) (o : Read (List (List Fact)))
+      → ended (andThen (andThen o (λ ps f. got (rule-of vs ps) f)) (λ x f. pick (declared x) (got x f) fault))
+      ≡ closed (seen (any (any (asks 0 (length vs) numberLimit))) o)
+  lists-closed vs (got ps f) = by-hit (any (any (leafIn 0 (length vs) numberLimit)) ps) (rule-of vs ps) f
+  lists-closed vs fault = refl
+
+  closed-from :
+      (r : Read (List ℕ)) {n e : ℕ} → andThen r (λ vs e. got (length vs) e) ≡ got n e
+      → ended (andThen (andThen r lists-from) (λ x f. pick (declared x) (got x f) fault))
+      ≡ closed (seen (any (any (asks 0 n numberLimit))) (many (facts s slots ars) 3 e))
+  closed-from (got vs c) {n} {e} h =
+      let a : length vs ≡ n = cc in
+      let k : c ≡ e = cc in
+      lists-closed vs (many (facts s slots ars) 3 c)
+      ∙ ap₂ (λ (m i : ℕ). closed (seen (any (any (asks 0 m numberLimit))) (many (facts s slots ars) 3 i))) a k
+  closed-from fault h = clash (cc)
+
+  pub rule-got :
+      {n e : ℕ} → sortsAt s at ≡ got n e
+      → ended (rule s slots ars at) ≡ closed (seen (any (any (asks 0 n numberLimit))) (many (facts s slots ars) 3 e))
+  unfolding sortsAt rule layout
+  rule-got h = closed-from (counted s 16 (below s 3) at) h
+
+  pub rule-fault : layout s slots ars at ≡ fault → rule s slots ars at ≡ fault
+  unfolding rule
+  rule-fault h = then-fault (layout s slots ars at) _ h

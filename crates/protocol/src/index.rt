@@ -1,0 +1,184 @@
+// The index of a protocol file, filled in one pass over it.
+ghost use mathlib.Core.Path.{_≡_};
+ghost use Prim.Native.Nat.{_^_, _≤_, _<_, _+_};
+ghost use mathlib.Core.List.{[]};
+ghost use lib.ListN.{length};
+ghost use Rattle.number.specs.Reading.{below, many, counted};
+ghost use Rattle.term.specs.Arity.{slots};
+ghost use Rattle.protocol.specs.Protocol.{noRule, rule, own};
+ghost use Rattle.protocol.specs.Index.{Told, Slotted, Tabled, Placed, Indexed};
+ghost use Rattle.protocol.specs.Index.Fill.{asOwn};
+use crate::walks;
+use number::Number;
+use number::Seen;
+
+// The counts of fact symbols (with the four built-in ones) and of rules.
+pub enum Index {
+    Counts(usize, usize),
+    Fault,
+}
+
+// A fact symbol of the protocol's own: arity, persistence, the place behind.
+pub enum OwnRead {
+    Got(u32, u32, usize),
+    Fault,
+}
+
+// The arities of n functions, each into the slot of its tag.
+fn functions_from(s: &[u8], at: usize, n: u32, arities: &mut [u8]) -> Number
+    requires { ⌜ (n ≤ 16) × (length (now arities) ≡ 29) × (now arities ≡ slots []) ⌝ }
+    ensures kept { λ r. ⌜ length (now (arities .exit)) ≡ length (now (arities .entry)) ⌝ }
+    ensures told { λ r. ⌜ Told (many (below (now (s .entry)) 5) n at) (Slotted (now (arities .exit))) r ⌝ }
+{
+    let mut i = at;
+    let mut j: u32 = 0;
+    while j < n {
+        match number::below(s, i, 5) {
+            Number::Value(v, e) => {
+                arities[13 + j as usize] = v as u8;
+                i = e;
+                j += 1;
+            }
+            Number::Fault => {
+                return Number::Fault;
+            }
+        }
+    }
+    Number::Value(n, i)
+}
+
+// The built-in functions' arities; then a count and that many arities.
+fn functions(s: &[u8], at: usize, arities: &mut [u8]) -> Number
+    requires { ⌜ length (now arities) ≡ 29 ⌝ }
+    ensures kept { λ r. ⌜ length (now (arities .exit)) ≡ length (now (arities .entry)) ⌝ }
+    ensures told { λ r. ⌜ Told (counted (now (s .entry)) 16 (below (now (s .entry)) 5) at) (Slotted (now (arities .exit))) r ⌝ }
+{
+    octets::copy_into(
+        arities,
+        0,
+        b"\xff\xff\xff\x00\x02\x02\x01\x02\x01\x01\x02\x01\x02\xff\xff\xff\xff\xff\xff\xff\xff\xff\xff\xff\xff\xff\xff\xff\xff",
+    );
+    match number::below(s, at, 17) {
+        Number::Value(n, e) => functions_from(s, e, n, arities),
+        Number::Fault => Number::Fault,
+    }
+}
+
+// A fact symbol of the protocol's own.
+fn own_at(s: &[u8], at: usize) -> OwnRead
+    ensures { λ r. ⌜ asOwn r ≡ own (now (s .entry)) at ⌝ }
+{
+    let Number::Value(a, e) = number::below(s, at, 9) else {
+        return OwnRead::Fault;
+    };
+    match number::below(s, e, 2) {
+        Number::Value(l, f) => OwnRead::Got(a, l, f),
+        Number::Fault => OwnRead::Fault,
+    }
+}
+
+// The built-in fact symbols, then the arities and flags of n own ones.
+fn symbols_from(s: &[u8], at: usize, n: u32, ars: &mut [u8], flags: &mut [u8]) -> Number
+    requires { ⌜ (n ≤ 32) × (36 ≤ length (now ars)) × (36 ≤ length (now flags)) ⌝ }
+    ensures kept { λ r. ⌜ (length (now (ars .exit)) ≡ length (now (ars .entry))) × (length (now (flags .exit)) ≡ length (now (flags .entry))) ⌝ }
+    ensures told { λ r. ⌜ Told (many (own (now (s .entry))) n at) (Tabled (now (ars .exit)) (now (flags .exit))) r ⌝ }
+{
+    octets::copy_into(ars, 0, b"\x01\x01\x01\x01");
+    octets::copy_into(flags, 0, b"\x00\x00\x00\x01");
+    let mut i = at;
+    let mut j: u32 = 0;
+    while j < n {
+        match own_at(s, i) {
+            OwnRead::Got(a, l, e) => {
+                let k = j as usize + 4;
+                ars[k] = a as u8;
+                flags[k] = l as u8;
+                i = e;
+                j += 1;
+            }
+            OwnRead::Fault => {
+                return Number::Fault;
+            }
+        }
+    }
+    Number::Value(n, i)
+}
+
+fn symbols(s: &[u8], at: usize, ars: &mut [u8], flags: &mut [u8]) -> Number
+    requires { ⌜ (36 ≤ length (now ars)) × (36 ≤ length (now flags)) ⌝ }
+    ensures kept { λ r. ⌜ (length (now (ars .exit)) ≡ length (now (ars .entry))) × (length (now (flags .exit)) ≡ length (now (flags .entry))) ⌝ }
+    ensures told { λ r. ⌜ Told (counted (now (s .entry)) 32 (own (now (s .entry))) at) (Tabled (now (ars .exit)) (now (flags .exit))) r ⌝ }
+{
+    match number::below(s, at, 33) {
+        Number::Value(n, e) => symbols_from(s, e, n, ars, flags),
+        Number::Fault => Number::Fault,
+    }
+}
+
+// The places of n rules.
+fn rules_from(
+    s: &[u8],
+    arities: &[u8],
+    ars: &[u8],
+    at: usize,
+    n: u32,
+    places: &mut [usize],
+) -> Number
+    requires { ⌜ (length (now s) ≤ 2 ^ 32) × (n ≤ 64) × (64 ≤ length (now places)) ⌝ }
+    ensures kept { λ r. ⌜ length (now (places .exit)) ≡ length (now (places .entry)) ⌝ }
+    ensures told { λ r. ⌜ Told (many (rule (now (s .entry)) (now (arities .entry)) (now (ars .entry))) n at) (Placed (rule (now (s .entry)) (now (arities .entry)) (now (ars .entry))) noRule (now (places .exit))) r ⌝ }
+{
+    let mut i = at;
+    let mut j: u32 = 0;
+    while j < n {
+        match walks::one_rule(s, arities, ars, i) {
+            Seen::End(e, _) => {
+                places[j as usize] = i;
+                i = e;
+                j += 1;
+            }
+            Seen::Fault => {
+                return Number::Fault;
+            }
+        }
+    }
+    Number::Value(n, i)
+}
+
+fn rules(s: &[u8], arities: &[u8], ars: &[u8], at: usize, places: &mut [usize]) -> Number
+    requires { ⌜ (length (now s) ≤ 2 ^ 32) × (64 ≤ length (now places)) ⌝ }
+    ensures kept { λ r. ⌜ length (now (places .exit)) ≡ length (now (places .entry)) ⌝ }
+    ensures told { λ r. ⌜ Told (counted (now (s .entry)) 64 (rule (now (s .entry)) (now (arities .entry)) (now (ars .entry))) at) (Placed (rule (now (s .entry)) (now (arities .entry)) (now (ars .entry))) noRule (now (places .exit))) r ⌝ }
+{
+    match number::below(s, at, 65) {
+        Number::Value(n, e) => rules_from(s, arities, ars, e, n, places),
+        Number::Fault => Number::Fault,
+    }
+}
+
+// One pass over a protocol file: the counts and the filled index, or a fault.
+pub fn read_protocol(
+    s: &[u8],
+    arities: &mut [u8],
+    ars: &mut [u8],
+    flags: &mut [u8],
+    places: &mut [usize],
+) -> Index
+    requires { ⌜ (length (now s) ≤ 2 ^ 32) × (length (now arities) ≡ 29) × (36 ≤ length (now ars)) × (36 ≤ length (now flags)) × (64 ≤ length (now places)) ⌝ }
+    ensures { λ r. ⌜ Indexed (now (s .entry)) r (now (arities .exit)) (now (ars .exit)) (now (flags .exit)) (now (places .exit)) ⌝ }
+{
+    let Number::Value(_, e) = functions(s, 0, arities) else {
+        return Index::Fault;
+    };
+    let Number::Value(no, f) = symbols(s, e, ars, flags) else {
+        return Index::Fault;
+    };
+    let m = no as usize + 4;
+    let Number::Value(nr, g) = rules(s, arities, &ars[..m], f, places) else {
+        return Index::Fault;
+    };
+    if g == s.len() {
+        return Index::Counts(m, nr as usize);
+    }
+    Index::Fault
+}

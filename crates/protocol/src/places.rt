@@ -1,0 +1,107 @@
+// The places in a rule: its lists, their facts, their terms; its variables and their sorts.
+ghost use mathlib.Core.Path.{_≡_};
+ghost use Prim.Native.Nat.{_^_, _≤_};
+ghost use lib.ListN.{length};
+ghost use Rattle.number.specs.Reading.{below};
+ghost use Rattle.protocol.specs.Protocol.Walks.{sortsAt};
+ghost use Rattle.protocol.specs.Places.{valueOf, sortOf, listPlace, factPlace, termPlace};
+ghost use Rattle.protocol.specs.Places.Steps.{endOf, sortFrom};
+use crate::walks;
+use number::Number;
+use number::Seen;
+
+// The end of a walk; 0 for a fault.
+fn end_of(r: Seen) -> usize
+    ensures { λ e. ⌜ e ≡ endOf r ⌝ }
+{
+    match r {
+        Seen::End(e, _) => e,
+        Seen::Fault => 0,
+    }
+}
+
+// A number below n at a place; 0 where there is none.
+fn value_below(s: &[u8], at: usize, n: usize) -> usize
+    ensures { λ r. ⌜ r ≡ valueOf (below (now (s .entry)) n at) ⌝ }
+{
+    match number::below(s, at, n) {
+        Number::Value(v, _) => v as usize,
+        Number::Fault => 0,
+    }
+}
+
+// How many variables the rule at a place has.
+pub fn variables_of(s: &[u8], at: usize) -> usize
+    ensures { λ r. ⌜ r ≡ valueOf (sortsAt (now (s .entry)) at) ⌝ }
+{
+    match walks::sorts_at(s, at) {
+        Number::Value(n, _) => n as usize,
+        Number::Fault => 0,
+    }
+}
+
+fn sort_from(s: &[u8], at: usize, v: u32) -> usize
+    ensures { λ r. ⌜ r ≡ valueOf (sortFrom (now (s .entry)) v at) ⌝ }
+{
+    match walks::sorts_end(s, at, v) {
+        Number::Value(_, e) => value_below(s, e, 3),
+        Number::Fault => 0,
+    }
+}
+
+// The sort of variable v of the rule at a place: 0 message, 1 fresh, 2 public.
+pub fn sort_of(s: &[u8], at: usize, v: u32) -> usize
+    ensures { λ r. ⌜ r ≡ valueOf (sortOf (now (s .entry)) at v) ⌝ }
+{
+    match number::below(s, at, 17) {
+        Number::Value(_, e) => sort_from(s, e, v),
+        Number::Fault => 0,
+    }
+}
+
+// The place of list w of the rule at a place: 0 premises, 1 actions, 2 conclusions.
+pub fn list_at(s: &[u8], arities: &[u8], ars: &[u8], at: usize, w: usize) -> usize
+    requires { ⌜ length (now s) ≤ 2 ^ 32 ⌝ }
+    ensures { λ r. ⌜ r ≡ listPlace (now (s .entry)) (now (arities .entry)) (now (ars .entry)) at w ⌝ }
+{
+    match walks::sorts_at(s, at) {
+        Number::Value(_, e) => end_of(walks::some_parts(s, arities, ars, e, w, 0, 0, 0)),
+        Number::Fault => 0,
+    }
+}
+
+// How many facts the list at a place has.
+pub fn count_of(s: &[u8], at: usize) -> usize
+    ensures { λ r. ⌜ r ≡ valueOf (below (now (s .entry)) 9 at) ⌝ }
+{
+    value_below(s, at, 9)
+}
+
+// The place of fact i of the list at a place.
+pub fn fact_at(s: &[u8], arities: &[u8], ars: &[u8], at: usize, i: usize) -> usize
+    requires { ⌜ length (now s) ≤ 2 ^ 32 ⌝ }
+    ensures { λ r. ⌜ r ≡ factPlace (now (s .entry)) (now (arities .entry)) (now (ars .entry)) at i ⌝ }
+{
+    match number::below(s, at, 9) {
+        Number::Value(_, e) => end_of(walks::some_facts(s, arities, ars, e, i, 0, 0, 0)),
+        Number::Fault => 0,
+    }
+}
+
+// The symbol of the fact at a place.
+pub fn symbol_of(s: &[u8], ars: &[u8], at: usize) -> usize
+    ensures { λ r. ⌜ r ≡ valueOf (below (now (s .entry)) (length (now (ars .entry))) at) ⌝ }
+{
+    value_below(s, at, ars.len())
+}
+
+// The place of term j of the fact at a place.
+pub fn term_at(s: &[u8], arities: &[u8], ars: &[u8], at: usize, j: usize) -> usize
+    requires { ⌜ length (now s) ≤ 2 ^ 32 ⌝ }
+    ensures { λ r. ⌜ r ≡ termPlace (now (s .entry)) (now (arities .entry)) (now (ars .entry)) at j ⌝ }
+{
+    match number::below(s, at, ars.len()) {
+        Number::Value(_, e) => end_of(walks::rule_terms(s, arities, e, j, 0, 0, 0)),
+        Number::Fault => 0,
+    }
+}

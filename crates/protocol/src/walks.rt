@@ -1,0 +1,264 @@
+// The walks over a rule: its terms, its facts, its lists. Each tells the place behind, and whether one test, by three numbers, holds.
+ghost use mathlib.Core.Path.{_≡_};
+ghost use Prim.Native.Nat.{_^_, _≤_, _<_, _+_};
+ghost use lib.ListN.{length};
+ghost use Rattle.number.specs.Groups.{numberLimit};
+ghost use Rattle.number.specs.Reading.{many, asRead, seen, any};
+ghost use Rattle.protocol.specs.Protocol.{ruleTerm, fact, facts, layout, rule};
+ghost use Rattle.protocol.specs.Protocol.Walks.{leafAt, asks, ruleAsks, factFrom, sortsFrom, sortsAt, ended, closed};
+use number::Number;
+use number::Seen;
+use term::Walk;
+
+// The numbers that a file can hold are below this.
+pub const NUMBER_LIMIT: usize = 2097152;
+
+// A term of a rule, 64 symbols at most, and whether a leaf of that kind, from lo on and below hi, stands in it.
+fn rule_term(s: &[u8], arities: &[u8], at: usize, kind: usize, lo: usize, hi: usize) -> Seen
+    requires { ⌜ length (now s) ≤ 2 ^ 32 ⌝ }
+    ensures { λ r. ⌜ r ≡ seen (leafAt kind lo hi) (ruleTerm (now (s .entry)) (now (arities .entry)) at) ⌝ }
+{
+    match term::walk_term(s, arities, at, kind, lo, hi) {
+        Walk::End(e, n, h) => {
+            if n < 65 {
+                return Seen::End(e, h);
+            }
+            Seen::Fault
+        }
+        Walk::Fault => Seen::Fault,
+    }
+}
+
+// n terms.
+pub fn rule_terms(
+    s: &[u8],
+    arities: &[u8],
+    at: usize,
+    n: usize,
+    kind: usize,
+    lo: usize,
+    hi: usize,
+) -> Seen
+    requires { ⌜ length (now s) ≤ 2 ^ 32 ⌝ }
+    ensures { λ r. ⌜ r ≡ seen (any (leafAt kind lo hi)) (many (ruleTerm (now (s .entry)) (now (arities .entry))) n at) ⌝ }
+{
+    let mut i = at;
+    let mut j: usize = 0;
+    let mut found = false;
+    while j < n {
+        match rule_term(s, arities, i, kind, lo, hi) {
+            Seen::End(e, h) => {
+                i = e;
+                found = found | h;
+                j += 1;
+            }
+            Seen::Fault => {
+                return Seen::Fault;
+            }
+        }
+    }
+    Seen::End(i, found)
+}
+
+// The terms of a fact of the symbol y; the test is of its terms (kinds 0 to 2) or of its symbol (3).
+fn fact_from(
+    s: &[u8],
+    arities: &[u8],
+    ars: &[u8],
+    y: usize,
+    at: usize,
+    kind: usize,
+    lo: usize,
+    hi: usize,
+) -> Seen
+    requires { ⌜ (length (now s) ≤ 2 ^ 32) × (y < length (now ars)) ⌝ }
+    ensures { λ r. ⌜ r ≡ seen (asks kind lo hi) (factFrom (now (s .entry)) (now (arities .entry)) (now (ars .entry)) y at) ⌝ }
+{
+    match rule_terms(s, arities, at, ars[y] as usize, kind, lo, hi) {
+        Seen::End(e, h) => {
+            if kind < 3 {
+                return Seen::End(e, h);
+            }
+            Seen::End(e, !(y < lo) & (y < hi))
+        }
+        Seen::Fault => Seen::Fault,
+    }
+}
+
+// A fact.
+pub fn one_fact(
+    s: &[u8],
+    arities: &[u8],
+    ars: &[u8],
+    at: usize,
+    kind: usize,
+    lo: usize,
+    hi: usize,
+) -> Seen
+    requires { ⌜ length (now s) ≤ 2 ^ 32 ⌝ }
+    ensures { λ r. ⌜ r ≡ seen (asks kind lo hi) (fact (now (s .entry)) (now (arities .entry)) (now (ars .entry)) at) ⌝ }
+{
+    match number::below(s, at, ars.len()) {
+        Number::Value(y, e) => fact_from(s, arities, ars, y as usize, e, kind, lo, hi),
+        Number::Fault => Seen::Fault,
+    }
+}
+
+// n facts.
+pub fn some_facts(
+    s: &[u8],
+    arities: &[u8],
+    ars: &[u8],
+    at: usize,
+    n: usize,
+    kind: usize,
+    lo: usize,
+    hi: usize,
+) -> Seen
+    requires { ⌜ length (now s) ≤ 2 ^ 32 ⌝ }
+    ensures { λ r. ⌜ r ≡ seen (any (asks kind lo hi)) (many (fact (now (s .entry)) (now (arities .entry)) (now (ars .entry))) n at) ⌝ }
+{
+    let mut i = at;
+    let mut j: usize = 0;
+    let mut found = false;
+    while j < n {
+        match one_fact(s, arities, ars, i, kind, lo, hi) {
+            Seen::End(e, h) => {
+                i = e;
+                found = found | h;
+                j += 1;
+            }
+            Seen::Fault => {
+                return Seen::Fault;
+            }
+        }
+    }
+    Seen::End(i, found)
+}
+
+// A count and that many facts: the premises, the actions or the conclusions of a rule.
+pub fn one_part(
+    s: &[u8],
+    arities: &[u8],
+    ars: &[u8],
+    at: usize,
+    kind: usize,
+    lo: usize,
+    hi: usize,
+) -> Seen
+    requires { ⌜ length (now s) ≤ 2 ^ 32 ⌝ }
+    ensures { λ r. ⌜ r ≡ seen (any (asks kind lo hi)) (facts (now (s .entry)) (now (arities .entry)) (now (ars .entry)) at) ⌝ }
+{
+    match number::below(s, at, 9) {
+        Number::Value(n, e) => some_facts(s, arities, ars, e, n as usize, kind, lo, hi),
+        Number::Fault => Seen::Fault,
+    }
+}
+
+// n lists of facts.
+pub fn some_parts(
+    s: &[u8],
+    arities: &[u8],
+    ars: &[u8],
+    at: usize,
+    n: usize,
+    kind: usize,
+    lo: usize,
+    hi: usize,
+) -> Seen
+    requires { ⌜ length (now s) ≤ 2 ^ 32 ⌝ }
+    ensures { λ r. ⌜ r ≡ seen (any (any (asks kind lo hi))) (many (facts (now (s .entry)) (now (arities .entry)) (now (ars .entry))) n at) ⌝ }
+{
+    let mut i = at;
+    let mut j: usize = 0;
+    let mut found = false;
+    while j < n {
+        match one_part(s, arities, ars, i, kind, lo, hi) {
+            Seen::End(e, h) => {
+                i = e;
+                found = found | h;
+                j += 1;
+            }
+            Seen::Fault => {
+                return Seen::Fault;
+            }
+        }
+    }
+    Seen::End(i, found)
+}
+
+// The sorts of n variables, which begin at a place.
+pub fn sorts_end(s: &[u8], at: usize, n: u32) -> Number
+    ensures { λ r. ⌜ asRead r ≡ sortsFrom (now (s .entry)) n at ⌝ }
+{
+    let mut i = at;
+    let mut j: u32 = 0;
+    while j < n {
+        match number::below(s, i, 3) {
+            Number::Value(_, e) => {
+                i = e;
+                j += 1;
+            }
+            Number::Fault => {
+                return Number::Fault;
+            }
+        }
+    }
+    Number::Value(n, i)
+}
+
+// How many variables the rule at a place has, and the place of its premises.
+pub fn sorts_at(s: &[u8], at: usize) -> Number
+    ensures { λ r. ⌜ asRead r ≡ sortsAt (now (s .entry)) at ⌝ }
+{
+    match number::below(s, at, 17) {
+        Number::Value(n, e) => sorts_end(s, e, n),
+        Number::Fault => Number::Fault,
+    }
+}
+
+// The layout of a rule, and whether the test holds of one of its facts.
+pub fn one_layout(
+    s: &[u8],
+    arities: &[u8],
+    ars: &[u8],
+    at: usize,
+    kind: usize,
+    lo: usize,
+    hi: usize,
+) -> Seen
+    requires { ⌜ length (now s) ≤ 2 ^ 32 ⌝ }
+    ensures { λ r. ⌜ r ≡ seen (ruleAsks kind lo hi) (layout (now (s .entry)) (now (arities .entry)) (now (ars .entry)) at) ⌝ }
+{
+    match sorts_at(s, at) {
+        Number::Value(_, e) => some_parts(s, arities, ars, e, 3, kind, lo, hi),
+        Number::Fault => Seen::Fault,
+    }
+}
+
+// The three lists of a rule of n variables: no variable from n on stands in them.
+fn closed_parts(s: &[u8], arities: &[u8], ars: &[u8], at: usize, n: usize) -> Seen
+    requires { ⌜ length (now s) ≤ 2 ^ 32 ⌝ }
+    ensures { λ r. ⌜ r ≡ closed (seen (any (any (asks 0 n numberLimit))) (many (facts (now (s .entry)) (now (arities .entry)) (now (ars .entry))) 3 at)) ⌝ }
+{
+    match some_parts(s, arities, ars, at, 3, 0, n, NUMBER_LIMIT) {
+        Seen::End(e, h) => {
+            if h {
+                return Seen::Fault;
+            }
+            Seen::End(e, false)
+        }
+        Seen::Fault => Seen::Fault,
+    }
+}
+
+// A rule: its layout, and each variable in it declared.
+pub fn one_rule(s: &[u8], arities: &[u8], ars: &[u8], at: usize) -> Seen
+    requires { ⌜ length (now s) ≤ 2 ^ 32 ⌝ }
+    ensures { λ r. ⌜ r ≡ ended (rule (now (s .entry)) (now (arities .entry)) (now (ars .entry)) at) ⌝ }
+{
+    match sorts_at(s, at) {
+        Number::Value(n, e) => closed_parts(s, arities, ars, e, n as usize),
+        Number::Fault => Seen::Fault,
+    }
+}

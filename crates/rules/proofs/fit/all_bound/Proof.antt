@@ -1,0 +1,67 @@
+use borrow.Author.Needs.{needs}
+use Rattle.rules.specs.Fit.Laws.{OfRule, all-none, all-more, all-stop, false-of, true-of}
+use Rattle.rules.specs.Fit.{bound, allBelow}
+use Rattle.protocol.specs.Protocol.{Rule}
+use mathlib.Core.Path.{_≡_, ap, sym, _∙_}
+use mathlib.Core.Bool.{true}
+use lib.ListN.{length}
+use Prim.Native.Nat.{_-_, _≤_}
+use native.Mathlib.Omega.{arith}
+use Rattle.rules.proofs.fit.all_bound.Statement.{statement}
+use Rattle.rules.proofs.fit.all_bound.Tie as tie
+
+abbrev Inv-loop : tie.InvT-loop
+Inv-loop s arities ars at n j₀ j =
+    (j ≤ n) × OfRule s arities ars at (λ (r : Rule). n ≤ length (r .sorts) → allBelow (bound r) j ≡ true)
+
+abbrev μ-loop : tie.MeasureT-loop
+μ-loop s arities ars at n j₀ j =
+    n - j
+
+-- src/fit.rt:87:5
+loop-holds : tie.Need-loop-holds Inv-loop μ-loop
+loop-holds c =
+    (search needs, (λ r h l. all-none _))
+
+-- src/fit.rt:88:13
+is-bound-requires : tie.Need-is-bound-requires Inv-loop μ-loop
+is-bound-requires c κs = search needs
+
+-- src/fit.rt:89:13
+returns : tie.Need-returns Inv-loop μ-loop
+returns c =
+    λ r h l. sym (all-stop (bound r) (c .before .before .before .before .before .before .before .args .n) (c .before .before .before .loop .j) (sym (c .before .is-bound .ensures r h (omega arith)) ∙ false-of _ (c .if1 .taken)) (c .before .before .loop-test .taken))
+
+-- src/fit.rt:91:9
+add-j : tie.Need-add-j Inv-loop μ-loop
+add-j c = search needs
+
+-- src/fit.rt:87:5
+loop-less : tie.Need-loop-less Inv-loop μ-loop
+loop-less c = search needs
+
+-- src/fit.rt:87:5
+loop-again : tie.Need-loop-again Inv-loop μ-loop
+loop-again c =
+    (search needs, (λ r h l. all-more (bound r) (c .before .before .before .loop .j) (c .before .before .before .loop .inv .1 r h l) (sym (c .before .is-bound .ensures r h (omega arith)) ∙ true-of _ (c .if1 .left))))
+
+-- src/fit.rt:82:1
+returns-2 : tie.Need-returns-2 Inv-loop μ-loop
+returns-2 c =
+    λ r h l.
+    let m : c .before .loop .j ≡ c .before .before .before .before .before .args .n = omega arith in
+    sym (ap (allBelow (bound r)) (sym m) ∙ c .before .loop .inv .1 r h l)
+
+pub all-bound-spec : {M : Type 1} → statement M
+all-bound-spec =
+    tie.close
+    (tie.spec
+    Inv-loop
+    μ-loop
+    loop-holds
+    is-bound-requires
+    returns
+    add-j
+    loop-less
+    loop-again
+    returns-2)

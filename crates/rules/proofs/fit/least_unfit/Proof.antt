@@ -1,0 +1,83 @@
+use borrow.Author.Needs.{needs}
+use Rattle.rules.specs.Fit.Laws.{unfit, placed-fits, least-none, least-more, least-hit}
+use Rattle.rules.specs.Fit.{least}
+use Rattle.protocol.specs.Index.{Placed}
+use Rattle.protocol.specs.Protocol.{Rule, noRule, rule}
+use mathlib.Core.Path.{_≡_, ap, sym, _∙_}
+use mathlib.Core.List.{List}
+use Prim.Native.Nat.{_-_, _≤_}
+use denote.Ref.{now}
+use native.Mathlib.Omega.{arith}
+use Rattle.rules.proofs.fit.least_unfit.Statement.{statement}
+use Rattle.rules.proofs.fit.least_unfit.Tie as tie
+
+abbrev Inv-loop : tie.InvT-loop
+Inv-loop s arities ars places n j₀ j =
+    (j ≤ n) × ((rs : List Rule) → Placed (rule s arities ars) noRule places rs n → least (unfit rs) j ≡ 0)
+
+abbrev μ-loop : tie.MeasureT-loop
+μ-loop s arities ars places n j₀ j =
+    n - j
+
+-- src/fit.rt:126:5
+loop-holds : tie.Need-loop-holds Inv-loop μ-loop
+loop-holds c =
+    (search needs, (λ rs h. least-none _))
+
+-- src/fit.rt:127:40
+mul-rule-fits : tie.Need-mul-rule-fits Inv-loop μ-loop
+mul-rule-fits c = search needs
+
+-- src/fit.rt:127:40
+shared-slice-read-rule-fits : tie.Need-shared-slice-read-rule-fits Inv-loop μ-loop
+shared-slice-read-rule-fits c = search needs
+
+-- src/fit.rt:127:13
+rule-fits-requires : tie.Need-rule-fits-requires Inv-loop μ-loop
+rule-fits-requires c κs = search needs
+
+-- src/fit.rt:128:20
+add-result : tie.Need-add-result Inv-loop μ-loop
+add-result c = search needs
+
+-- src/fit.rt:128:13
+returns : tie.Need-returns Inv-loop μ-loop
+returns c =
+    λ rs h. sym (least-hit (unfit rs) (c .before .before .before .before .before .before .before .before .before .args .n) (c .before .before .before .before .loop .j) (c .before .before .before .before .loop .inv .1 rs h) (sym (placed-fits (now (c .before .before .before .before .before .before .before .before .before .args .s)) (now (c .before .before .before .before .before .before .before .before .before .args .arities)) (now (c .before .before .before .before .before .before .before .before .before .args .ars)) (now (c .before .before .before .before .before .before .before .before .before .args .places)) (c .before .before .before .before .before .before .before .before .before .args .n) (c .before .before .before .before .loop .j) _ rs h (c .before .before .before .loop-test .taken) (c .before .rule-fits .ensures)) ∙ c .if1 .taken) (c .before .before .before .loop-test .taken))
+
+-- src/fit.rt:130:9
+add-j : tie.Need-add-j Inv-loop μ-loop
+add-j c = search needs
+
+-- src/fit.rt:126:5
+loop-less : tie.Need-loop-less Inv-loop μ-loop
+loop-less c = search needs
+
+-- src/fit.rt:126:5
+loop-again : tie.Need-loop-again Inv-loop μ-loop
+loop-again c =
+    (search needs, (λ rs h. least-more (unfit rs) (c .before .before .before .before .loop .j) (c .before .before .before .before .loop .inv .1 rs h) (sym (placed-fits (now (c .before .before .before .before .before .before .before .before .before .args .s)) (now (c .before .before .before .before .before .before .before .before .before .args .arities)) (now (c .before .before .before .before .before .before .before .before .before .args .ars)) (now (c .before .before .before .before .before .before .before .before .before .args .places)) (c .before .before .before .before .before .before .before .before .before .args .n) (c .before .before .before .before .loop .j) _ rs h (c .before .before .before .loop-test .taken) (c .before .rule-fits .ensures)) ∙ c .if1 .left)))
+
+-- src/fit.rt:121:1
+returns-2 : tie.Need-returns-2 Inv-loop μ-loop
+returns-2 c =
+    λ rs h.
+    let m : c .before .loop .j ≡ c .before .before .before .before .before .before .args .n = omega arith in
+    sym (ap (least (unfit rs)) (sym m) ∙ c .before .loop .inv .1 rs h)
+
+pub least-unfit-spec : {M : Type 1} → statement M
+least-unfit-spec =
+    tie.close
+    (tie.spec
+    Inv-loop
+    μ-loop
+    loop-holds
+    mul-rule-fits
+    shared-slice-read-rule-fits
+    rule-fits-requires
+    add-result
+    returns
+    add-j
+    loop-less
+    loop-again
+    returns-2)

@@ -1,0 +1,179 @@
+-- The tests of a rule as the code makes them, the least of several, and the judgement of a file.
+use Prim.Native.Nat.{ℕ, zero, suc, _+_, _≤_, _<_}
+use mathlib.Core.List.{List}
+use mathlib.Core.Bool.{Bool, true, false, _||_, _&&_, not}
+use mathlib.Core.Path.{_≡_, refl, ap, ap₂, sym, _∙_, subst}
+use native.Mathlib.Omega.{arith}
+use native.Mathlib.Numerals.{add-one}
+use lib.ListN.{length, getD, take}
+use lib.Dec.{eqb}
+use borrow.Author.Tests.{ne-eqb}
+use Rattle.octets.specs.Choice.{pick, by-size, clash}
+use Rattle.number.specs.Reading.{Read, got, fault, any, seen}
+use Rattle.number.specs.declared.Seen.{Seen}
+use Rattle.number.specs.declared.Seen.the-variants as sn
+use Rattle.protocol.specs.Protocol.{Rule, part, noRule, premises, conclusions, facts, layout, rule, protocol}
+use Rattle.protocol.specs.Protocol.Walks.{asks, ruleAsks, sortsAt, layout-fault, limit-is}
+use Rattle.protocol.specs.Places.{Here, valueOf, listPlace, sortOf}
+use Rattle.protocol.specs.Places.Laws.{vars-law, list-law, sort-law, rule-layout}
+use Rattle.protocol.specs.Index.{Entries, Indexed, Placed}
+use Rattle.protocol.specs.declared.index.Index.{Index}
+use Rattle.protocol.specs.declared.index.Index.the-variants as ix
+use Rattle.rules.specs.declared.fit.Judged.{Judged}
+use Rattle.rules.specs.declared.fit.Judged.the-variants as jd
+use Rattle.rules.specs.Fit.{p1, p4, bound, allBelow, fits, least, Verdict, sound, broken, malformed, outcome, judged}
+
+-- ── what code has of a test ──
+abbrev pub hitOf : Seen → Bool
+hitOf (sn.End e b) = b
+hitOf sn.Fault = false
+
+hit-is : {A : Type 0} (q : A → Bool) (r : Read A) {w : Seen} {x : A} {e : ℕ} → w ≡ seen q r → r ≡ got x e → hitOf w ≡ q x
+hit-is q r h k = ap hitOf (h ∙ ap (seen q) k)
+
+-- the rule at a place, whatever rule that is, has this property
+abbrev pub OfRule : List ℕ → List ℕ → List ℕ → ℕ → (Rule → Type 0) → Type 0
+OfRule s slots ars at P = (r : Rule) → Here (layout s slots ars) r at → P r
+
+module _ (s slots ars : List ℕ) (at : ℕ) where
+  -- the answer on list w of the rule
+  pub list-asked :
+      (w kind lo hi l : ℕ) {o : Seen} {b : Bool} → w < 3 → b ≡ hitOf o → l ≡ listPlace s slots ars at w
+      → o ≡ seen (any (asks kind lo hi)) (facts s slots ars l) → OfRule s slots ars at (λ r. b ≡ any (asks kind lo hi) (part w r))
+  list-asked w kind lo hi l {o} {b} small hb hl ho r h =
+      hb ∙ hit-is (any (asks kind lo hi)) (facts s slots ars l) ho
+      (ap (facts s slots ars) hl ∙ list-law s slots ars at r h w small .reads)
+
+  -- the answer on all of the rule
+  pub rule-asked :
+      (kind lo hi : ℕ) {o : Seen} {b : Bool} → b ≡ hitOf o → o ≡ seen (ruleAsks kind lo hi) (layout s slots ars at)
+      → OfRule s slots ars at (λ r. b ≡ ruleAsks kind lo hi r)
+  rule-asked kind lo hi hb ho r h = hb ∙ hit-is (ruleAsks kind lo hi) (layout s slots ars at) ho (h .reads)
+
+  -- P1, with the limit as the code has it
+  pub fresh-asked : (b : Bool) (r : Rule) → b ≡ ruleAsks 2 0 2097152 r → not b ≡ p1 r
+  fresh-asked b r h = ap not h ∙ ap (λ (m : ℕ). not (ruleAsks 2 0 m r)) limit-is
+
+  -- a variable that the code finds bound
+  pub bound-is :
+      (v m : ℕ) (b a c : Bool) → b ≡ eqb m 2 → m ≡ valueOf (sortOf s at v)
+      → OfRule s slots ars at (λ r. a ≡ any (asks 0 v (v + 1)) (premises r))
+      → OfRule s slots ars at (λ r. c ≡ any (asks 0 v (v + 1)) (conclusions r))
+      → OfRule s slots ars at (λ r. v < length (r .sorts) → (b || (a || not c)) ≡ bound r v)
+  bound-is v m b a c hb hm ha hc r h l =
+      ap₂ _||_ (hb ∙ ap (λ (k : ℕ). eqb k 2) (hm ∙ sort-law s slots ars at r h v l))
+      (ap₂ (λ (x y : Bool). x || not y) (ha r h) (hc r h))
+
+  -- all of them
+  pub all-is :
+      (n d : ℕ) (b : Bool) → sortsAt s at ≡ got n d
+      → OfRule s slots ars at (λ r. n ≤ length (r .sorts) → b ≡ allBelow (bound r) n) → OfRule s slots ars at (λ r. b ≡ p4 r)
+  all-is n d b hn f r h =
+      let z : n ≡ length (r .sorts) = ap valueOf (sym hn) ∙ vars-law s slots ars at r h in
+      f r h (omega arith) ∙ ap (allBelow (bound r)) z
+
+  -- no rule there
+  pub none-there : (P : Rule → Type 0) → sortsAt s at ≡ fault → OfRule s slots ars at P
+  none-there P n r h = let k = layout-fault s slots ars at n in let g = h .reads in clash (cc)
+
+-- ── all numbers below n, and the least ──
+module _ (q : ℕ → Bool) where
+  pub all-none : allBelow q 0 ≡ true
+  unfolding allBelow
+  all-none = refl
+
+  pub all-more : (j : ℕ) → allBelow q j ≡ true → q j ≡ true → allBelow q (j + 1) ≡ true
+  unfolding allBelow
+  all-more j h k = rw add-one (ap₂ _&&_ h k)
+
+  and-false : (b : Bool) → (b && false) ≡ false
+  and-false true = refl
+  and-false false = refl
+
+  pub all-stop : (n j : ℕ) → q j ≡ false → j < n → allBelow q n ≡ false
+  unfolding allBelow
+  all-stop zero j h l = absurd (omega arith)
+  all-stop (suc n) j h l =
+      by-size j n
+      (λ k. ap (λ (b : Bool). b && q n) (all-stop n j h k))
+      (λ k. let e : n ≡ j = omega arith in ap (λ (b : Bool). allBelow q n && b) (ap q e ∙ h) ∙ and-false (allBelow q n))
+
+  pub least-none : least q 0 ≡ 0
+  unfolding least
+  least-none = refl
+
+  pub least-more : (j : ℕ) → least q j ≡ 0 → q j ≡ false → least q (j + 1) ≡ 0
+  unfolding least
+  least-more j h k = rw add-one (ap₂ (λ (m : ℕ) (b : Bool). pick (eqb m 0) (pick b (suc j) 0) m) h k)
+
+  stays : (n j : ℕ) → least q n ≡ suc j → least q (suc n) ≡ suc j
+  unfolding least
+  stays n j h =
+      ap (λ (m : ℕ). pick (eqb m 0) (pick (q n) (suc n) 0) m) h ∙ simp (ne-eqb (suc j) 0 (λ e. omega arith))
+
+  hit-here : (n j : ℕ) → least q j ≡ 0 → q j ≡ true → n ≡ j → least q (suc n) ≡ j + 1
+  unfolding least
+  hit-here n j h k e =
+      let z : suc n ≡ j + 1 = omega arith in
+      ap₂ (λ (m : ℕ) (b : Bool). pick (eqb m 0) (pick b (suc n) 0) m) (ap (least q) e ∙ h) (ap q e ∙ k) ∙ z
+
+  pub least-hit : (n j : ℕ) → least q j ≡ 0 → q j ≡ true → j < n → least q n ≡ j + 1
+  unfolding least
+  least-hit zero j h k l = absurd (omega arith)
+  least-hit (suc n) j h k l =
+      by-size j n
+      (λ b. rw add-one (stays n j (rw add-one at (least-hit n j h k b))))
+      (λ b. hit-here n j h k (omega arith))
+
+pub false-of : (b : Bool) → not b ≡ true → b ≡ false
+false-of true h = clash (cc)
+false-of false h = refl
+
+pub true-of : (b : Bool) → not b ≡ false → b ≡ true
+true-of true h = refl
+true-of false h = clash (cc)
+
+-- ── the rules of a file ──
+-- whether the rule of number k breaks a condition
+abbrev pub unfit : List Rule → ℕ → Bool
+unfit rs k = not (fits (getD rs k noRule))
+
+-- the code's answer on rule k
+pub placed-fits :
+    (s slots ars places : List ℕ) (n k : ℕ) (b : Bool) (rs : List Rule) → Placed (rule s slots ars) noRule places rs n → k < n
+    → OfRule s slots ars (getD places k 0) (λ r. b ≡ fits r) → not b ≡ unfit rs k
+placed-fits s slots ars places n k b rs p l h =
+    ap not (h (getD rs k noRule) (rule-layout s slots ars (getD places k 0) (getD rs k noRule) (p .each k l)))
+
+-- ── what the code answers of a file ──
+abbrev pub verdictOf : Judged → Verdict
+verdictOf (jd.Sound ns nr) = sound
+verdictOf (jd.Broken k) = broken k
+verdictOf jd.Fault = malformed
+
+-- where the file is sound, its index
+abbrev pub Indexes : List ℕ → Judged → List ℕ → List ℕ → List ℕ → List ℕ → Type 0
+Indexes s (jd.Sound ns nr) arities ars flags places = Entries s ns nr arities ars flags places
+Indexes s (jd.Broken k) arities ars flags places = Unit {0}
+Indexes s jd.Fault arities ars flags places = Unit {0}
+
+module _ (s arities ars flags places : List ℕ) where
+  pub indexed-counts : {i : Index} {ns nr : ℕ} → i ≡ ix.Counts ns nr → Indexed s i arities ars flags places → Entries s ns nr arities ars flags places
+  indexed-counts h x = subst (λ (j : Index). Indexed s j arities ars flags places) h x
+
+  pub indexed-fault : {i : Index} → i ≡ ix.Fault → Indexed s i arities ars flags places → malformed ≡ judged (protocol s)
+  indexed-fault h x = sym (ap judged (subst (λ (j : Index). Indexed s j arities ars flags places) h x))
+
+  pub judged-is :
+      {ns nr k : ℕ} (i : Entries s ns nr arities ars flags places)
+      → ((rs : List Rule) → Placed (rule s arities (take ns ars)) noRule places rs nr → k ≡ least (unfit rs) nr)
+      → outcome k ≡ judged (protocol s)
+  judged-is {ns} {nr} {k} i h =
+      ap outcome (h (i .is .rules) (i .placed) ∙ ap (least (unfit (i .is .rules))) (sym (i .placed .count)))
+      ∙ sym (ap judged (i .reads))
+
+pub none-broken : {k : ℕ} → k ≡ 0 → outcome k ≡ sound
+none-broken {k} h = ap outcome h
+
+pub some-broken : {k : ℕ} → (k ≡ 0 → ⊥) → outcome k ≡ broken k
+some-broken {k} h = simp (ne-eqb k 0 h)

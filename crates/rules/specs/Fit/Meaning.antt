@@ -1,0 +1,51 @@
+-- P1 to P4 as statements: which names, symbols and variables stand where. The tests decide just these.
+use Prim.Native.Nat.{ℕ}
+use mathlib.Core.List.{List, _∷_}
+use mathlib.Core.Logic.{_⊎_}
+use mathlib.Core.Path.{_≡_}
+use lib.ListN.{getD}
+use Rattle.term.specs.Term.{Kind, variable, fresh, Term, leaf, app, Terms, _&_}
+use Rattle.protocol.specs.Protocol.{Fact, Rule, premises, conclusions, frSymbol, inSymbol, outSymbol, kSymbol}
+-- one of several, and the test for it
+pub mod Several
+-- leaves and symbols, and the tests for them
+pub mod Leaves
+-- the tests decide P1 to P4
+pub mod Laws
+-- what a verdict says of a file's rules
+pub mod Judged
+
+module _ {A : Type 0} (P : A → Type 0) where
+  -- one of these has the property
+  pub data Some : List A → Type 0 where
+    here : {x : A} {xs : List A} → P x → Some (x ∷ xs)
+    later : {x : A} {xs : List A} → Some xs → Some (x ∷ xs)
+
+-- the variable or name of a kind and number stands in a term: "plain occurrence, below dec or inv too"
+module _ (k : Kind) (n : ℕ) where
+  mutual
+    pub data Occurs : Term → Type 0 where
+      itself : {j : Kind} {m : ℕ} → j ≡ k → m ≡ n → Occurs (leaf j m)
+      under : {f : ℕ} {ts : Terms} → Occurss ts → Occurs (app f ts)
+
+    pub data Occurss : Terms → Type 0 where
+      first : {t : Term} {ts : Terms} → Occurs t → Occurss (t & ts)
+      next : {t : Term} {ts : Terms} → Occurss ts → Occurss (t & ts)
+
+  -- in one of these facts
+  abbrev pub OccursIn : List Fact → Type 0
+  OccursIn = Some (λ f. Some Occurs (f .terms))
+
+-- a fact of this symbol is among these
+abbrev pub Among : ℕ → List Fact → Type 0
+Among y = Some (λ f. f .symbol ≡ y)
+
+pub record Fit (r : Rule) : Type 0 where
+  -- "no fresh name in a rule"
+  pub p1 : (n : ℕ) → Some (OccursIn fresh n) (r .parts) → ⊥
+  -- "no K or Out among premises"
+  pub p2 : (Among kSymbol (premises r) ⊎ Among outSymbol (premises r)) → ⊥
+  -- "no K, In or Fr among conclusions"
+  pub p3 : (Among kSymbol (conclusions r) ⊎ (Among inSymbol (conclusions r) ⊎ Among frSymbol (conclusions r))) → ⊥
+  -- "each variable of a conclusion is in a premise or is of sort public"
+  pub p4 : (v : ℕ) → OccursIn variable v (conclusions r) → OccursIn variable v (premises r) ⊎ (getD (r .sorts) v 0 ≡ 2)

@@ -1,0 +1,152 @@
+-- What a verdict says: every rule is fit, or the rule of that place is the first that is not.
+use Prim.Native.Nat.{ℕ, zero, suc, _≤_, _<_}
+use mathlib.Core.List.{List, [], _∷_}
+use mathlib.Core.Bool.{Bool, true, false, not}
+use mathlib.Core.Logic.{_↔_}
+use mathlib.Core.Path.{_≡_, refl, ap, _∙_, subst}
+use native.Mathlib.Omega.{arith}
+use lib.ListN.{length, getD}
+use lib.Dec.{eqb}
+use Rattle.octets.specs.Choice.{pick, cut, cut-eq, by-size, clash}
+use Rattle.octets.specs.Head.{Bytes}
+use Rattle.number.specs.Reading.{Read, got, fault}
+use Rattle.number.specs.Layout.{All}
+use Rattle.term.specs.Arity.{slots}
+use Rattle.protocol.specs.Protocol.{Protocol, noRule, factArities, protocol}
+use Rattle.protocol.specs.Protocol.Limits.{RuleWithin, Within}
+use Rattle.protocol.specs.Protocol.Exact.{protocol-form}
+use Rattle.rules.specs.Fit.{fits, least, sound, broken, outcome, judged}
+use Rattle.rules.specs.Fit.Laws.{unfit, true-of, least-hit, some-broken}
+use Rattle.rules.specs.Fit.Meaning.{Fit}
+use Rattle.rules.specs.Fit.Meaning.Several.{refuse}
+use Rattle.rules.specs.Fit.Meaning.Laws.{fit-exactly}
+
+-- ── the least of several ──
+module _ (q : ℕ → Bool) where
+  -- k is the first of n of which q holds
+  pub record First (n k : ℕ) : Type 0 where
+    pub inside : k < n
+    pub hit : q k ≡ true
+    pub before : (i : ℕ) → i < k → q i ≡ false
+
+  pub least-zero : (n : ℕ) → least q n ≡ 0 → (i : ℕ) → i < n → q i ≡ false
+  unfolding least
+  least-zero zero h i l = absurd (omega arith)
+  least-zero (suc n) h i l =
+      cut-eq _ _ _ (least q n) 0 h
+      (λ z h. cut _ _ _ (q n) h
+      (λ t h. absurd (omega arith))
+      (λ t h. by-size i n (least-zero n z i) (λ k. let e : n ≡ i = omega arith in subst (λ (j : ℕ). q j ≡ false) e t)))
+      (λ z h. absurd (z h))
+
+  pub least-some : (n k : ℕ) → least q n ≡ suc k → First n k
+  unfolding least
+  least-some zero k h = absurd (omega arith)
+  least-some (suc n) k h =
+      cut-eq _ _ _ (least q n) 0 h
+      (λ z h. cut _ _ _ (q n) h
+      (λ t h. let e : n ≡ k = omega arith in
+      record { inside = omega arith; hit = subst (λ (j : ℕ). q j ≡ true) e t; before = λ i l. least-zero n z i (omega arith) })
+      (λ t h. absurd (omega arith)))
+      (λ z h. let f = least-some n k h in record { inside = omega (arith, f .inside); hit = f .hit; before = f .before })
+
+  none-least : (n : ℕ) → ((i : ℕ) → i < n → q i ≡ false) → least q n ≡ 0
+  unfolding least
+  none-least zero f = refl
+  none-least (suc n) f =
+      ap (λ (m : ℕ). pick (eqb m 0) (pick (q n) (suc n) 0) m) (none-least n (λ i l. f i (omega arith)))
+      ∙ ap (λ (b : Bool). pick b (suc n) 0) (f n (omega arith))
+
+  first-least : (n k : ℕ) → First n k → least q n ≡ suc k
+  first-least n k f = least-hit q n k (none-least k (f .before)) (f .hit) (f .inside) ∙ omega arith
+
+  least-bound : (n : ℕ) → least q n ≤ n
+  least-bound n = within (least q n) refl
+    where
+      within : (m : ℕ) → least q n ≡ m → m ≤ n
+      within zero h = omega arith
+      within (suc k) h = omega (arith, least-some n k h .inside)
+
+-- ── the rules of a protocol within the limits ──
+all-nth : {A : Type 0} (P : A → Type 0) (d : A) (xs : List A) → All P xs → (k : ℕ) → k < length xs → P (getD xs k d)
+all-nth P d [] a k l = absurd (omega arith)
+all-nth P d (x ∷ xs) a zero l = a .0
+all-nth P d (x ∷ xs) a (suc k) l = all-nth P d xs (a .1) k (omega arith)
+
+module _ (p : Protocol) (w : Within p) where
+  -- the rule of this place is fit, by the test
+  abbrev Fine : ℕ → Type 0
+  Fine k = Fit (getD (p .rules) k noRule)
+
+  decided : (k : ℕ) → k < length (p .rules) → (fits (getD (p .rules) k noRule) ≡ true) ↔ Fine k
+  decided k l =
+      fit-exactly (slots (p .functions)) (factArities (p .symbols)) (getD (p .rules) k noRule)
+      (all-nth (RuleWithin (slots (p .functions)) (factArities (p .symbols))) noRule (p .rules) (w .rules) k l)
+
+  fine-to : (k : ℕ) → k < length (p .rules) → unfit (p .rules) k ≡ false → Fine k
+  fine-to k l h = decided k l .0 (true-of (fits (getD (p .rules) k noRule)) h)
+
+  fine-from : (k : ℕ) → k < length (p .rules) → Fine k → unfit (p .rules) k ≡ false
+  fine-from k l f = ap not (decided k l .1 f)
+
+  sound-zero : (k : ℕ) → outcome k ≡ sound → k ≡ 0
+  sound-zero k h = cut-eq _ _ _ k 0 h (λ z h. z) (λ z h. clash (cc))
+
+  broken-is : (j k : ℕ) → outcome j ≡ broken (suc k) → j ≡ suc k
+  broken-is j k h = cut-eq _ _ _ j 0 h (λ z h. clash (cc)) (λ z h. cc)
+
+  -- sound: every rule is fit
+  pub sound-exactly : (e : ℕ) → (judged (got p e) ≡ sound) ↔ ((k : ℕ) → k < length (p .rules) → Fine k)
+  sound-exactly e = (
+    (λ h k l. fine-to k l (least-zero (unfit (p .rules)) (length (p .rules)) (sound-zero (least (unfit (p .rules)) (length (p .rules))) h) k l)),
+    (λ f. ap outcome (none-least (unfit (p .rules)) (length (p .rules)) (λ k l. fine-from k l (f k l)))),
+  )
+
+  -- broken: the rule of that place, counted from 1, is the first that is not fit
+  pub record Breaks (k : ℕ) : Type 0 where
+    pub inside : k < length (p .rules)
+    pub not-fit : Fine k → ⊥
+    pub before : (i : ℕ) → i < k → Fine i
+
+  broken-to : (e k : ℕ) → judged (got p e) ≡ broken (suc k) → Breaks k
+  broken-to e k h =
+      let f = least-some (unfit (p .rules)) (length (p .rules)) k (broken-is (least (unfit (p .rules)) (length (p .rules))) k h) in
+      record {
+        inside = f .inside;
+        not-fit = λ g. let z = fine-from k (f .inside) g in let y = f .hit in clash (cc);
+        before = λ i l. fine-to i (omega (arith, f .inside)) (f .before i l);
+      }
+
+  broken-from : (e k : ℕ) → Breaks k → judged (got p e) ≡ broken (suc k)
+  broken-from e k b =
+      ap outcome
+      (first-least (unfit (p .rules)) (length (p .rules)) k
+      record {
+        inside = b .inside;
+        hit = refuse (fits (getD (p .rules) k noRule)) (λ h. b .not-fit (decided k (b .inside) .0 h));
+        before = λ i l. fine-from i (omega (arith, b .inside)) (b .before i l);
+      })
+      ∙ some-broken (λ h. absurd (omega arith))
+
+  pub broken-exactly : (e k : ℕ) → (judged (got p e) ≡ broken (suc k)) ↔ Breaks k
+  broken-exactly e k = (broken-to e k, broken-from e k)
+
+-- ── the place of a broken rule, in any file ──
+pub record Place (k : ℕ) : Type 0 where
+  pub from-one : 0 < k
+  pub small : k ≤ 64
+
+module _ (s : List ℕ) (bytes : Bytes s) where
+  place-of : (k : ℕ) (o : Read Protocol) → protocol s ≡ o → judged o ≡ broken k → Place k
+  place-of k (got p e) r h =
+      let w = protocol-form s bytes p e r in
+      let few : length (p .rules) ≤ 64 = w .within .few-rules in
+      let l = least-bound (unfit (p .rules)) (length (p .rules)) in
+      cut-eq _ _ _ (least (unfit (p .rules)) (length (p .rules))) 0 h
+      (λ z h. clash (cc))
+      (λ z h. let j : least (unfit (p .rules)) (length (p .rules)) ≡ k = cc in
+      record { from-one = by-size 0 k (λ l. l) (λ l. absurd (z (omega arith))); small = omega arith })
+  place-of k fault r h = clash (cc)
+
+  pub broken-place : (k : ℕ) → judged (protocol s) ≡ broken k → Place k
+  broken-place k h = place-of k (protocol s) refl h

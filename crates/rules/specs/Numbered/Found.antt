@@ -1,0 +1,175 @@
+-- What the code finds for a rule number: the rule's bytes, written out; its place in the protocol file; or no rule.
+use Prim.Native.Nat.{ℕ, zero, suc, _+_, _-_, _≤_, _<_}
+use mathlib.Core.List.{List, [], _∷_, append-nil}
+use mathlib.Core.Option.{some, none}
+use mathlib.Core.Path.{_≡_, refl, ap, ap₂, sym, _∙_, subst}
+use native.Mathlib.Omega.{arith}
+use lib.ListN.{length, getD, take}
+use lib.Dec.{ltb}
+use borrow.Author.Tests.{lt-ltb, le-ltb}
+use Rattle.octets.specs.Choice.{pick, by-size}
+use Rattle.octets.specs.Head.{Bytes}
+use Rattle.octets.specs.Splice.{splice}
+use Rattle.octets.specs.Splice.Laws.{take-past, length-splice}
+use Rattle.number.specs.Layout.{All}
+use Rattle.term.specs.Arity.{arity, slots, undeclared}
+use Rattle.term.specs.Arity.Laws.{slot-inside, arity-none, arity-some}
+use Rattle.protocol.specs.Protocol.{Rule, Protocol, noRule, factArities, encodeRule, rule}
+use Rattle.protocol.specs.Protocol.Limits.{Within}
+use Rattle.protocol.specs.Protocol.Exact.{rule-exact, few-arities}
+use Rattle.protocol.specs.Places.{Here}
+use Rattle.protocol.specs.Index.{Entries, Placed}
+use Rattle.rules.specs.declared.numbered.Found.{Found}
+use Rattle.rules.specs.declared.numbered.Found.the-variants as fd
+use Rattle.rules.specs.Numbered.{fixed, applies, applied, nth, ruleOf}
+use Rattle.rules.specs.Numbered.Limits.{Slot, takes, empty, slot-at, rule-within}
+
+-- ── a write from the start ──
+-- q was written to the start of l, which left o, and ends at e
+pub record Put (l o : List ℕ) (e : ℕ) (q : List ℕ) : Type 0 where
+  pub next : e ≡ length q
+  pub wrote : o ≡ splice l 0 q
+
+pub put-as : {l o : List ℕ} {e : ℕ} (q r : List ℕ) → q ≡ r → Put l o e q → Put l o e r
+put-as {l} {o} {e} q r h p = subst (Put l o e) h p
+
+-- the first `len` elements are these
+pub record Holds (out : List ℕ) (len : ℕ) (q : List ℕ) : Type 0 where
+  pub bytes : take len out ≡ q
+  pub short : len ≤ length out
+
+pub put-holds : {l o : List ℕ} {e : ℕ} {q : List ℕ} → Put l o e q → 0 + length q ≤ length l → Holds o e q
+put-holds {l} {o} {e} {q} p room =
+    let n : e ≡ 0 + length q = omega (arith, p .next) in
+    record {
+      bytes = ap (λ (i : ℕ). take i o) n ∙ ap (take (0 + length q)) (p .wrote) ∙ take-past l 0 q room;
+      short = omega (arith, p .next, ap length (p .wrote), length-splice l 0 q room);
+    }
+
+-- ── an apply-rule ──
+pub record AppliedAs (slots : List ℕ) (t len : ℕ) (out : List ℕ) : Type 0 where
+  pub arguments : ℕ
+  pub declared : arity slots t ≡ some arguments
+  pub holds : Holds out len (encodeRule (applies t arguments))
+
+abbrev pub Applies : List ℕ → ℕ → Found → List ℕ → Type 0
+Applies slots t (fd.Written len) out = AppliedAs slots t len out
+Applies slots t (fd.At place) out = ⊥
+Applies slots t fd.Nothing out = arity slots t ≡ none
+
+module _ (fs arities : List ℕ) (small : All (λ a. a < 5) fs) (same : arities ≡ slots fs) (t : ℕ) (inside : t < length arities) where
+  slot-is : getD arities t 0 ≡ getD (slots fs) t undeclared
+  slot-is = slot-inside arities t inside ∙ ap (λ (l : List ℕ). getD l t undeclared) same
+
+  pub slot-taken : 3 ≤ t → getD arities t 0 ≤ 4 → arity (slots fs) t ≡ some (getD arities t 0)
+  slot-taken h k = arity-some (slots fs) t h (λ e. omega (arith, slot-is)) ∙ ap some (sym slot-is)
+
+  left-empty : (a : ℕ) → Slot a → 4 < a → a ≡ undeclared
+  left-empty a (takes h) k = absurd (omega arith)
+  left-empty a (empty h) k = h
+
+  pub slot-left : 4 < getD arities t 0 → arity (slots fs) t ≡ none
+  slot-left k =
+      arity-none (slots fs) t
+      (left-empty (getD (slots fs) t undeclared) (slot-at fs small t) (omega (arith, slot-is)))
+
+-- ── a rule of the protocol's own ──
+unfoldable pub placeFound : List ℕ → ℕ → ℕ → Found
+placeFound places n k = pick (ltb k n) (fd.At (getD places k 0)) fd.Nothing
+
+module _ (places : List ℕ) (n k : ℕ) where
+  pub place-found : k < n → placeFound places n k ≡ fd.At (getD places k 0)
+  unfolding placeFound
+  place-found h = simp (lt-ltb k n h)
+
+  pub place-none : n ≤ k → placeFound places n k ≡ fd.Nothing
+  unfolding placeFound
+  place-none h = simp (le-ltb k n h)
+
+module _ {A : Type 0} (d : A) where
+  nth-some : (xs : List A) (k : ℕ) → k < length xs → nth xs k ≡ some (getD xs k d)
+  nth-some [] k h = absurd (omega arith)
+  nth-some (x ∷ xs) zero h = refl
+  nth-some (x ∷ xs) (suc k) h = nth-some xs k (omega arith)
+
+  nth-none : (xs : List A) (k : ℕ) → length xs ≤ k → nth xs k ≡ none
+  nth-none [] k h = refl
+  nth-none (x ∷ xs) zero h = absurd (omega arith)
+  nth-none (x ∷ xs) (suc k) h = nth-none xs k (omega arith)
+
+-- ── the rule of a number ──
+pub record WrittenAs (p : Protocol) (n len : ℕ) (out : List ℕ) : Type 0 where
+  pub its : Rule
+  pub is : ruleOf p n ≡ some its
+  pub holds : Holds out len (encodeRule its)
+
+pub record PlacedAs (p : Protocol) (s slots ars : List ℕ) (n place : ℕ) : Type 0 where
+  pub its : Rule
+  pub is : ruleOf p n ≡ some its
+  pub here : Here (rule s slots ars) its place
+
+abbrev pub Finds : Protocol → List ℕ → List ℕ → List ℕ → ℕ → Found → List ℕ → Type 0
+Finds p s slots ars n (fd.Written len) out = WrittenAs p n len out
+Finds p s slots ars n (fd.At place) out = PlacedAs p s slots ars n place
+Finds p s slots ars n fd.Nothing out = ruleOf p n ≡ none
+
+module _ (p : Protocol) (n : ℕ) where
+  pub of-fixed : n < 5 → ruleOf p n ≡ some (fixed n)
+  unfolding ruleOf
+  of-fixed h = simp (lt-ltb n 5 h)
+
+  pub of-applied : (t : ℕ) → n ≡ t + 2 → 5 ≤ n → n < 31 → ruleOf p n ≡ applied t (arity (slots (p .functions)) t)
+  unfolding ruleOf
+  of-applied t e h k =
+      let z : n - 2 ≡ t = omega arith in
+      simp (le-ltb n 5 h, lt-ltb n 31 k, z)
+
+  pub of-own : 31 ≤ n → ruleOf p n ≡ nth (p .rules) (n - 31)
+  unfolding ruleOf
+  of-own h = simp (le-ltb n 5 (omega arith), le-ltb n 31 h)
+
+  module _ (s slots′ ars out : List ℕ) where
+    pub finds-applied :
+        (t : ℕ) → n ≡ t + 2 → 5 ≤ n → n < 31 → (r : Found) → Applies (slots (p .functions)) t r out → Finds p s slots′ ars n r out
+    finds-applied t e h k (fd.Written len) a =
+        record { its = applies t (a .arguments); is = of-applied t e h k ∙ ap (applied t) (a .declared); holds = a .holds }
+    finds-applied t e h k (fd.At place) a = absurd a
+    finds-applied t e h k fd.Nothing a = of-applied t e h k ∙ ap (applied t) a
+
+    pub finds-own :
+        (places : List ℕ) (nr : ℕ) → Placed (rule s slots′ ars) noRule places (p .rules) nr → 31 ≤ n → (r : Found)
+        → r ≡ placeFound places nr (n - 31) → Finds p s slots′ ars n r out
+    finds-own places nr q h r e =
+        by-size (n - 31) nr
+        (λ l. subst (λ (x : Found). Finds p s slots′ ars n x out) (sym (e ∙ place-found places nr (n - 31) l))
+        record {
+          its = getD (p .rules) (n - 31) noRule;
+          is = of-own h ∙ nth-some noRule (p .rules) (n - 31) (omega (arith, q .count));
+          here = q .each (n - 31) l;
+        })
+        (λ l. subst (λ (x : Found). Finds p s slots′ ars n x out) (sym (e ∙ place-none places nr (n - 31) l))
+        (of-own h ∙ nth-none noRule (p .rules) (n - 31) (omega (arith, q .count))))
+
+-- what is written is read as that rule, like a rule of the file
+pub written-reads :
+    (p : Protocol) → Within p → (n len : ℕ) (out : List ℕ) → (w : WrittenAs p n len out) → Bytes (take len out)
+    → Here (rule (take len out) (slots (p .functions)) (factArities (p .symbols))) (w .its) 0
+written-reads p v n len out w bytes =
+    let few : length (factArities (p .symbols)) ≤ 36 = few-arities (p .symbols) (v .few-symbols) in
+    record {
+      next = 0 + length (encodeRule (w .its));
+      reads =
+          rule-exact (take len out) bytes (slots (p .functions)) (factArities (p .symbols)) (omega arith)
+          .back (w .its) 0 [] (rule-within p v n (w .its) (w .is)) (w .holds .bytes ∙ sym (append-nil (encodeRule (w .its))));
+    }
+
+-- the same under the index of a file
+pub written-here :
+    {s : List ℕ} {ns nr : ℕ} {arities ars flags places : List ℕ} (i : Entries s ns nr arities ars flags places) (n len : ℕ) (out : List ℕ)
+    → (w : WrittenAs (i .is) n len out) → Bytes (take len out) → Here (rule (take len out) arities (take ns ars)) (w .its) 0
+written-here {s} {ns} {nr} {arities} {ars} i n len out w bytes =
+    let h = written-reads (i .is) (i .within) n len out w bytes in
+    record {
+      next = h .next;
+      reads = ap₂ (λ (a b : List ℕ). rule (take len out) a b 0) (i .slotted) (i .tabled) ∙ h .reads;
+    }

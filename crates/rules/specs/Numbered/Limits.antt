@@ -1,0 +1,220 @@
+-- The rule of every number keeps to the limits of a protocol file's rules, so that it is read from its bytes like those.
+use Prim.Native.Nat.{ℕ, zero, suc, _+_, _-_, _≤_, _<_}
+use mathlib.Core.List.{List, [], _∷_, _++_, map}
+use mathlib.Core.Bool.{Bool, true, false}
+use mathlib.Core.Option.{Option, some, none}
+use mathlib.Core.Path.{_≡_, refl, ap, sym, _∙_, subst}
+use native.Mathlib.Omega.{arith}
+use lib.ListN.{length, getD, replicate, length-map, length-replicate}
+use lib.Dec.{eqb}
+use Rattle.octets.specs.Choice.{pick, cut-lt, cut-eq, clash}
+use Rattle.number.specs.Groups.{numberLimit}
+use Rattle.number.specs.Layout.{All}
+use Rattle.term.specs.Term.{Term, leaf, app, variable, count, symbolss, Formeds, InRanges}
+use Rattle.term.specs.Arity.{arity, slots, builtin, padded, undeclared}
+use Rattle.term.specs.Reader.{terms}
+use Rattle.protocol.specs.Protocol.{Fact, Rule, Own, Protocol, fact-of, rule-of, factArities, declared}
+use Rattle.protocol.specs.Protocol.Limits.{TermWithin, FactWithin, FactsWithin, RuleWithin, Within}
+use Rattle.rules.specs.Numbered.{first, fixed, variables, known, applies, applied, nth, ruleOf}
+
+-- ── arities are at most 4 ──
+-- what a slot holds
+pub data Slot (a : ℕ) : Type 0 where
+  takes : a ≤ 4 → Slot a
+  empty : a ≡ undeclared → Slot a
+
+all-append : {A : Type 0} (P : A → Type 0) (xs ys : List A) → All P xs → All P ys → All P (xs ++ ys)
+all-append P [] ys a b = b
+all-append P (x ∷ xs) ys a b = (a .0, all-append P xs ys (a .1) b)
+
+pub all-at : {A : Type 0} (P : A → Type 0) (d : A) (xs : List A) (i : ℕ) → P d → All P xs → P (getD xs i d)
+all-at P d [] i h a = h
+all-at P d (x ∷ xs) zero h a = a .0
+all-at P d (x ∷ xs) (suc i) h a = all-at P d xs i h (a .1)
+
+padded-slots : (n : ℕ) (fs : List ℕ) → All (λ a. a < 5) fs → All Slot (padded n fs)
+padded-slots zero fs h = tt
+padded-slots (suc n) [] h = (empty refl, padded-slots n [] tt)
+padded-slots (suc n) (a ∷ fs) h = (takes (omega (arith, h .0)), padded-slots n fs (h .1))
+
+builtin-slots : All Slot builtin
+builtin-slots = (
+  empty refl,
+  (
+    empty refl,
+    (
+      empty refl,
+      (
+        takes (omega arith),
+        (
+          takes (omega arith),
+          (
+            takes (omega arith),
+            (
+              takes (omega arith),
+              (takes (omega arith), (takes (omega arith), (takes (omega arith), (takes (omega arith), (takes (omega arith), (takes (omega arith), tt)))))),
+            ),
+          ),
+        ),
+      ),
+    ),
+  ),
+)
+
+pub slot-at : (fs : List ℕ) → All (λ a. a < 5) fs → (t : ℕ) → Slot (getD (slots fs) t undeclared)
+unfolding slots
+slot-at fs h t =
+    all-at Slot undeclared (builtin ++ padded 16 fs) t (empty refl)
+    (all-append Slot builtin (padded 16 fs) builtin-slots (padded-slots 16 fs h))
+
+small-slot : (a k : ℕ) → Slot a → (a ≡ undeclared → ⊥) → some a ≡ some k → k ≤ 4
+small-slot a k (takes h) n e = let z : a ≡ k = cc in omega arith
+small-slot a k (empty h) n e = absurd (n h)
+
+pub arity-small : (fs : List ℕ) → All (λ a. a < 5) fs → (t k : ℕ) → arity (slots fs) t ≡ some k → k ≤ 4
+unfolding arity
+arity-small fs h t k e =
+    cut-lt _ _ _ t 3 e (λ l e. clash (cc))
+    (λ l e. cut-eq _ _ _ (getD (slots fs) t undeclared) undeclared e
+    (λ z e. clash (cc))
+    (λ z e. small-slot (getD (slots fs) t undeclared) k (slot-at fs h t) z e))
+
+-- each arity up to 4
+pub by-arity : (P : ℕ → Type 0) → P 0 → P 1 → P 2 → P 3 → P 4 → (k : ℕ) → k ≤ 4 → P k
+by-arity P a b c d e zero h = a
+by-arity P a b c d e (suc zero) h = b
+by-arity P a b c d e (suc (suc zero)) h = c
+by-arity P a b c d e (suc (suc (suc zero))) h = d
+by-arity P a b c d e (suc (suc (suc (suc zero)))) h = e
+by-arity P a b c d e (suc (suc (suc (suc (suc k))))) h = absurd (omega arith)
+
+-- ── variables ──
+small-range : (n : ℕ) → n < 256 → n < numberLimit
+unfolding numberLimit
+small-range n h = omega arith
+
+variables-count : (i n : ℕ) → count (terms (variables i n)) ≡ n
+variables-count i zero = refl
+variables-count i (suc n) = ap suc (variables-count (suc i) n)
+
+variables-symbols : (i n : ℕ) → symbolss (terms (variables i n)) ≡ n
+variables-symbols i zero = refl
+variables-symbols i (suc n) = ap (λ (m : ℕ). 1 + m) (variables-symbols (suc i) n) ∙ omega arith
+
+variables-range : (i n : ℕ) → i + n ≤ 256 → InRanges (terms (variables i n))
+variables-range i zero h = tt
+variables-range i (suc n) h = (small-range i (omega arith), variables-range (suc i) n (omega arith))
+
+replicate-all : (P : ℕ → Type 0) (k : ℕ) → P 0 → All P (replicate k 0)
+replicate-all P zero h = tt
+replicate-all P (suc k) h = (h, replicate-all P k h)
+
+variables-length : (i n : ℕ) → length (variables i n) ≡ n
+variables-length i zero = refl
+variables-length i (suc n) = ap suc (variables-length (suc i) n)
+
+module _ (slots : List ℕ) where
+  variables-formed : (i n : ℕ) → Formeds (arity slots) (terms (variables i n))
+  variables-formed i zero = tt
+  variables-formed i (suc n) = (tt, variables-formed (suc i) n)
+
+  variable-within : (v : ℕ) → v < 256 → TermWithin slots (leaf variable v)
+  variable-within v h = record { formed = tt; range = small-range v h; short = omega arith }
+
+  applied-within : (t k : ℕ) → arity slots t ≡ some k → t < 256 → k ≤ 4 → TermWithin slots (app t (terms (variables 0 k)))
+  applied-within t k h l m =
+      record {
+        formed = (h ∙ ap some (sym (variables-count 0 k)), variables-formed 0 k);
+        range = (small-range t l, variables-range 0 k (omega arith));
+        short = omega (arith, variables-symbols 0 k);
+      }
+
+  -- ── facts of the built-in symbols ──
+  module _ (os : List Own) where
+    arity-one : (y : ℕ) → y < 4 → getD (factArities os) y 0 ≡ 1
+    arity-one zero h = refl
+    arity-one (suc zero) h = refl
+    arity-one (suc (suc zero)) h = refl
+    arity-one (suc (suc (suc zero))) h = refl
+    arity-one (suc (suc (suc (suc y)))) h = absurd (omega arith)
+
+    one-within : (y : ℕ) (t : Term) → y < 4 → TermWithin slots t → FactWithin slots (factArities os) (fact-of y (t ∷ []))
+    one-within y t h w = record { known = omega arith; takes = sym (arity-one y h); each = (w, tt) }
+
+    first-within : (y : ℕ) → y < 4 → FactsWithin slots (factArities os) (first y)
+    first-within y h = record { few = omega arith; each = (one-within y (leaf variable 0) h (variable-within 0 (omega arith)), tt) }
+
+    none-within : FactsWithin slots (factArities os) []
+    none-within = record { few = omega arith; each = tt }
+
+    known-within : (i n : ℕ) → i + n ≤ 256 → All (FactWithin slots (factArities os)) (map known (variables i n))
+    known-within i zero h = tt
+    known-within i (suc n) h =
+        (one-within 3 (leaf variable i) (omega arith) (variable-within i (omega arith)), known-within (suc i) n (omega arith))
+
+    -- ── the rules ──
+    simple-within :
+        (v : ℕ) (a b c : List Fact) → v < 3 → FactsWithin slots (factArities os) a → FactsWithin slots (factArities os) b
+        → FactsWithin slots (factArities os) c → declared (rule-of (v ∷ []) (a ∷ b ∷ c ∷ [])) ≡ true
+        → RuleWithin slots (factArities os) (rule-of (v ∷ []) (a ∷ b ∷ c ∷ []))
+    simple-within v a b c h ha hb hc d =
+        record { laid = record { few = omega arith; sorted = (h, tt); three = refl; each = (ha, (hb, (hc, tt))) }; bound = d }
+
+    pub fixed-within : (n : ℕ) → RuleWithin slots (factArities os) (fixed n)
+    unfolding fixed
+    fixed-within n =
+        by-test (eqb n 0)
+        (simple-within 1 [] [] (first 0) (omega arith) none-within none-within (first-within 0 (omega arith)) refl)
+        (by-test (eqb n 1)
+        (simple-within 0 (first 2) [] (first 3) (omega arith) (first-within 2 (omega arith)) none-within (first-within 3 (omega arith)) refl)
+        (by-test (eqb n 2)
+        (simple-within 0 (first 3) (first 3) (first 1) (omega arith) (first-within 3 (omega arith)) (first-within 3 (omega arith)) (first-within 1 (omega arith)) refl)
+        (by-test (eqb n 3)
+        (simple-within 2 [] [] (first 3) (omega arith) none-within none-within (first-within 3 (omega arith)) refl)
+        (simple-within 1 (first 0) [] (first 3) (omega arith) (first-within 0 (omega arith)) none-within (first-within 3 (omega arith)) refl))))
+      where
+        by-test : (b : Bool) {x y : Rule} → RuleWithin slots (factArities os) x → RuleWithin slots (factArities os) y → RuleWithin slots (factArities os) (pick b x y)
+        by-test b {x} {y} p q = elim b [ true ↦ p | false ↦ q ]
+
+    pub applies-within : (t k : ℕ) → arity slots t ≡ some k → t < 256 → k ≤ 4 → RuleWithin slots (factArities os) (applies t k)
+    applies-within t k h l m =
+        record {
+          laid = record {
+            few = omega (arith, length-replicate {A = ℕ} k 0);
+            sorted = replicate-all (λ v. v < 3) k (omega arith);
+            three = refl;
+            each = (
+              record { few = omega (arith, length-map (variables 0 k) known, variables-length 0 k); each = known-within 0 k (omega arith) },
+              (
+                none-within,
+                (record { few = omega arith; each = (one-within 3 (app t (terms (variables 0 k))) (omega arith) (applied-within t k h l m), tt) }, tt),
+              ),
+            );
+          };
+          bound = by-arity (λ j. declared (applies t j) ≡ true) refl refl refl refl refl k m;
+        }
+
+-- ── the rule of every number ──
+nth-all : {A : Type 0} (P : A → Type 0) (xs : List A) (k : ℕ) (x : A) → All P xs → nth xs k ≡ some x → P x
+nth-all P [] k x a h = clash (cc)
+nth-all P (y ∷ xs) zero x a h = let e : y ≡ x = cc in subst P e (a .0)
+nth-all P (y ∷ xs) (suc k) x a h = nth-all P xs k x (a .1) h
+
+module _ (p : Protocol) (w : Within p) where
+  abbrev Good : Rule → Type 0
+  Good = RuleWithin (slots (p .functions)) (factArities (p .symbols))
+
+  from-arity : (t : ℕ) (r : Rule) (o : Option ℕ) → t < 256 → arity (slots (p .functions)) t ≡ o → applied t o ≡ some r → Good r
+  from-arity t r (some k) l h e =
+      let z : applies t k ≡ r = cc in
+      subst Good z (applies-within (slots (p .functions)) (p .symbols) t k h l (arity-small (p .functions) (w .arities) t k h))
+  from-arity t r none l h e = clash (cc)
+
+  pub rule-within : (n : ℕ) (r : Rule) → ruleOf p n ≡ some r → Good r
+  unfolding ruleOf
+  rule-within n r e =
+      cut-lt _ _ _ n 5 e
+      (λ l e. let z : fixed n ≡ r = cc in subst Good z (fixed-within (slots (p .functions)) (p .symbols) n))
+      (λ l e. cut-lt _ _ _ n 31 e
+      (λ m e. from-arity (n - 2) r (arity (slots (p .functions)) (n - 2)) (omega arith) refl e)
+      (λ m e. nth-all Good (p .rules) (n - 31) r (w .rules) e))

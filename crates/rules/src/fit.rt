@@ -1,0 +1,155 @@
+// The conditions P1 to P4, and the judgement of a protocol file.
+ghost use mathlib.Core.Path.{_≡_};
+ghost use mathlib.Core.List.{List};
+ghost use Prim.Native.Nat.{_^_, _≤_, _<_};
+ghost use lib.ListN.{length};
+ghost use Rattle.number.specs.Reading.{any};
+ghost use Rattle.protocol.specs.Protocol.{Rule, noRule, part, rule, protocol};
+ghost use Rattle.protocol.specs.Protocol.Walks.{asks, ruleAsks};
+ghost use Rattle.protocol.specs.Index.{Placed};
+ghost use Rattle.rules.specs.Fit.{bound, allBelow, p4, fits, least, judged};
+ghost use Rattle.rules.specs.Fit.Laws.{hitOf, OfRule, unfit, verdictOf, Indexes};
+use number::Number;
+use number::Seen;
+use protocol::index;
+use protocol::index::Index;
+use protocol::places;
+use protocol::walks;
+
+// A protocol file: fit, with the counts of fact symbols and of rules; the least rule that breaks a condition, from 1; a layout fault.
+pub enum Judged {
+    Sound(usize, usize),
+    Broken(usize),
+    Fault,
+}
+
+fn hit_of(r: Seen) -> bool
+    ensures { λ b. ⌜ b ≡ hitOf r ⌝ }
+{
+    match r {
+        Seen::End(_, h) => h,
+        Seen::Fault => false,
+    }
+}
+
+// Whether a fact of list w of the rule at a place meets the test.
+fn list_asks(
+    s: &[u8],
+    arities: &[u8],
+    ars: &[u8],
+    at: usize,
+    w: usize,
+    kind: usize,
+    lo: usize,
+    hi: usize,
+) -> bool
+    requires { ⌜ (length (now s) ≤ 2 ^ 32) × (w < 3) ⌝ }
+    ensures { λ b. ⌜ OfRule (now (s .entry)) (now (arities .entry)) (now (ars .entry)) at (λ (r : Rule). b ≡ any (asks kind lo hi) (part w r)) ⌝ }
+{
+    let list = places::list_at(s, arities, ars, at, w);
+    hit_of(walks::one_part(s, arities, ars, list, kind, lo, hi))
+}
+
+// Whether a fact of the rule at a place meets the test.
+fn rule_asks(
+    s: &[u8],
+    arities: &[u8],
+    ars: &[u8],
+    at: usize,
+    kind: usize,
+    lo: usize,
+    hi: usize,
+) -> bool
+    requires { ⌜ length (now s) ≤ 2 ^ 32 ⌝ }
+    ensures { λ b. ⌜ OfRule (now (s .entry)) (now (arities .entry)) (now (ars .entry)) at (λ (r : Rule). b ≡ ruleAsks kind lo hi r) ⌝ }
+{
+    hit_of(walks::one_layout(s, arities, ars, at, kind, lo, hi))
+}
+
+// Whether variable v of the rule at a place is of sort public, in a premise, or in no conclusion.
+fn is_bound(s: &[u8], arities: &[u8], ars: &[u8], at: usize, v: u32) -> bool
+    requires { ⌜ length (now s) ≤ 2 ^ 32 ⌝ }
+    ensures { λ b. ⌜ OfRule (now (s .entry)) (now (arities .entry)) (now (ars .entry)) at (λ (r : Rule). v < length (r .sorts) → b ≡ bound r v) ⌝ }
+{
+    let public = places::sort_of(s, at, v) == 2;
+    let x = v as usize;
+    let above = list_asks(s, arities, ars, at, 0, 0, x, x + 1);
+    let below = list_asks(s, arities, ars, at, 2, 0, x, x + 1);
+    public | (above | !below)
+}
+
+// The same for the first n variables.
+fn all_bound(s: &[u8], arities: &[u8], ars: &[u8], at: usize, n: u32) -> bool
+    requires { ⌜ length (now s) ≤ 2 ^ 32 ⌝ }
+    ensures { λ b. ⌜ OfRule (now (s .entry)) (now (arities .entry)) (now (ars .entry)) at (λ (r : Rule). n ≤ length (r .sorts) → b ≡ allBelow (bound r) n) ⌝ }
+{
+    let mut j: u32 = 0;
+    while j < n {
+        if !is_bound(s, arities, ars, at, j) {
+            return false;
+        }
+        j += 1;
+    }
+    true
+}
+
+// P4 of the rule at a place.
+fn variables_bound(s: &[u8], arities: &[u8], ars: &[u8], at: usize) -> bool
+    requires { ⌜ length (now s) ≤ 2 ^ 32 ⌝ }
+    ensures { λ b. ⌜ OfRule (now (s .entry)) (now (arities .entry)) (now (ars .entry)) at (λ (r : Rule). b ≡ p4 r) ⌝ }
+{
+    match walks::sorts_at(s, at) {
+        Number::Value(n, _) => all_bound(s, arities, ars, at, n),
+        Number::Fault => false,
+    }
+}
+
+// P1 to P4 of the rule at a place.
+fn rule_fits(s: &[u8], arities: &[u8], ars: &[u8], at: usize) -> bool
+    requires { ⌜ length (now s) ≤ 2 ^ 32 ⌝ }
+    ensures { λ b. ⌜ OfRule (now (s .entry)) (now (arities .entry)) (now (ars .entry)) at (λ (r : Rule). b ≡ fits r) ⌝ }
+{
+    let fresh = rule_asks(s, arities, ars, at, 2, 0, walks::NUMBER_LIMIT);
+    let known = list_asks(s, arities, ars, at, 0, 3, 2, 4);
+    let made = list_asks(s, arities, ars, at, 2, 3, 0, 2);
+    let learnt = list_asks(s, arities, ars, at, 2, 3, 3, 4);
+    let held = variables_bound(s, arities, ars, at);
+    !fresh & (!known & ((!made & !learnt) & held))
+}
+
+// The least of n rules that breaks a condition, counted from 1; 0 if there is none.
+fn least_unfit(s: &[u8], arities: &[u8], ars: &[u8], places: &[usize], n: usize) -> usize
+    requires { ⌜ (length (now s) ≤ 2 ^ 32) × (n ≤ length (now places)) ⌝ }
+    ensures { λ m. ⌜ ((rs : List Rule) → Placed (rule (now (s .entry)) (now (arities .entry)) (now (ars .entry))) noRule (now (places .entry)) rs n → m ≡ least (unfit rs) n) ⌝ }
+{
+    let mut j: usize = 0;
+    while j < n {
+        if !rule_fits(s, arities, ars, places[j]) {
+            return j + 1;
+        }
+        j += 1;
+    }
+    0
+}
+
+// Reads a protocol file into its index, and judges it.
+pub fn judge(
+    s: &[u8],
+    arities: &mut [u8],
+    ars: &mut [u8],
+    flags: &mut [u8],
+    places: &mut [usize],
+) -> Judged
+    requires { ⌜ (length (now s) ≤ 2 ^ 32) × (length (now arities) ≡ 29) × (36 ≤ length (now ars)) × (36 ≤ length (now flags)) × (64 ≤ length (now places)) ⌝ }
+    ensures told { λ r. ⌜ verdictOf r ≡ judged (protocol (now (s .entry))) ⌝ }
+    ensures index { λ r. ⌜ Indexes (now (s .entry)) r (now (arities .exit)) (now (ars .exit)) (now (flags .exit)) (now (places .exit)) ⌝ }
+{
+    let Index::Counts(ns, nr) = index::read_protocol(s, arities, ars, flags, places) else {
+        return Judged::Fault;
+    };
+    let k = least_unfit(s, arities, &ars[..ns], places, nr);
+    if k == 0 {
+        return Judged::Sound(ns, nr);
+    }
+    Judged::Broken(k)
+}

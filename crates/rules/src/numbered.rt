@@ -1,0 +1,118 @@
+// The rule of each number: a built-in rule is written out in the layout of a protocol file's rules.
+ghost use mathlib.Core.Path.{_≡_};
+ghost use mathlib.Core.List.{List};
+ghost use Prim.Native.Nat.{ℕ, _≤_, _<_, _+_};
+ghost use lib.ListN.{length, take};
+ghost use Rattle.octets.specs.Splice.{splice};
+ghost use Rattle.number.specs.Layout.{All};
+ghost use Rattle.term.specs.Arity.{slots};
+ghost use Rattle.protocol.specs.Protocol.{encodeRule};
+ghost use Rattle.protocol.specs.Index.{Entries};
+ghost use Rattle.rules.specs.Numbered.{fixed, applies};
+ghost use Rattle.rules.specs.Numbered.Bytes.{piece-2};
+ghost use Rattle.rules.specs.Numbered.Found.{Put, Applies, placeFound, Finds};
+
+// So many bytes of the lent array; a place in the protocol file; no rule.
+pub enum Found {
+    Written(usize),
+    At(usize),
+    Nothing,
+}
+
+// Rules 0 to 4.
+fn put_fixed(out: &mut [u8], n: usize) -> usize
+    requires { ⌜ (n < 5) × (30 ≤ length (now out)) ⌝ }
+    ensures { λ e. ⌜ Put (now (out .entry)) (now (out .exit)) e (encodeRule (fixed n)) ⌝ }
+{
+    match n {
+        0 => octets::copy_into(out, 0, b"\x01\x01\x00\x00\x01\x00\x00\x00"),
+        1 => octets::copy_into(out, 0, b"\x01\x00\x01\x02\x00\x00\x00\x01\x03\x00\x00"),
+        2 => octets::copy_into(
+            out,
+            0,
+            b"\x01\x00\x01\x03\x00\x00\x01\x03\x00\x00\x01\x01\x00\x00",
+        ),
+        3 => octets::copy_into(out, 0, b"\x01\x02\x00\x00\x01\x03\x00\x00"),
+        _ => octets::copy_into(out, 0, b"\x01\x01\x01\x00\x00\x00\x00\x01\x03\x00\x00"),
+    }
+}
+
+// Copies the first n bytes of a slice to a place of another.
+fn put_prefix(out: &mut [u8], at: usize, src: &[u8], n: usize) -> usize
+    requires { ⌜ (n ≤ length (now src)) × (at + n ≤ length (now out)) ⌝ }
+    ensures next { λ e. ⌜ e ≡ at + n ⌝ }
+    ensures wrote { λ e. ⌜ now (out .exit) ≡ splice (now (out .entry)) at (take n (now (src .entry))) ⌝ }
+{
+    octets::copy_into(out, at, &src[..n])
+}
+
+// The sorts of k message variables, and the premises K of each.
+fn put_premises(out: &mut [u8], k: u8)
+    requires { ⌜ (k ≤ 4) × (30 ≤ length (now out)) ⌝ }
+    ensures { λ e. ⌜ now (out .exit) ≡ splice (now (out .entry)) 0 (piece-2 k) ⌝ }
+{
+    let n = k as usize;
+    out[0] = k;
+    put_prefix(out, 1, b"\x00\x00\x00\x00", n);
+    out[1 + n] = k;
+    put_prefix(
+        out,
+        2 + n,
+        b"\x03\x00\x00\x03\x00\x01\x03\x00\x02\x03\x00\x03",
+        3 * n,
+    );
+}
+
+// The rule that applies the function of tag t, of arity k: K of k message variables, no action, K of the function applied to them.
+fn put_apply(out: &mut [u8], t: u8, k: u8) -> usize
+    requires { ⌜ (t < 128) × (k ≤ 4) × (30 ≤ length (now out)) ⌝ }
+    ensures { λ e. ⌜ Put (now (out .entry)) (now (out .exit)) e (encodeRule (applies t k)) ⌝ }
+{
+    let n = k as usize;
+    put_premises(out, k);
+    octets::copy_into(out, 2 + 4 * n, b"\x00\x01\x03");
+    out[5 + 4 * n] = t;
+    put_prefix(out, 6 + 4 * n, b"\x00\x00\x00\x01\x00\x02\x00\x03", 2 * n)
+}
+
+// The rule that applies the function of a tag, if there is one. No arity is above 4, so a slot above it is an undeclared tag's.
+fn apply_rule(arities: &[u8], t: usize, out: &mut [u8]) -> Found
+    requires { ⌜ (3 ≤ t) × (t < 29) × (length (now arities) ≡ 29) × (30 ≤ length (now out)) ⌝ }
+    ensures { λ r. ⌜ ((fs : List ℕ) → All (λ (a : ℕ). a < 5) fs → now (arities .entry) ≡ slots fs → Applies (slots fs) t r (now (out .exit))) ⌝ }
+{
+    let k = arities[t];
+    if 4 < k {
+        return Found::Nothing;
+    }
+    Found::Written(put_apply(out, t as u8, k))
+}
+
+// The place of a protocol rule.
+fn own_rule(places: &[usize], n: usize, k: usize) -> Found
+    requires { ⌜ n ≤ length (now places) ⌝ }
+    ensures { λ r. ⌜ r ≡ placeFound (now (places .entry)) n k ⌝ }
+{
+    if k < n {
+        return Found::At(places[k]);
+    }
+    Found::Nothing
+}
+
+// The rule of a number: its bytes are written to the lent array, or stand at a place of the protocol file.
+pub fn find_rule(
+    arities: &[u8],
+    places: &[usize],
+    nr: usize,
+    number: usize,
+    out: &mut [u8],
+) -> Found
+    requires { ⌜ (length (now arities) ≡ 29) × (nr ≤ length (now places)) × (30 ≤ length (now out)) ⌝ }
+    ensures { λ r. ⌜ ((s : List ℕ) (ns : ℕ) (ars flags : List ℕ) (i : Entries s ns nr (now (arities .entry)) ars flags (now (places .entry))) → Finds (i .is) s (now (arities .entry)) (take ns ars) number r (now (out .exit))) ⌝ }
+{
+    match number {
+        0..=4 => Found::Written(put_fixed(out, number)),
+        5..=14 => apply_rule(arities, number - 2, out),
+        15..=30 => apply_rule(arities, 13 + (number - 15), out),
+        _ => own_rule(places, nr, number - 31),
+    }
+}

@@ -1,0 +1,28 @@
+/*
+ * The calls of the checker. What their contracts prove is in crates/checker; what no contract can say is here.
+ *
+ * A slice is a pointer and a length; a length of 0 may come with any pointer. The slices of one call do not overlap, and nothing else
+ * reads or writes them while the call runs. A work area of 65,536 bytes is long enough for every call.
+ *
+ * The answer packs the outcome. Bits 56 up: 0 refused, 1 attack, 2 run, 3 written. Refused: bits 32 to 39 the number of document 01's
+ * refusal table, bits 0 to 31 the item. Written: bits 0 to 31 the length. All other bits are zero.
+ */
+#ifndef LEVTOSZIV_H
+#define LEVTOSZIV_H
+
+#include <stddef.h>
+#include <stdint.h>
+
+#ifdef __cplusplus
+extern "C" {
+#endif
+
+/* Writes the canonical form of the term file's term, read under the protocol, to the start of the output. */
+uint64_t levtosziv_canonical(const uint8_t *protocol, size_t protocol_length, const uint8_t *term, size_t term_length,
+                             uint8_t *output, size_t output_length, uint8_t *work, size_t work_length);
+
+#ifdef __cplusplus
+}
+#endif
+
+#endif

@@ -1,0 +1,140 @@
+//! The proved calls beside the independent implementation: the same outcome and the same lent bytes.
+
+use levtosziv::{Refusal, Written};
+use reference::calls::Outcome;
+use std::collections::BTreeMap;
+use std::sync::OnceLock;
+
+/// Bytes around a lent slice that a call must not touch.
+const GUARD: usize = 64;
+const GUARD_BYTE: u8 = 0xA5;
+
+/// Bytes without a pattern, from which lent slices are filled.
+fn junk() -> &'static [u8] {
+    static JUNK: OnceLock<Vec<u8>> = OnceLock::new();
+    JUNK.get_or_init(|| {
+        let mut state = 0x9E37_79B9_7F4A_7C15u64;
+        let mut next = || {
+            state ^= state << 13;
+            state ^= state >> 7;
+            state ^= state << 17;
+            state as u8
+        };
+        (0..200_000).map(|_| next()).collect()
+    })
+}
+
+/// A slice between guard bytes, filled with junk that depends on a seed.
+pub struct Lent {
+    bytes: Vec<u8>,
+}
+
+impl Lent {
+    pub fn new(length: usize, seed: u64) -> Lent {
+        let mut bytes = vec![GUARD_BYTE; length + 2 * GUARD];
+        let start = seed as usize % 4_096;
+        bytes[GUARD..GUARD + length].copy_from_slice(&junk()[start..start + length]);
+        Lent { bytes }
+    }
+
+    pub fn slice(&mut self) -> &mut [u8] {
+        let end = self.bytes.len() - GUARD;
+        &mut self.bytes[GUARD..end]
+    }
+
+    pub fn guards_hold(&self) -> bool {
+        let end = self.bytes.len() - GUARD;
+        self.bytes[..GUARD]
+            .iter()
+            .chain(&self.bytes[end..])
+            .all(|byte| *byte == GUARD_BYTE)
+    }
+}
+
+/// The proved call's answer in the reference's words.
+pub fn outcome(written: Written) -> Outcome {
+    match written {
+        Written::Length(length) => Outcome::Written(length),
+        Written::Refused(Refusal { number, item }) => {
+            Outcome::Refused(reference::refusal::Refusal { number, item })
+        }
+    }
+}
+
+/// The two implementations on one input of canonical form; the reference's outcome.
+pub fn canonical_form_agrees(
+    protocol: &[u8],
+    term: &[u8],
+    output: usize,
+    work: usize,
+    seed: u64,
+) -> Outcome {
+    let (mut our_output, mut our_work) = (Lent::new(output, seed), Lent::new(work, seed + 1));
+    let (mut their_output, mut their_work) = (Lent::new(output, seed), Lent::new(work, seed + 1));
+    let ours = outcome(levtosziv::canonical_form(
+        protocol,
+        term,
+        our_output.slice(),
+        our_work.slice(),
+    ));
+    let theirs =
+        reference::calls::canonical_form(protocol, term, their_output.slice(), their_work.slice());
+    let input = || format!("protocol {protocol:02X?} term {term:02X?} output {output} work {work}");
+    assert_eq!(ours, theirs, "{}", input());
+    assert!(
+        our_output.slice() == their_output.slice(),
+        "output: {}",
+        input()
+    );
+    assert!(
+        our_work.slice() == their_work.slice(),
+        "work area: {}",
+        input()
+    );
+    assert!(
+        our_output.guards_hold() && our_work.guards_hold(),
+        "guards: {}",
+        input()
+    );
+    theirs
+}
+
+/// How often each kind of outcome came, and the least share of each, in hundredths of a percent.
+#[derive(Default)]
+pub struct Shares {
+    counts: BTreeMap<String, usize>,
+    all: usize,
+}
+
+impl Shares {
+    /// The outcome without the figures that differ from input to input.
+    pub fn add(&mut self, outcome: Outcome) {
+        let kind = match outcome {
+            Outcome::Refused(refusal) if matches!(refusal.number, 2 | 3) => {
+                format!("refused {} file {}", refusal.number, refusal.item)
+            }
+            Outcome::Refused(refusal) => format!("refused {}", refusal.number),
+            Outcome::Attack(_) => "attack".to_string(),
+            Outcome::Run(_) => "run".to_string(),
+            Outcome::Written(_) => "written".to_string(),
+        };
+        *self.counts.entry(kind).or_default() += 1;
+        self.all += 1;
+    }
+
+    pub fn print(&self) {
+        for (kind, count) in &self.counts {
+            println!(
+                "{kind:20} {count:8} {:6.2} %",
+                100.0 * *count as f64 / self.all as f64
+            );
+        }
+    }
+
+    pub fn at_least(&self, least: usize, kinds: &[&str]) {
+        for kind in kinds {
+            let share = 10_000 * self.counts.get(*kind).copied().unwrap_or(0) / self.all;
+            assert!(share >= least, "{kind}: {share} of 10,000");
+        }
+    }
+}

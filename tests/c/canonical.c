@@ -1,0 +1,42 @@
+/* The calls from C, by the header alone: document 01's first case of canonical form, a short output, a short work area. */
+#include "levtosziv.h"
+
+#include <stdio.h>
+#include <string.h>
+
+static uint8_t work[65536];
+
+static int fails(const char *what, int ok)
+{
+    if (!ok)
+        printf("C: %s failed\n", what);
+    return !ok;
+}
+
+int main(void)
+{
+    const uint8_t protocol[] = {0, 0, 0};
+    /* exp(exp(exp(g,a),b),inv(a)) with g public name 0, a and b fresh names 0 and 1 */
+    const uint8_t term[] = {10, 10, 10, 1, 0, 2, 0, 2, 1, 11, 2, 0};
+    /* exp(g,b) */
+    const uint8_t form[] = {10, 1, 0, 2, 1};
+    uint8_t output[8];
+    int failed = 0;
+
+    memset(output, 0xA5, sizeof output);
+    memset(work, 0x5A, sizeof work);
+    uint64_t answer = levtosziv_canonical(protocol, sizeof protocol, term, sizeof term, output, sizeof output, work, sizeof work);
+    failed += fails("the answer", answer == ((uint64_t)3 << 56 | 5));
+    failed += fails("the output", memcmp(output, form, 5) == 0 && output[5] == 0xA5);
+    failed += fails("the work area", work[0] == 0 && memcmp(work, work + 1, sizeof work - 1) == 0);
+
+    answer = levtosziv_canonical(protocol, sizeof protocol, term, sizeof term, output, 4, work, sizeof work);
+    failed += fails("a short output", answer == ((uint64_t)15 << 32 | 5));
+
+    answer = levtosziv_canonical(protocol, sizeof protocol, term, sizeof term, output, sizeof output, work, sizeof work - 1);
+    failed += fails("a short work area", answer == (uint64_t)1 << 32);
+
+    answer = levtosziv_canonical(NULL, 0, term, sizeof term, output, sizeof output, work, sizeof work);
+    failed += fails("an empty protocol", answer == ((uint64_t)3 << 32 | 1));
+    return failed != 0;
+}
