@@ -30,14 +30,11 @@ pub enum TermFile {
     Large,
 }
 
-// The numbers that a file can hold are below this.
-const NUMBER_LIMIT: usize = 2097152;
-
 fn term_file(term: &[u8], arities: &[u8]) -> TermFile
     requires { ⌜ length (now term) ≤ 2 ^ 32 ⌝ }
     ensures { λ r. ⌜ r ≡ fileOf (termRuling (now (arities .entry)) (now (term .entry))) ⌝ }
 {
-    match term::walk_term(term, arities, 0, 0, 0, NUMBER_LIMIT) {
+    match term::walk_term(term, arities, 0, 0, 0, number::NUMBER_LIMIT) {
         Walk::End(e, n, h) => {
             if e != term.len() {
                 return TermFile::Layout;

@@ -6,8 +6,10 @@ ghost use Rattle.octets.specs.Splice.{splice};
 ghost use Rattle.number.specs.Groups.{groups};
 ghost use Rattle.number.specs.Reading.{readIn, readNumber, below, asRead, longer, got};
 
-// "three groups at most": the one constant of the code.
+// "three groups at most": the one figure of the code, and the limit that follows from it: 128 to that power.
 const MOST_GROUPS: usize = 3;
+
+pub const NUMBER_LIMIT: usize = 2097152;
 
 // What stands at a place: a number and the place behind it, or no number.
 pub enum Number {

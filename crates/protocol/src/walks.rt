@@ -10,9 +10,6 @@ use number::Number;
 use number::Seen;
 use term::Walk;
 
-// The numbers that a file can hold are below this.
-pub const NUMBER_LIMIT: usize = 2097152;
-
 // A term of a rule, 64 symbols at most, and whether a leaf of that kind, from lo on and below hi, stands in it.
 fn rule_term(s: &[u8], arities: &[u8], at: usize, kind: usize, lo: usize, hi: usize) -> Seen
     requires { ⌜ length (now s) ≤ 2 ^ 32 ⌝ }
@@ -241,7 +238,7 @@ fn closed_parts(s: &[u8], arities: &[u8], ars: &[u8], at: usize, n: usize) -> Se
     requires { ⌜ length (now s) ≤ 2 ^ 32 ⌝ }
     ensures { λ r. ⌜ r ≡ closed (seen (any (any (asks 0 n numberLimit))) (many (facts (now (s .entry)) (now (arities .entry)) (now (ars .entry))) 3 at)) ⌝ }
 {
-    match some_parts(s, arities, ars, at, 3, 0, n, NUMBER_LIMIT) {
+    match some_parts(s, arities, ars, at, 3, 0, n, number::NUMBER_LIMIT) {
         Seen::End(e, h) => {
             if h {
                 return Seen::Fault;

@@ -109,7 +109,7 @@ fn rule_fits(s: &[u8], arities: &[u8], ars: &[u8], at: usize) -> bool
     requires { ⌜ length (now s) ≤ 2 ^ 32 ⌝ }
     ensures { λ b. ⌜ OfRule (now (s .entry)) (now (arities .entry)) (now (ars .entry)) at (λ (r : Rule). b ≡ fits r) ⌝ }
 {
-    let fresh = rule_asks(s, arities, ars, at, 2, 0, walks::NUMBER_LIMIT);
+    let fresh = rule_asks(s, arities, ars, at, 2, 0, number::NUMBER_LIMIT);
     let known = list_asks(s, arities, ars, at, 0, 3, 2, 4);
     let made = list_asks(s, arities, ars, at, 2, 3, 0, 2);
     let learnt = list_asks(s, arities, ars, at, 2, 3, 3, 4);

@@ -1,0 +1,132 @@
+-- The facts of a node within the limits: well formed, as many arguments as the symbol takes; and without variables if the values are.
+use Prim.Native.Nat.{ℕ, zero, suc, _<_, _≤_}
+use mathlib.Core.List.{List, [], _∷_}
+use mathlib.Core.Bool.{Bool, true, false, not}
+use mathlib.Core.Logic.{⊎-elim, _↔_}
+use mathlib.Core.Option.{Option, some}
+use mathlib.Core.Path.{_≡_, refl, ap, sym, _∙_, subst}
+use native.Mathlib.Omega.{arith}
+use borrow.Author.Tests.{lt-ltb, le-ltb}
+use lib.ListN.{length, getD, length-map}
+use Rattle.octets.specs.Choice.{by-size}
+use Rattle.number.specs.Groups.{numberLimit}
+use Rattle.number.specs.Reading.{any}
+use Rattle.number.specs.Layout.{All}
+use Rattle.term.specs.Term.{variable, public, fresh, Term, leaf, app, Terms, nil, _&_, Formed, InRange, InRanges}
+use Rattle.term.specs.Arity.{arity, slots}
+use Rattle.term.specs.Reader.Exact.{Good}
+use Rattle.term.specs.Walk.{hits, holds, holdss}
+use Rattle.rewriting.specs.Tests.{true-false, or-split, not-split}
+use Rattle.message.specs.Substitution.{sub, Occurs, Occurss, Ground}
+use Rattle.message.specs.Substitution.Laws.{sub-formed, sub-ground}
+use Rattle.message.specs.Theorems.{declared}
+use Rattle.protocol.specs.Protocol.{Fact, Rule, Protocol, part, factArities, leafIn}
+use Rattle.rules.specs.Numbered.Limits.{rule-within}
+use Rattle.protocol.specs.Protocol.Limits.{TermWithin, FactWithin, FactsWithin, RuleWithin, Within}
+use Rattle.steps.specs.Lists.{all-map, all-both, all-at, map-all, none-all}
+use Rattle.steps.specs.Nodes.{Node, NodeWithin}
+use Rattle.steps.specs.Facts.{valueAt, filledFact, filledPart, factsOf, SameFact, sameFact}
+use Rattle.steps.specs.Facts.Laws.{fact-decides}
+
+-- a symbol that is there, as many arguments as it takes, each well formed
+pub record FactFormed (p : Protocol) (f : Fact) : Type 0 where
+  pub known : f .symbol < length (factArities (p .symbols))
+  pub takes : length (f .terms) ≡ getD (factArities (p .symbols)) (f .symbol) 0
+  pub each : All (Formed (arity (slots (p .functions)))) (f .terms)
+
+-- ── variables ──
+mutual
+  occurs-range : (t : Term) (v : ℕ) → InRange t → Occurs v t → v < numberLimit
+  occurs-range (leaf variable n) v r o = subst (λ (k : ℕ). k < numberLimit) o r
+  occurs-range (leaf public n) v r o = absurd o
+  occurs-range (leaf fresh n) v r o = absurd o
+  occurs-range (app f ts) v r o = occurss-range ts v (r .1) o
+
+  occurss-range : (ts : Terms) (v : ℕ) → InRanges ts → Occurss v ts → v < numberLimit
+  occurss-range nil v r o = absurd o
+  occurss-range (t & ts) v r o = ⊎-elim (λ h. occurs-range t v (r .0) h) (λ h. occurss-range ts v (r .1) h) o
+
+hit : (n v : ℕ) → n ≤ v → v < numberLimit → hits 0 n numberLimit 0 v ≡ true
+hit n v k l = simp (le-ltb v n k, lt-ltb v numberLimit l)
+
+mutual
+  -- a variable that no test from n on finds is below n
+  none-below : (t : Term) (v n : ℕ) → holds t 0 n numberLimit ≡ false → v < numberLimit → Occurs v t → v < n
+  none-below (leaf variable m) v n h l o =
+      by-size v n (λ k. k)
+      (λ k. true-false true refl (sym (hit n v k l) ∙ ap (hits 0 n numberLimit 0) (sym o) ∙ h))
+  none-below (leaf public m) v n h l o = absurd o
+  none-below (leaf fresh m) v n h l o = absurd o
+  none-below (app f ts) v n h l o = none-belows ts v n h l o
+
+  none-belows : (ts : Terms) (v n : ℕ) → holdss ts 0 n numberLimit ≡ false → v < numberLimit → Occurss v ts → v < n
+  none-belows nil v n h l o = absurd o
+  none-belows (t & ts) v n h l o =
+      let (a, b) = or-split (holds t 0 n numberLimit) (holdss ts 0 n numberLimit) h in
+      ⊎-elim (λ q. none-below t v n a l q) (λ q. none-belows ts v n b l q) o
+
+occurs-below : (t : Term) (v n : ℕ) → InRange t → holds t 0 n numberLimit ≡ false → Occurs v t → v < n
+occurs-below t v n r h o = none-below t v n h (occurs-range t v r o) o
+
+value-ground : (vs : List Term) → All Ground vs → (v : ℕ) → v < length vs → Ground (valueAt vs v)
+value-ground vs g v l = go vs g v (leaf variable v) l
+  where
+    go : (vs : List Term) → All Ground vs → (i : ℕ) (d : Term) → i < length vs → Ground (getD vs i d)
+    go [] g i d l = absurd (omega arith)
+    go (t ∷ ts) g zero d l = g .0
+    go (t ∷ ts) g (suc i) d l = go ts (g .1) i d (omega arith)
+
+-- ── values are well formed, and so are the terms that they fill ──
+module _ (p : Protocol) where
+  abbrev ar : ℕ → Option ℕ
+  ar = arity (slots (p .functions))
+
+  abbrev Fitting : Fact → Type 0
+  Fitting = FactWithin (slots (p .functions)) (factArities (p .symbols))
+
+  pub value-formed : (vs : List Term) → All (Good (slots (p .functions))) vs → (v : ℕ) → Formed ar (valueAt vs v)
+  value-formed vs w v = all-at (Formed ar) (leaf variable v) tt vs (all-map _ (Formed ar) (λ t g. g .0) vs w) v
+
+  fact-formed : (vs : List Term) → All (Good (slots (p .functions))) vs → (f : Fact) → Fitting f → FactFormed p (filledFact vs f)
+  fact-formed vs w f g = record {
+    known = g .known;
+    takes = length-map (f .terms) (sub (valueAt vs)) ∙ g .takes;
+    each =
+        map-all (TermWithin (slots (p .functions))) (Formed ar) (sub (valueAt vs))
+        (λ t b. sub-formed ar (valueAt vs) t (b .formed) (λ v o. value-formed vs w v)) (f .terms) (g .each);
+  }
+
+  pub part-within : (u : Rule) → RuleWithin (slots (p .functions)) (factArities (p .symbols)) u → (w : ℕ) → All Fitting (part w u)
+  part-within u r w =
+      all-at (All Fitting) [] tt (u .parts) (all-map (FactsWithin (slots (p .functions)) (factArities (p .symbols))) (All Fitting) (λ fs b. b .each) (u .parts) (r .laid .each)) w
+
+module _ (p : Protocol) (fit : Within p) where
+  pub facts-formed : (x : Node) → NodeWithin p x → (w : ℕ) → All (FactFormed p) (factsOf p w x)
+  facts-formed x b w =
+      subst (λ (o : Option Rule). All (FactFormed p) (filledPart w (x .values) o)) (sym (b .known))
+      (map-all (Fitting p) (FactFormed p) (filledFact (x .values)) (fact-formed p (x .values) (b .each)) (part w (b .is))
+      (part-within p (b .is) (rule-within p fit (x .rule) (b .is) (b .known)) w))
+
+  -- of two such facts the test decides whether they are the same
+  pub formed-decides : (f g : Fact) → FactFormed p f → FactFormed p g → (sameFact f g ≡ true) ↔ SameFact (arity (slots (p .functions))) f g
+  formed-decides f g a b = fact-decides (arity (slots (p .functions))) (declared (p .functions)) f g (a .each) (b .each)
+
+  -- without variables, if the values are
+  pub facts-ground : (x : Node) → NodeWithin p x → All Ground (x .values) → (w : ℕ) → All (λ f. All Ground (f .terms)) (factsOf p w x)
+  facts-ground x b g w =
+      subst (λ (o : Option Rule). All (λ f. All Ground (f .terms)) (filledPart w (x .values) o)) (sym (b .known))
+      (map-all (λ f. Fitting p f × (leafIn 0 (length (b .is .sorts)) numberLimit f ≡ false)) (λ f. All Ground (f .terms)) (filledFact (x .values))
+      (λ f h. fact-ground (x .values) (length (b .is .sorts)) g (omega (arith, b .takes)) f (h .0) (h .1)) (part w (b .is))
+      (all-both (Fitting p) (λ f. leafIn 0 (length (b .is .sorts)) numberLimit f ≡ false) (part w (b .is)) (part-within p (b .is) fits w)
+      (all-at (All (λ f. leafIn 0 (length (b .is .sorts)) numberLimit f ≡ false)) [] tt (b .is .parts)
+      (all-map (λ fs. any (leafIn 0 (length (b .is .sorts)) numberLimit) fs ≡ false) (All (λ f. leafIn 0 (length (b .is .sorts)) numberLimit f ≡ false)) (λ fs h. none-all (leafIn 0 (length (b .is .sorts)) numberLimit) fs h)
+      (b .is .parts) (none-all (any (leafIn 0 (length (b .is .sorts)) numberLimit)) (b .is .parts) (not-split _ (fits .bound)))) w)))
+    where
+      fits : RuleWithin (slots (p .functions)) (factArities (p .symbols)) (b .is)
+      fits = rule-within p fit (x .rule) (b .is) (b .known)
+
+      fact-ground : (vs : List Term) (n : ℕ) → All Ground vs → n ≤ length vs → (f : Fact) → Fitting p f → leafIn 0 n numberLimit f ≡ false → All Ground (filledFact vs f .terms)
+      fact-ground vs n g l f h k =
+          map-all (λ t. TermWithin (slots (p .functions)) t × (holds t 0 n numberLimit ≡ false)) Ground (sub (valueAt vs))
+          (λ t b. sub-ground (valueAt vs) t (λ v o. value-ground vs g v (omega (arith, occurs-below t v n (b .0 .range) (b .1) o)))) (f .terms)
+          (all-both (TermWithin (slots (p .functions))) (λ t. holds t 0 n numberLimit ≡ false) (f .terms) (h .each) (none-all (λ t. holds t 0 n numberLimit) (f .terms) k))

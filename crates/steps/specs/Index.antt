@@ -1,0 +1,23 @@
+-- What the code has of a protocol: its file, the slots of its functions, the places of its rules.
+use Prim.Native.Nat.{ℕ, _^_, _≤_}
+use mathlib.Core.List.{List}
+use mathlib.Core.Path.{_≡_}
+use lib.ListN.{length}
+use Rattle.protocol.specs.Protocol.{Protocol}
+use Rattle.protocol.specs.Index.{Entries}
+
+-- the index is of protocol p
+pub record IndexOf (s arities places : List ℕ) (nr : ℕ) (p : Protocol) : Type 0 where
+  pub ns : ℕ
+  pub ars : List ℕ
+  pub flags : List ℕ
+  pub entries : Entries s ns nr arities ars flags places
+  pub same : entries .is ≡ p
+
+-- it is of some protocol, and the tables are as long as the code makes them
+pub record Given (s arities places : List ℕ) (nr : ℕ) : Type 0 where
+  pub protocol : Protocol
+  pub index : IndexOf s arities places nr protocol
+  pub slots-many : length arities ≡ 29
+  pub places-many : nr ≤ length places
+  pub short : length s ≤ 2 ^ 32

@@ -1,0 +1,52 @@
+-- A condition of all elements of a list.
+use Prim.Native.Nat.{ℕ, zero, suc}
+use mathlib.Core.List.{List, [], _∷_, map}
+use mathlib.Core.Bool.{Bool, true, false}
+use mathlib.Core.Option.{some, Option·none-ne-some, Option·some-injective}
+use mathlib.Core.Path.{_≡_, refl, subst}
+use lib.ListN.{getD}
+use Rattle.number.specs.Reading.{any}
+use Rattle.number.specs.Layout.{All}
+use Rattle.rewriting.specs.Lists.{nth}
+use Rattle.rewriting.specs.Tests.{or-split}
+
+module _ {A : Type 0} (P Q : A → Type 0) where
+  pub all-map : ((x : A) → P x → Q x) → (xs : List A) → All P xs → All Q xs
+  all-map h [] a = tt
+  all-map h (x ∷ xs) a = (h x (a .0), all-map h xs (a .1))
+
+  pub all-both : (xs : List A) → All P xs → All Q xs → All (λ x. P x × Q x) xs
+  all-both [] a b = tt
+  all-both (x ∷ xs) a b = ((a .0, b .0), all-both xs (a .1) (b .1))
+
+module _ {A : Type 0} (P : A → Type 0) where
+  -- of the element of a number, and of what stands for one that is not there
+  pub all-at : (d : A) → P d → (xs : List A) → All P xs → (i : ℕ) → P (getD xs i d)
+  all-at d b [] a i = b
+  all-at d b (x ∷ xs) a zero = a .0
+  all-at d b (x ∷ xs) a (suc i) = all-at d b xs (a .1) i
+
+  -- of the element of a number, counted from 1
+  pub all-nth : (xs : List A) → All P xs → (k : ℕ) (x : A) → nth xs k ≡ some x → P x
+  all-nth xs a zero x h = absurd (Option·none-ne-some x h)
+  all-nth [] a (suc k) x h = absurd (Option·none-ne-some x h)
+  all-nth (y ∷ ys) a (suc zero) x h = subst P (Option·some-injective y x h) (a .0)
+  all-nth (y ∷ ys) a (suc (suc k)) x h = all-nth ys (a .1) (suc k) x h
+
+  pub nth-all : (xs : List A) → ((k : ℕ) (x : A) → nth xs k ≡ some x → P x) → All P xs
+  nth-all [] h = tt
+  nth-all (x ∷ xs) h = (h 1 x refl, nth-all xs (λ k y e. later k y e))
+    where
+      later : (k : ℕ) (y : A) → nth xs k ≡ some y → P y
+      later zero y e = absurd (Option·none-ne-some y e)
+      later (suc k) y e = h (suc (suc k)) y e
+
+module _ {A B : Type 0} (P : A → Type 0) (Q : B → Type 0) (g : A → B) where
+  pub map-all : ((x : A) → P x → Q (g x)) → (xs : List A) → All P xs → All Q (map g xs)
+  map-all h [] a = tt
+  map-all h (x ∷ xs) a = (h x (a .0), map-all h xs (a .1))
+
+-- no element passes a test
+pub none-all : {A : Type 0} (q : A → Bool) (xs : List A) → any q xs ≡ false → All (λ x. q x ≡ false) xs
+none-all q [] h = tt
+none-all q (x ∷ xs) h = let (a, b) = or-split (q x) (any q xs) h in (a, none-all q xs b)

@@ -1,0 +1,116 @@
+-- The pass over the names by the nodes is crate rewriting's pass of cause 9.
+use Prim.Native.Nat.{ℕ, zero, suc, _+_, _<_, _≤_}
+use mathlib.Core.List.{List, [], _∷_, _++_, append-assoc, append-nil, map}
+use mathlib.Core.Bool.{Bool, true, false, cond, _||_}
+use mathlib.Core.Option.{Option, none, some}
+use mathlib.Core.Path.{_≡_, refl, ap, ap₂, sym, _∙_}
+use native.Mathlib.Omega.{arith}
+use native.Mathlib.Numerals.{add-one}
+use lib.Dec.{eqb, leb}
+use lib.ListN.{length, getD, take, drop, drop-of-length-le}
+use lib.Seq.{drop-cons, take-suc}
+use Rattle.rewriting.specs.Lists.{countBy}
+use Rattle.rewriting.specs.Lists.Laws.{count-append}
+use Rattle.rewriting.specs.Tests.{leb-sum, leb-gt, le-leb, eqb-self}
+use Rattle.rewriting.specs.Graph.{nameOf, namesOf}
+use Rattle.rewriting.specs.Machine.{madeAlready}
+use Rattle.rewriting.specs.Writer.{nameTwiceFrom, firstNameTwice}
+use Rattle.term.specs.declared.Fresh.{Fresh}
+use Rattle.protocol.specs.Protocol.{Protocol}
+use Rattle.steps.specs.Nodes.{Node}
+use Rattle.steps.specs.Facts.{makes}
+use Rattle.steps.specs.Runs.{rewritten, rewrittens}
+use Rattle.steps.specs.Values.Scan.{asFound}
+use Rattle.steps.specs.declared.names.Made.{Made}
+use Rattle.steps.specs.declared.names.Made.the-variants as md
+use Rattle.steps.specs.Names.{madeBy, isMade, againIn, MadeIs, sameMade}
+
+made-append : (xs ys : List Node) → madeBy (xs ++ ys) ≡ madeBy xs ++ madeBy ys
+made-append [] ys = refl
+made-append (x ∷ xs) ys =
+    ap (λ (l : List ℕ). nameOf (makes x) ++ l) (made-append xs ys) ∙ sym (append-assoc (nameOf (makes x)) (madeBy xs) (madeBy ys))
+
+-- one node more
+made-more : (xs : List Node) (j : ℕ) (d : Node) → j < length xs → madeBy (take (suc j) xs) ≡ madeBy (take j xs) ++ nameOf (makes (getD xs j d))
+made-more xs j d l =
+    ap madeBy (take-suc xs j d l) ∙ made-append (take j xs) (getD xs j d ∷ [])
+    ∙ ap (λ (n : List ℕ). madeBy (take j xs) ++ n) (append-nil (nameOf (makes (getD xs j d))))
+
+-- ── is a name among those of the first nodes? ──
+abbrev sameAs : ℕ → Option ℕ → Bool
+sameAs m none = false
+sameAs m (some n) = eqb m n
+
+module _ (m : ℕ) (xs : List Node) (d : Node) (j : ℕ) (l : j < length xs) where
+  one-more : (o : Option ℕ) → leb 1 (countBy (eqb m) (nameOf o)) ≡ sameAs m o
+  one-more none = refl
+  one-more (some n) = go (eqb m n)
+    where
+      go : (b : Bool) → leb 1 (countBy (λ (x : ℕ). b) (n ∷ [])) ≡ b
+      go true = refl
+      go false = refl
+
+  pub made-step : isMade m (take (j + 1) xs) ≡ (isMade m (take j xs) || sameAs m (makes (getD xs j d)))
+  made-step =
+      let o : j + 1 ≡ suc j = omega arith in
+      ap (λ (k : ℕ). isMade m (take k xs)) o
+      ∙ leb-sum (countBy (eqb m) (madeBy (take j xs))) (countBy (eqb m) (nameOf (makes (getD xs j d)))) _
+      (ap (countBy (eqb m)) (made-more xs j d l) ∙ count-append (eqb m) (madeBy (take j xs)) (nameOf (makes (getD xs j d))))
+      ∙ ap (λ (b : Bool). isMade m (take j xs) || b) (one-more (makes (getD xs j d)))
+
+-- by what the code has of the node
+pub made-turn :
+    (m : ℕ) (xs : List Node) (d : Node) (j : ℕ) → j < length xs → (b : Bool) (a : Made) → b ≡ isMade m (take j xs) → MadeIs (makes (getD xs j d)) a
+    → (b || sameMade m a) ≡ isMade m (take (j + 1) xs)
+made-turn m xs d j l b a h k =
+    ap₂ _||_ h (same-as a k) ∙ sym (made-step m xs d j l)
+  where
+    same-as : (a : Made) → MadeIs (makes (getD xs j d)) a → sameMade m a ≡ sameAs m (makes (getD xs j d))
+    same-as (md.Of f) k = sym (ap (sameAs m) k)
+    same-as md.Nothing k = sym (ap (sameAs m) k)
+
+-- ── the pass ──
+again-already : (ys : List Node) (o : Option ℕ) → madeAlready (madeBy ys) o ≡ againIn ys o
+again-already ys none = refl
+again-already ys (some m) = refl
+
+-- the node's name, as the code has it, is made by the nodes before it
+pub again-of : (ys : List Node) (o : Option ℕ) (f : Fresh) (b : Bool) → o ≡ some (f .0) → b ≡ isMade (f .0) ys → b ≡ againIn ys o
+again-of ys o f b h k = k ∙ sym (ap (againIn ys) h)
+
+pub again-none : (ys : List Node) (o : Option ℕ) → o ≡ none → false ≡ againIn ys o
+again-none ys o h = sym (ap (againIn ys) h)
+
+module _ (p : Protocol) (d : Node) (xs : List Node) where
+  -- what is left is what there was
+  abbrev pub NamesLeft : ℕ → Type 0
+  NamesLeft j = firstNameTwice (rewrittens p xs) ≡ nameTwiceFrom (j + 1) (madeBy (take j xs)) (rewrittens p (drop j xs))
+
+  pub names-all : NamesLeft 0
+  names-all = refl
+
+  step : (j : ℕ) (b : Bool) → j < length xs → againIn (take j xs) (makes (getD xs j d)) ≡ b → NamesLeft j
+      → firstNameTwice (rewrittens p xs)
+      ≡ cond b (some (j + 1)) (nameTwiceFrom (suc (j + 1)) (madeBy (take j xs) ++ nameOf (makes (getD xs j d))) (rewrittens p (drop (suc j) xs)))
+  step j b l t h =
+      h ∙ ap (λ (ys : List Node). nameTwiceFrom (j + 1) (madeBy (take j xs)) (rewrittens p ys)) (drop-cons xs j d l)
+      ∙ ap (λ (a : Bool). cond a (some (j + 1)) (nameTwiceFrom (suc (j + 1)) (madeBy (take j xs) ++ nameOf (makes (getD xs j d))) (rewrittens p (drop (suc j) xs))))
+      (again-already (take j xs) (makes (getD xs j d)) ∙ t)
+
+  pub names-more : (j : ℕ) → j < length xs → againIn (take j xs) (makes (getD xs j d)) ≡ false → NamesLeft j → NamesLeft (j + 1)
+  names-more j l t h =
+      let a : suc (j + 1) ≡ j + 1 + 1 = omega arith in
+      let b : suc j ≡ j + 1 = omega arith in
+      step j false l t h
+      ∙ ap (λ (m : List ℕ). nameTwiceFrom (suc (j + 1)) m (rewrittens p (drop (suc j) xs))) (sym (made-more xs j d l))
+      ∙ ap₂ (λ (k i : ℕ). nameTwiceFrom k (madeBy (take i xs)) (rewrittens p (drop i xs))) a b
+
+  found-is : (k : ℕ) → asFound (k + 1) ≡ some (k + 1)
+  found-is k = rw add-one
+
+  pub names-twice : (j : ℕ) → j < length xs → againIn (take j xs) (makes (getD xs j d)) ≡ true → NamesLeft j → asFound (j + 1) ≡ firstNameTwice (rewrittens p xs)
+  names-twice j l t h = found-is j ∙ sym (step j true l t h)
+
+  pub names-none : (j : ℕ) → length xs ≤ j → NamesLeft j → none ≡ firstNameTwice (rewrittens p xs)
+  names-none j l h =
+      sym (h ∙ ap (λ (ys : List Node). nameTwiceFrom (j + 1) (madeBy (take j xs)) (rewrittens p ys)) (drop-of-length-le xs l))

@@ -1,0 +1,284 @@
+-- What code answers of nodes: the place behind one, how many variables its rule has; and the steps of the loop over a list.
+use Prim.Native.Nat.{ℕ, zero, suc, _+_, _≤_, _<_}
+use mathlib.Core.List.{List, [], _∷_}
+use mathlib.Core.Bool.{Bool, true, false}
+use mathlib.Core.Option.{Option, none, some}
+use mathlib.Core.Path.{_≡_, refl, ap, ap₂, sym, _∙_, subst}
+use native.Mathlib.Omega.{arith}
+use lib.ListN.{length, getD, take, set}
+use borrow.Author.Tests.{eq-eqb, ne-eqb}
+use Rattle.octets.specs.Choice.{pick, cut, clash}
+use Rattle.octets.specs.Head.{Bytes}
+use Rattle.number.specs.Reading.{Read, got, fault, andThen, readNumber, below, many}
+use Rattle.number.specs.Reading.Laws.{cut-got, then-got}
+use Rattle.number.specs.Reading.Many.{Came, came-none, came-more}
+use Rattle.term.specs.Term.{Term}
+use Rattle.term.specs.Arity.{slots}
+use Rattle.term.specs.Reader.{term}
+use Rattle.term.specs.Walk.{endeds}
+use Rattle.term.specs.declared.Part.{Part}
+use Rattle.term.specs.declared.Part.the-variants as part
+use Rattle.protocol.specs.Protocol.{Rule, Protocol, rule}
+use Rattle.protocol.specs.Protocol.Limits.{Within}
+use Rattle.protocol.specs.Protocol.Walks.{sortsAt}
+use Rattle.protocol.specs.Places.{valueOf, Here}
+use Rattle.protocol.specs.Places.Laws.{rule-layout, vars-law}
+use Rattle.protocol.specs.Index.{Entries, Placed}
+use Rattle.protocol.specs.Index.Fill.{places-more, places-end}
+use Rattle.rules.specs.Numbered.{ruleOf}
+use Rattle.rules.specs.Numbered.Limits.{rule-within}
+use Rattle.rules.specs.Numbered.Found.{WrittenAs, PlacedAs, Finds, written-reads}
+use Rattle.rules.specs.declared.numbered.Found.{Found}
+use Rattle.rules.specs.declared.numbered.Found.the-variants as fd
+use Rattle.steps.specs.Index.{IndexOf}
+use Rattle.steps.specs.declared.nodes.Variables.{Variables}
+use Rattle.steps.specs.declared.nodes.Variables.the-variants as vars
+use Rattle.steps.specs.declared.nodes.NodeEnd.{NodeEnd}
+use Rattle.steps.specs.declared.nodes.NodeEnd.the-variants as end
+use Rattle.steps.specs.declared.nodes.Nodes.{Nodes}
+use Rattle.steps.specs.declared.nodes.Nodes.the-variants as all
+use Rattle.steps.specs.Nodes.{Node, node-of, mostNodes, Reading, read, broken, no-rule, onward, plainly, absent, unknown, values, node, nodesFrom, nodes, allOf, steps}
+use Rattle.steps.specs.Nodes.Exact.{many-from}
+use Rattle.steps.specs.Nodes.Unknown.{stops-unknown, stops-broken}
+
+-- ── one node ──
+-- how many variables
+abbrev pub variablesOf : Option Rule → Variables
+variablesOf none = vars.Nothing
+variablesOf (some u) = vars.Count (length (u .sorts))
+
+-- behind some terms, or behind a node
+abbrev pub termsEnd : {A : Type 0} → Read A → NodeEnd
+termsEnd (got x e) = end.End e
+termsEnd fault = end.Broken
+
+-- a node whose rule number was read
+abbrev pub nodeFrom : Protocol → List ℕ → Option Rule → ℕ → NodeEnd
+nodeFrom p s none at = end.NoRule
+nodeFrom p s (some u) at = termsEnd (many (term s (slots (p .functions))) (length (u .sorts)) at)
+
+abbrev pub nodeOf : Protocol → List ℕ → Read ℕ → NodeEnd
+nodeOf p s (got r e) = nodeFrom p s (ruleOf p r) e
+nodeOf p s fault = end.Broken
+
+unfoldable pub nodeEnd : Protocol → List ℕ → ℕ → NodeEnd
+nodeEnd p s at = nodeOf p s (readNumber s at)
+
+-- ── several: the nodes, each at its place; a layout fault; the node that has no such rule ──
+abbrev pub noNode : Node
+noNode = node-of 0 []
+
+pub record NodesAre (r : Reading (List Node)) (p : Protocol) (s places : List ℕ) (n e : ℕ) : Type 0 where
+  pub items : List Node
+  pub there : r ≡ read items e
+  pub placed : Placed (node p s) noNode places items n
+
+abbrev pub Told : Reading (List Node) → Protocol → List ℕ → List ℕ → Nodes → Type 0
+Told r p s places (all.End n e) = NodesAre r p s places n e
+Told r p s places all.Broken = r ≡ broken
+Told r p s places (all.NoRule k) = r ≡ no-rule k
+
+-- ── laws ──
+abbrev pub partEnd : Part → NodeEnd
+partEnd (part.End e n) = end.End e
+partEnd part.Fault = end.Broken
+
+pub part-end : (r : Read (List Term)) → partEnd (endeds r) ≡ termsEnd r
+part-end (got ts e) = refl
+part-end fault = refl
+
+-- a rule that was found, and how many variables it has
+module _ {s arities places : List ℕ} {nr : ℕ} {p : Protocol} (i : IndexOf s arities places nr p) where
+  pub index-finds :
+      (n : ℕ) (r : Found) (out : List ℕ)
+      → ((z : List ℕ) (ns : ℕ) (ars flags : List ℕ) (j : Entries z ns nr arities ars flags places) → Finds (j .is) z arities (take ns ars) n r out)
+      → Finds p s arities (take (i .ns) (i .ars)) n r out
+  index-finds n r out h =
+      subst (λ (q : Protocol). Finds q s arities (take (i .ns) (i .ars)) n r out) (i .same) (h s (i .ns) (i .ars) (i .flags) (i .entries))
+
+  -- case by case
+  module _ (n : ℕ) (r : Found) (out : List ℕ)
+      (h : (z : List ℕ) (ns : ℕ) (ars flags : List ℕ) (j : Entries z ns nr arities ars flags places) → Finds (j .is) z arities (take ns ars) n r out) where
+    pub written-at : (len : ℕ) → r ≡ fd.Written len → WrittenAs p n len out
+    written-at len e = subst (λ (q : Found). Finds p s arities (take (i .ns) (i .ars)) n q out) e (index-finds n r out h)
+
+    pub placed-at : (place : ℕ) → r ≡ fd.At place → PlacedAs p s arities (take (i .ns) (i .ars)) n place
+    placed-at place e = subst (λ (q : Found). Finds p s arities (take (i .ns) (i .ars)) n q out) e (index-finds n r out h)
+
+    pub nothing-at : r ≡ fd.Nothing → ruleOf p n ≡ none
+    nothing-at e = subst (λ (q : Found). Finds p s arities (take (i .ns) (i .ars)) n q out) e (index-finds n r out h)
+
+  pub index-within : Within p
+  index-within = subst Within (i .same) (i .entries .within)
+
+  pub index-slots : arities ≡ slots (p .functions)
+  index-slots = i .entries .slotted ∙ ap (λ (q : Protocol). slots (q .functions)) (i .same)
+
+  rule-variables : (z slots ars : List ℕ) (at : ℕ) (u : Rule) → Here (rule z slots ars) u at → valueOf (sortsAt z at) ≡ length (u .sorts)
+  rule-variables z slots ars at u h = vars-law z slots ars at u (rule-layout z slots ars at u h)
+
+  pub written-variables :
+      (n len : ℕ) (out : List ℕ) → WrittenAs p n len out → Bytes (take len out)
+      → vars.Count (valueOf (sortsAt (take len out) 0)) ≡ variablesOf (ruleOf p n)
+  written-variables n len out w bytes =
+      ap vars.Count (rule-variables (take len out) _ _ 0 (w .its) (written-reads p index-within n len out w bytes)) ∙ sym (ap variablesOf (w .is))
+
+  pub placed-variables :
+      (n place : ℕ) → PlacedAs p s arities (take (i .ns) (i .ars)) n place → vars.Count (valueOf (sortsAt s place)) ≡ variablesOf (ruleOf p n)
+  placed-variables n place w = ap vars.Count (rule-variables s _ _ place (w .its) (w .here)) ∙ sym (ap variablesOf (w .is))
+
+  -- a rule has few variables
+  pub few-variables : (n k : ℕ) → vars.Count k ≡ variablesOf (ruleOf p n) → k ≤ 16
+  few-variables n k h = go (ruleOf p n) refl h
+    where
+      go : (o : Option Rule) → ruleOf p n ≡ o → vars.Count k ≡ variablesOf o → k ≤ 16
+      go none e h = clash (cc)
+      go (some u) e h = let l : k ≡ length (u .sorts) = cc in omega (arith, rule-within p index-within n u e .laid .few)
+
+  -- from the variables on
+  pub from-count : (z : List ℕ) (n k at : ℕ) → vars.Count k ≡ variablesOf (ruleOf p n) → termsEnd (many (term z arities) k at) ≡ nodeFrom p z (ruleOf p n) at
+  from-count z n k at h = go (ruleOf p n) h
+    where
+      go : (o : Option Rule) → vars.Count k ≡ variablesOf o → termsEnd (many (term z arities) k at) ≡ nodeFrom p z o at
+      go none h = clash (cc)
+      go (some u) h =
+          let l : k ≡ length (u .sorts) = cc in
+          ap₂ (λ (a : List ℕ) (j : ℕ). termsEnd (many (term z a) j at)) index-slots l
+
+  pub from-none : (z : List ℕ) (n at : ℕ) → vars.Nothing ≡ variablesOf (ruleOf p n) → end.NoRule ≡ nodeFrom p z (ruleOf p n) at
+  from-none z n at h = go (ruleOf p n) h
+    where
+      go : (o : Option Rule) → vars.Nothing ≡ variablesOf o → end.NoRule ≡ nodeFrom p z o at
+      go none h = refl
+      go (some u) h = clash (cc)
+
+-- a node by its rule number
+module _ (p : Protocol) (s : List ℕ) (at : ℕ) where
+  pub end-got : {r e : ℕ} → readNumber s at ≡ got r e → nodeEnd p s at ≡ nodeFrom p s (ruleOf p r) e
+  unfolding nodeEnd
+  end-got h = ap (nodeOf p s) h
+
+  pub end-fault : readNumber s at ≡ fault → nodeEnd p s at ≡ end.Broken
+  unfolding nodeEnd
+  end-fault h = ap (nodeOf p s) h
+
+  -- what the end of a node says of its reading
+  end-terms : {A : Type 0} (r : Read A) (f : A → Node) {e : ℕ} → termsEnd r ≡ end.End e → (x : Node) × (andThen r (λ y d. got (f y) d) ≡ got x e)
+  end-terms (got y d) f {e} h = let a : d ≡ e = cc in (f y, ap (got (f y)) a)
+  end-terms fault f {e} h = clash (cc)
+
+  broken-terms : {A : Type 0} (r : Read A) (f : A → ℕ → Read Node) → termsEnd r ≡ end.Broken → andThen r f ≡ fault
+  broken-terms (got y d) f h = clash (cc)
+  broken-terms fault f h = refl
+
+  end-values : (r d : ℕ) (o : Option Rule) {e : ℕ} → nodeFrom p s o d ≡ end.End e → (x : Node) × (values p s r o d ≡ got x e)
+  end-values r d none h = clash (cc)
+  end-values r d (some u) h = end-terms (many (term s (slots (p .functions))) (length (u .sorts)) d) (node-of r) h
+
+  broken-values : (r d : ℕ) (o : Option Rule) → nodeFrom p s o d ≡ end.Broken → (absent o ≡ false) × (values p s r o d ≡ fault)
+  broken-values r d none h = clash (cc)
+  broken-values r d (some u) h = (refl, broken-terms (many (term s (slots (p .functions))) (length (u .sorts)) d) _ h)
+
+  no-values : (d : ℕ) (o : Option Rule) → nodeFrom p s o d ≡ end.NoRule → absent o ≡ true
+  no-values d none h = refl
+  no-values d (some u) h = go (many (term s (slots (p .functions))) (length (u .sorts)) d) h
+    where
+      go : (r : Read (List Term)) → termsEnd r ≡ end.NoRule → false ≡ true
+      go (got x e) h = clash (cc)
+      go fault h = clash (cc)
+
+  pub end-node : {e : ℕ} → nodeEnd p s at ≡ end.End e → (x : Node) × (node p s at ≡ got x e)
+  unfolding nodeEnd node
+  end-node h = go (readNumber s at) h
+    where
+      go : (o : Read ℕ) {e : ℕ} → nodeOf p s o ≡ end.End e → (x : Node) × (andThen o (λ r e. values p s r (ruleOf p r) e) ≡ got x e)
+      go (got r d) h = end-values r d (ruleOf p r) h
+      go fault h = clash (cc)
+
+  pub broken-node : nodeEnd p s at ≡ end.Broken → (unknown p (readNumber s at) ≡ false) × (node p s at ≡ fault)
+  unfolding nodeEnd node
+  broken-node h = go (readNumber s at) h
+    where
+      go : (o : Read ℕ) → nodeOf p s o ≡ end.Broken → (unknown p o ≡ false) × (andThen o (λ r e. values p s r (ruleOf p r) e) ≡ fault)
+      go (got r d) h = broken-values r d (ruleOf p r) h
+      go fault h = (refl, refl)
+
+  pub no-node : nodeEnd p s at ≡ end.NoRule → unknown p (readNumber s at) ≡ true
+  unfolding nodeEnd
+  no-node h = go (readNumber s at) h
+    where
+      go : (o : Read ℕ) → nodeOf p s o ≡ end.NoRule → unknown p o ≡ true
+      go (got r d) h = no-values d (ruleOf p r) h
+      go fault h = clash (cc)
+
+-- ── the loop: j nodes were read, each at its place, and it stands at i ──
+module _ (p : Protocol) (s : List ℕ) (at : ℕ) where
+  pub record Passed (j i : ℕ) (places : List ℕ) : Type 0 where
+    pub each : (k : ℕ) → k < j → Came (node p s) at k (getD places k 0)
+    pub here : Came (node p s) at j i
+
+  pub passed-none : (places : List ℕ) → Passed 0 at places
+  passed-none places = record { each = λ k l. absurd (omega arith); here = came-none (node p s) at }
+
+  pub passed-more : (j i e : ℕ) (places : List ℕ) → Passed j i places → nodeEnd p s i ≡ end.End e → j < length places → Passed (j + 1) e (set places j i)
+  passed-more j i e places c h l =
+      let (x, g) = end-node p s i h in
+      record { each = places-more (node p s) at j i places (c .each) (c .here) l; here = came-more (node p s) at j i e x (c .here) g }
+
+  module _ (n : ℕ) where
+    pub passed-broken : (j i : ℕ) (places : List ℕ) → Passed j i places → nodeEnd p s i ≡ end.Broken → j < n → nodesFrom p s 1 n at ≡ broken
+    passed-broken j i places c h l =
+        let (u, g) = broken-node p s i h in
+        stops-broken p s i u g j 1 n at (c .here .items) (c .here .there) l
+
+    pub passed-unknown : (j i : ℕ) (places : List ℕ) → Passed j i places → nodeEnd p s i ≡ end.NoRule → j < n → nodesFrom p s 1 n at ≡ no-rule (j + 1)
+    passed-unknown j i places c h l =
+        let k : 1 + j ≡ j + 1 = omega arith in
+        stops-unknown p s i (no-node p s i h) j 1 n at (c .here .items) (c .here .there) l ∙ ap no-rule k
+
+    pub passed-all : (j i : ℕ) (places : List ℕ) → Passed j i places → j ≡ n → NodesAre (nodesFrom p s 1 n at) p s places n i
+    passed-all j i places c h =
+        let there : many (node p s) n at ≡ got (c .here .items) i = ap (λ (k : ℕ). many (node p s) k at) (sym h) ∙ c .here .there in
+        record {
+          items = c .here .items;
+          there = many-from p s 1 n at i (c .here .items) there;
+          placed = places-end (node p s) at noNode n i (c .here .items) places there (λ k l. c .each k (omega arith));
+        }
+
+  -- the count and then the nodes
+  pub nodes-got : {n e : ℕ} → below s (suc mostNodes) at ≡ got n e → nodes p s at ≡ nodesFrom p s 1 n e
+  unfolding nodes
+  nodes-got h = ap (λ (o : Read ℕ). plainly o (λ n e. nodesFrom p s 1 n e)) h
+
+  pub nodes-fault : below s (suc mostNodes) at ≡ fault → nodes p s at ≡ broken
+  unfolding nodes
+  nodes-fault h = ap (λ (o : Read ℕ). plainly o (λ n e. nodesFrom p s 1 n e)) h
+
+pub told-as : (r q : Reading (List Node)) → r ≡ q → (p : Protocol) (s places : List ℕ) (o : Nodes) → Told q p s places o → Told r p s places o
+told-as r q h p s places o t = subst (λ (z : Reading (List Node)). Told z p s places o) (sym h) t
+
+-- ── a whole step list ──
+module _ (p : Protocol) (s places : List ℕ) (r : Nodes) (told : Told (nodes p s 0) p s places r) where
+  pub steps-end : {n e : ℕ} → r ≡ all.End n e → e ≡ length s → NodesAre (steps p s) p s places n e
+  unfolding steps
+  steps-end {n} {e} h q =
+      let t = subst (Told (nodes p s 0) p s places) h told in
+      record {
+        items = t .items;
+        there = ap (allOf s) (t .there) ∙ ap (λ (b : Bool). pick b (read (t .items) e) broken) (eq-eqb e (length s) q);
+        placed = t .placed;
+      }
+
+  pub steps-leftover : {n e : ℕ} → r ≡ all.End n e → (e ≡ length s → ⊥) → steps p s ≡ broken
+  unfolding steps
+  steps-leftover {n} {e} h q =
+      let t = subst (Told (nodes p s 0) p s places) h told in
+      ap (allOf s) (t .there) ∙ ap (λ (b : Bool). pick b (read (t .items) e) broken) (ne-eqb e (length s) q)
+
+  pub steps-broken : r ≡ all.Broken → steps p s ≡ broken
+  unfolding steps
+  steps-broken h = ap (allOf s) (subst (Told (nodes p s 0) p s places) h told)
+
+  pub steps-unknown : {k : ℕ} → r ≡ all.NoRule k → steps p s ≡ no-rule k
+  unfolding steps
+  steps-unknown h = ap (allOf s) (subst (Told (nodes p s 0) p s places) h told)

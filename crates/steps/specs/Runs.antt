@@ -1,0 +1,48 @@
+-- The rewriting of crate rewriting at the facts of a protocol: runs, accepted graphs, what is drawn and refused. The nodes are those of a
+-- step list or graph; no parameter is left but the protocol.
+use Prim.Native.Nat.{ℕ}
+use mathlib.Core.List.{List, map}
+use mathlib.Core.Logic.{_⊎_, _↔_}
+use mathlib.Core.Option.{Option}
+use mathlib.Core.Path.{_≡_}
+use Rattle.rewriting.specs.Facts.{Facts}
+use Rattle.rewriting.specs.Graph as graph
+use Rattle.rewriting.specs.Machine as machine
+use Rattle.protocol.specs.Protocol.{Fact, Rule, Protocol}
+use Rattle.steps.specs.Nodes.{Node}
+use Rattle.steps.specs.Facts.{factsOf, makes, sameFact, isLinear}
+use Rattle.steps.specs.Facts.Laws.{fact-refl, fact-sym, fact-trans, fact-linear}
+-- the theorems of crate rewriting at these facts
+pub mod Theorems
+
+-- the facts of a protocol
+abbrev pub protocolFacts : Protocol → Facts
+protocolFacts p = record {
+  Fact = Fact;
+  same = sameFact;
+  linear = isLinear p;
+  same-refl = fact-refl;
+  same-sym = fact-sym;
+  same-trans = fact-trans;
+  same-linear = fact-linear p;
+}
+
+module _ (p : Protocol) where
+  -- a node as the rewriting sees it
+  abbrev pub rewritten : Node → graph.Node Fact
+  rewritten x = record { premises = factsOf p 0 x; conclusions = factsOf p 2 x; makes = makes x }
+
+  abbrev pub rewrittens : List Node → List (graph.Node Fact)
+  rewrittens xs = map rewritten xs
+
+  -- "The nodes are a run exactly when none fails"
+  abbrev pub IsRun : List Node → Type 0
+  IsRun xs = machine.IsRun (protocolFacts p) (rewrittens xs)
+
+  -- "An accepted graph has: .."
+  abbrev pub Accepted : List Node → List graph.Edge → Type 0
+  Accepted xs edges = graph.Accepted (protocolFacts p) (rewrittens xs) edges
+
+  -- "no name made twice"
+  abbrev pub NamesOnce : List Node → Type 0
+  NamesOnce xs = graph.NamesOnce (rewrittens xs)

@@ -1,0 +1,215 @@
+-- The loops over a node's values and over the nodes: what is asked, and what is left to do at each turn.
+use Prim.Native.Nat.{ℕ, zero, suc, _+_, _-_, _^_, _≤_, _<_}
+use mathlib.Core.List.{List, [], _∷_}
+use mathlib.Core.Bool.{Bool, true, false, not, _&&_, cond}
+use mathlib.Core.Option.{Option, none, some}
+use mathlib.Core.Path.{_≡_, refl, ap, ap₂, sym, _∙_, subst}
+use native.Mathlib.Omega.{arith}
+use native.Mathlib.Numerals.{add-one}
+use lib.ListN.{length, getD, take, drop, drop-of-length-le}
+use lib.Seq.{drop-cons}
+use Rattle.octets.specs.Choice.{clash}
+use Rattle.octets.specs.Head.{Bytes}
+use Rattle.number.specs.Reading.{Read, got, fault, andThen, readNumber, many}
+use Rattle.number.specs.Reading.Laws.{cut-got}
+use Rattle.number.specs.Reading.Many.{many-length}
+use Rattle.term.specs.Term.{Term}
+use Rattle.term.specs.Arity.{slots}
+use Rattle.term.specs.Reader.{term}
+use Rattle.term.specs.Walk.{ended}
+use Rattle.term.specs.declared.Part.{Part}
+use Rattle.term.specs.declared.Part.the-variants as part
+use Rattle.rewriting.specs.Lists.{firstBad}
+use Rattle.canonical.specs.Builtins.{Builtins, declared}
+use Rattle.protocol.specs.Protocol.{Rule, Protocol, factArities, rule}
+use Rattle.protocol.specs.Places.{valueOf, Here, sortOf}
+use Rattle.protocol.specs.Places.Laws.{rule-layout, sort-law, vars-law}
+use Rattle.protocol.specs.Protocol.Walks.{sortsAt}
+use Rattle.rules.specs.Numbered.{ruleOf}
+use Rattle.rules.specs.Numbered.Limits.{rule-within}
+use Rattle.rules.specs.Numbered.Found.{WrittenAs, PlacedAs, written-reads}
+use Rattle.steps.specs.Index.{IndexOf}
+use Rattle.steps.specs.Nodes.{Node, node-of, values, node}
+use Rattle.steps.specs.Nodes.Code.{index-within, index-slots}
+use Rattle.steps.specs.Values.{valueOk, valuesOk, ofRule, nodeValuesOk}
+use Rattle.steps.specs.Values.Code.{ValueThere, SomeValue}
+
+-- ── the place behind a value ──
+abbrev pub behindOf : ℕ → Read Term → ℕ
+behindOf at (got t e) = e
+behindOf at fault = at
+
+abbrev pub behindPart : ℕ → Part → ℕ
+behindPart at (part.End e n) = e
+behindPart at part.Fault = at
+
+pub behind-part : (at : ℕ) (r : Read Term) → behindPart at (ended r) ≡ behindOf at r
+behind-part at (got t e) = refl
+behind-part at fault = refl
+
+-- ── a rule at a place of src, and the values of a node of it at a place of s ──
+pub record RuleHere (table s src : List ℕ) (place at : ℕ) (u : Rule) (vs : List Term) (e : ℕ) : Type 0 where
+  pub builtins : Builtins table
+  pub ars : List ℕ
+  pub here : Here (rule src table ars) u place
+  pub few : length (u .sorts) ≤ 16
+  pub reads : many (term s table) (length (u .sorts)) at ≡ got vs e
+  pub short : length s ≤ 2 ^ 32
+
+pub record SomeRule (table s src : List ℕ) (place at : ℕ) : Type 0 where
+  pub its : Rule
+  pub its-values : List Term
+  pub end : ℕ
+  pub is : RuleHere table s src place at its its-values end
+
+module _ {table s src : List ℕ} {place at : ℕ} {u : Rule} {vs : List Term} {e : ℕ} (h : RuleHere table s src place at u vs e) where
+  pub sort-here : (v : ℕ) → v < length (u .sorts) → valueOf (sortOf src place v) ≡ getD (u .sorts) v 0
+  sort-here v l = sort-law src table (h .ars) place u (rule-layout src table (h .ars) place u (h .here)) v l
+
+  pub count-here : valueOf (sortsAt src place) ≡ length (u .sorts)
+  count-here = vars-law src table (h .ars) place u (rule-layout src table (h .ars) place u (h .here))
+
+  -- the loop over the values stands at i, before value v
+  pub record Left (v i : ℕ) : Type 0 where
+    pub more : many (term s table) (length (u .sorts) - v) i ≡ got (drop v vs) e
+    pub same : valuesOk (u .sorts) vs ≡ valuesOk (drop v (u .sorts)) (drop v vs)
+
+  pub left-all : Left 0 at
+  left-all =
+      let z : length (u .sorts) - 0 ≡ length (u .sorts) = omega arith in
+      record { more = ap (λ (k : ℕ). many (term s table) k at) z ∙ h .reads; same = refl }
+
+  -- value v, which stands there
+  pub record Turn (v i : ℕ) : Type 0 where
+    pub value : Term
+    pub next : ℕ
+    pub is : ValueThere table s i value next
+    pub rest : many (term s table) (length (u .sorts) - (v + 1)) next ≡ got (drop (v + 1) vs) e
+    pub test : valuesOk (u .sorts) vs ≡ (valueOk (getD (u .sorts) v 0) value && valuesOk (drop (v + 1) (u .sorts)) (drop (v + 1) vs))
+
+  pub turn : (v i : ℕ) → v < length (u .sorts) → Left v i → Turn v i
+  unfolding many
+  turn v i l g = go (length (u .sorts) - v) refl (g .more)
+    where
+      n : length vs ≡ length (u .sorts)
+      n = many-length (term s table) (length (u .sorts)) at e vs (h .reads)
+
+      go : (m : ℕ) → length (u .sorts) - v ≡ m → many (term s table) m i ≡ got (drop v vs) e → Turn v i
+      go zero z q = absurd (omega arith)
+      go (suc m) z q =
+          cut-got (term s table i) _ q (λ t d ht q. cut-got (many (term s table) m d) _ q (λ ts c hts q.
+          let a : t ∷ ts ≡ drop v vs = cc in
+          let b : c ≡ e = cc in
+          let w : drop v vs ≡ getD vs v t ∷ drop (suc v) vs = drop-cons vs v t (omega (arith, n)) in
+          let ht′ : t ≡ getD vs v t = (let x : t ∷ ts ≡ getD vs v t ∷ drop (suc v) vs = a ∙ w in cc) in
+          let hts′ : ts ≡ drop (suc v) vs = (let x : t ∷ ts ≡ getD vs v t ∷ drop (suc v) vs = a ∙ w in cc) in
+          let k : m ≡ length (u .sorts) - (v + 1) = omega arith in
+          let o : suc v ≡ v + 1 = omega arith in
+          record {
+            value = t;
+            next = d;
+            is = record { table = h .builtins; there = ht; short = h .short };
+            rest = ap (λ (j : ℕ). many (term s table) j d) (sym k) ∙ hts ∙ ap₂ got (hts′ ∙ ap (λ (j : ℕ). drop j vs) o) b;
+            test =
+                g .same ∙ ap₂ valuesOk (drop-cons (u .sorts) v 0 l) (sym a)
+                ∙ ap₂ (λ (x : List ℕ) (y : List Term). valueOk (getD (u .sorts) v 0) t && valuesOk x y)
+                (ap (λ (j : ℕ). drop j (u .sorts)) o) (hts′ ∙ ap (λ (j : ℕ). drop j vs) o);
+          }))
+
+  pub left-bad : (v i : ℕ) (x : Turn v i) → valueOk (getD (u .sorts) v 0) (x .value) ≡ false → false ≡ valuesOk (u .sorts) vs
+  left-bad v i x f = sym (x .test ∙ ap (λ (b : Bool). b && valuesOk (drop (v + 1) (u .sorts)) (drop (v + 1) vs)) f)
+
+  pub left-more : (v i : ℕ) (x : Turn v i) → valueOk (getD (u .sorts) v 0) (x .value) ≡ true → Left (v + 1) (behindOf i (term s table i))
+  left-more v i x t = record {
+    more = ap (λ (r : Read Term). many (term s table) (length (u .sorts) - (v + 1)) (behindOf i r)) (x .is .there) ∙ x .rest;
+    same = x .test ∙ ap (λ (b : Bool). b && valuesOk (drop (v + 1) (u .sorts)) (drop (v + 1) vs)) t;
+  }
+
+  pub left-none : (v i : ℕ) → length (u .sorts) ≤ v → Left v i → true ≡ valuesOk (u .sorts) vs
+  left-none v i l g = sym (g .same ∙ ap (λ (x : List ℕ). valuesOk x (drop v vs)) (drop-of-length-le (u .sorts) l))
+
+-- ── a node at a place ──
+pub record SomeNode (protocol table rules : List ℕ) (nr : ℕ) (s : List ℕ) (place : ℕ) : Type 0 where
+  pub of : Protocol
+  pub index : IndexOf protocol table rules nr of
+  pub its : Node
+  pub here : Here (node of s) its place
+
+-- a node whose rule number was read, its values from `at` on
+pub record NodeFrom (p : Protocol) (s : List ℕ) (number at : ℕ) (x : Node) (e : ℕ) : Type 0 where
+  pub is-number : x .rule ≡ number
+  pub reads : values p s number (ruleOf p number) at ≡ got x e
+
+module _ (p : Protocol) (s : List ℕ) where
+  rule-kept : (r d e : ℕ) (o : Option Rule) (x : Node) → values p s r o d ≡ got x e → x .rule ≡ r
+  rule-kept r d e none x h = clash (cc)
+  rule-kept r d e (some u) x h =
+      cut-got (many (term s (slots (p .functions))) (length (u .sorts)) d) _ h (λ vs c hv h.
+      let a : node-of r vs ≡ x = cc in
+      sym (ap (λ (y : Node). y .rule) a))
+
+  pub node-from : (place r d : ℕ) (x : Node) → readNumber s place ≡ got r d → Here (node p s) x place → (e : ℕ) × NodeFrom p s r d x e
+  unfolding node
+  node-from place r d x h k =
+      let q : values p s r (ruleOf p r) d ≡ got x (k .next) = sym (ap (λ (o : Read ℕ). andThen o (λ r e. values p s r (ruleOf p r) e)) h) ∙ k .reads in
+      (k .next, record { is-number = rule-kept r d (k .next) (ruleOf p r) x q; reads = q })
+
+  pub no-node-from : {C : Type 0} (place : ℕ) (x : Node) → readNumber s place ≡ fault → Here (node p s) x place → C
+  unfolding node
+  no-node-from place x h k =
+      let q : fault ≡ got x (k .next) = sym (ap (λ (o : Read ℕ). andThen o (λ r e. values p s r (ruleOf p r) e)) h) ∙ k .reads in
+      clash (cc)
+
+-- the rule of such a node stands at a place of src, and its values behind its number
+pub record SomeFrom (protocol table rules : List ℕ) (nr : ℕ) (s : List ℕ) (number at : ℕ) : Type 0 where
+  pub of : Protocol
+  pub index : IndexOf protocol table rules nr of
+  pub its : Node
+  pub end : ℕ
+  pub is : NodeFrom of s number at its end
+  pub short : length s ≤ 2 ^ 32
+
+module _ {protocol table rules : List ℕ} {nr : ℕ} {p : Protocol} (i : IndexOf protocol table rules nr p) (s : List ℕ) (short : length s ≤ 2 ^ 32)
+    (number at : ℕ) (x : Node) (e : ℕ) (from : NodeFrom p s number at x e) (u : Rule) (is : ruleOf p number ≡ some u) where
+  behind-values : many (term s (slots (p .functions))) (length (u .sorts)) at ≡ got (x .values) e
+  behind-values =
+      cut-got (many (term s (slots (p .functions))) (length (u .sorts)) at) _
+      (sym (ap (λ (o : Option Rule). values p s number o at) is) ∙ from .reads)
+      (λ vs c hv h.
+      let a : node-of number vs ≡ x = cc in
+      let b : c ≡ e = cc in
+      hv ∙ ap₂ got (ap (λ (y : Node). y .values) a) b)
+
+  pub rule-here : (src ars : List ℕ) (place : ℕ) → Here (rule src table ars) u place → RuleHere table s src place at u (x .values) e
+  rule-here src ars place h = record {
+    builtins = subst Builtins (sym (index-slots i)) (declared (p .functions));
+    ars = ars;
+    here = h;
+    few = rule-within p (index-within i) number u is .laid .few;
+    reads = ap (λ (l : List ℕ). many (term s l) (length (u .sorts)) at) (index-slots i) ∙ behind-values;
+    short = short;
+  }
+
+  -- its values' test is the node's
+  pub values-test : (b : Bool) → b ≡ valuesOk (u .sorts) (x .values) → b ≡ nodeValuesOk p x
+  values-test b h = h ∙ sym (ap (ofRule (λ w. valuesOk (w .sorts) (x .values))) (ap (ruleOf p) (from .is-number) ∙ is))
+
+-- as the code finds its rule: written out, or at a place of the protocol file
+module _ {protocol table rules : List ℕ} {nr : ℕ} {p : Protocol} (i : IndexOf protocol table rules nr p) (s : List ℕ) (short : length s ≤ 2 ^ 32)
+    (number at : ℕ) (x : Node) (e : ℕ) (from : NodeFrom p s number at x e) where
+  pub written-rule :
+      (len : ℕ) (out : List ℕ) (w : WrittenAs p number len out) → Bytes (take len out) → RuleHere table s (take len out) 0 at (w .its) (x .values) e
+  written-rule len out w bytes =
+      rule-here i s short number at x e from (w .its) (w .is) (take len out) (factArities (p .symbols)) 0
+      (subst (λ (l : List ℕ). Here (rule (take len out) l (factArities (p .symbols))) (w .its) 0) (sym (index-slots i))
+      (written-reads p (index-within i) number len out w bytes))
+
+  pub placed-rule :
+      (place : ℕ) (w : PlacedAs p protocol table (take (i .ns) (i .ars)) number place) → RuleHere table s protocol place at (w .its) (x .values) e
+  placed-rule place w = rule-here i s short number at x e from (w .its) (w .is) protocol (take (i .ns) (i .ars)) place (w .here)
+
+module _ (p : Protocol) (s : List ℕ) (number at : ℕ) (x : Node) (e : ℕ) (from : NodeFrom p s number at x e) where
+  pub no-rule-from : {C : Type 0} → ruleOf p number ≡ none → C
+  no-rule-from h =
+      let q : fault ≡ got x e = sym (ap (λ (o : Option Rule). values p s number o at) h) ∙ from .reads in
+      clash (cc)

@@ -1,0 +1,136 @@
+// The names that nodes of rule 0 make (9).
+ghost use mathlib.Core.Path.{_≡_};
+ghost use mathlib.Core.List.{List};
+ghost use Prim.Native.Nat.{ℕ, _^_, _≤_, _<_, _+_};
+ghost use lib.ListN.{length, getD, take};
+ghost use Rattle.protocol.specs.Protocol.{Protocol};
+ghost use Rattle.protocol.specs.Index.{Placed};
+ghost use Rattle.protocol.specs.Places.{Here};
+ghost use Rattle.rewriting.specs.Writer.{firstNameTwice};
+ghost use Rattle.steps.specs.Index.{IndexOf, Given};
+ghost use Rattle.steps.specs.Nodes.{Node, node};
+ghost use Rattle.steps.specs.Nodes.Code.{noNode};
+ghost use Rattle.steps.specs.Facts.{makes};
+ghost use Rattle.steps.specs.Runs.{rewrittens};
+ghost use Rattle.steps.specs.Values.Scan.{asFound, SomeNodes};
+ghost use Rattle.steps.specs.Names.{isMade, againIn, MadeIs, sameMade};
+ghost use Rattle.steps.specs.Names.Code.{NumberIs};
+ghost use Rattle.term.specs.Reader.{symbolAt};
+use crate::values::Name;
+use number::Number;
+use term::Fresh;
+
+// The name that a node makes, if it makes one.
+pub enum Made {
+    Of(Fresh),
+    Nothing,
+}
+
+// The fresh name at a place.
+fn fresh_at(s: &[u8], arities: &[u8], at: usize) -> Made
+    ensures { λ r. ⌜ NumberIs (symbolAt (now (s .entry)) (now (arities .entry)) at) r ⌝ }
+{
+    match crate::values::name_at(s, arities, at) {
+        Name::FreshName(f) => Made::Of(f),
+        Name::PublicName(_) => Made::Nothing,
+        Name::Other => Made::Nothing,
+    }
+}
+
+// The name that the node at a place makes: "Rule 0 makes Fr(fresh)", and no other rule makes one.
+pub fn made_at(
+    s: &[u8],
+    protocol: &[u8],
+    arities: &[u8],
+    rules: &[usize],
+    nr: usize,
+    place: usize,
+) -> Made
+    ensures { λ r. ⌜ ((p : Protocol) (x : Node) → IndexOf (now (protocol .entry)) (now (arities .entry)) (now (rules .entry)) nr p → Here (node p (now (s .entry))) x place → MadeIs (makes x) r) ⌝ }
+{
+    match number::read_number(s, place) {
+        Number::Value(r, e) => {
+            if r == 0 {
+                return fresh_at(s, arities, e);
+            }
+            Made::Nothing
+        }
+        Number::Fault => Made::Nothing,
+    }
+}
+
+// Whether it is the name of a number.
+fn is_of(made: Made, number: u32) -> bool
+    ensures { λ r. ⌜ r ≡ sameMade number made ⌝ }
+{
+    match made {
+        Made::Of(f) => number == f.0,
+        Made::Nothing => false,
+    }
+}
+
+// Whether one of the first j nodes makes a name.
+fn made_before(
+    s: &[u8],
+    protocol: &[u8],
+    arities: &[u8],
+    rules: &[usize],
+    nr: usize,
+    places: &[usize],
+    j: usize,
+    name: Fresh,
+) -> bool
+    requires { ⌜ j ≤ length (now places) ⌝ }
+    ensures { λ r. ⌜ ((p : Protocol) (xs : List Node) (n : ℕ) → IndexOf (now (protocol .entry)) (now (arities .entry)) (now (rules .entry)) nr p → Placed (node p (now (s .entry))) noNode (now (places .entry)) xs n → j ≤ n → r ≡ isMade (name .0) (take j xs)) ⌝ }
+{
+    let number = name.0;
+    let mut found = false;
+    let mut i: usize = 0;
+    while i < j {
+        found = found | is_of(made_at(s, protocol, arities, rules, nr, places[i]), number);
+        i += 1;
+    }
+    found
+}
+
+// Whether node j, from 0, makes a name that a node before it makes.
+fn again_at(
+    s: &[u8],
+    protocol: &[u8],
+    arities: &[u8],
+    rules: &[usize],
+    nr: usize,
+    places: &[usize],
+    j: usize,
+) -> bool
+    requires { ⌜ j < length (now places) ⌝ }
+    ensures { λ r. ⌜ ((p : Protocol) (xs : List Node) (n : ℕ) → IndexOf (now (protocol .entry)) (now (arities .entry)) (now (rules .entry)) nr p → Placed (node p (now (s .entry))) noNode (now (places .entry)) xs n → j < n → r ≡ againIn (take j xs) (makes (getD xs j noNode))) ⌝ }
+{
+    match made_at(s, protocol, arities, rules, nr, places[j]) {
+        Made::Of(f) => made_before(s, protocol, arities, rules, nr, places, j, f),
+        Made::Nothing => false,
+    }
+}
+
+// 9: the least node that makes a name that an earlier one makes; 0 where there is none.
+pub fn name_pass(
+    s: &[u8],
+    protocol: &[u8],
+    arities: &[u8],
+    rules: &[usize],
+    nr: usize,
+    places: &[usize],
+    n: usize,
+) -> usize
+    requires { ⌜ (n ≤ 512) × (n ≤ length (now places)) ⌝ }
+    ensures { λ r. ⌜ ((p : Protocol) (xs : List Node) → IndexOf (now (protocol .entry)) (now (arities .entry)) (now (rules .entry)) nr p → Placed (node p (now (s .entry))) noNode (now (places .entry)) xs n → asFound r ≡ firstNameTwice (rewrittens p xs)) ⌝ }
+{
+    let mut j: usize = 0;
+    while j < n {
+        if again_at(s, protocol, arities, rules, nr, places, j) {
+            return j + 1;
+        }
+        j += 1;
+    }
+    0
+}

@@ -1,0 +1,192 @@
+// The nodes of a step list or graph, read front to back for 3 and 6.
+ghost use mathlib.Core.Path.{_≡_};
+ghost use mathlib.Core.List.{List};
+ghost use Prim.Native.Nat.{ℕ, _^_, _≤_, _<_, _+_};
+ghost use lib.ListN.{length};
+ghost use Rattle.number.specs.Reading.{many};
+ghost use Rattle.term.specs.Reader.{term};
+ghost use Rattle.octets.specs.Head.{Bytes};
+ghost use Rattle.protocol.specs.Protocol.{Protocol};
+ghost use Rattle.protocol.specs.Protocol.Walks.{sortsAt};
+ghost use Rattle.protocol.specs.Places.{valueOf};
+ghost use Rattle.rules.specs.Numbered.{ruleOf};
+ghost use Rattle.steps.specs.Nodes.{nodesFrom, nodes, steps};
+ghost use Rattle.steps.specs.Index.{IndexOf, Given};
+ghost use Rattle.steps.specs.Nodes.Code.{variablesOf, termsEnd, nodeFrom, nodeEnd, Told};
+use number::Number;
+use rules::numbered::Found;
+use term::Part;
+
+// How many variables a rule has.
+pub enum Variables {
+    Count(usize),
+    Nothing,
+}
+
+// A node: the place behind it, a layout fault, or no such rule.
+pub enum NodeEnd {
+    End(usize),
+    Broken,
+    NoRule,
+}
+
+// The nodes: how many, and the place behind the list; a layout fault; the node that has no such rule.
+pub enum Nodes {
+    End(usize, usize),
+    Broken,
+    NoRule(usize),
+}
+
+// The place behind k values.
+fn values_end(s: &[u8], arities: &[u8], at: usize, k: usize) -> NodeEnd
+    requires { ⌜ (length (now s) ≤ 2 ^ 32) × (k ≤ 2 ^ 32) ⌝ }
+    ensures { λ r. ⌜ r ≡ termsEnd (many (term (now (s .entry)) (now (arities .entry))) k at) ⌝ }
+{
+    match term::terms_end(s, arities, at, k) {
+        Part::End(e, _) => NodeEnd::End(e),
+        Part::Fault => NodeEnd::Broken,
+    }
+}
+
+// How many variables the rule at the start of a slice has.
+pub fn own_variables(s: &[u8]) -> usize
+    ensures { λ r. ⌜ (r ≡ valueOf (sortsAt (now (s .entry)) 0)) × Bytes (now (s .entry)) ⌝ }
+{
+    protocol::places::variables_of(s, 0)
+}
+
+// How many variables the rule of a number has.
+fn rule_variables(
+    protocol: &[u8],
+    arities: &[u8],
+    rules: &[usize],
+    nr: usize,
+    number: usize,
+) -> Variables
+    requires { ⌜ Given (now protocol) (now arities) (now rules) nr ⌝ }
+    ensures { λ r. ⌜ ((p : Protocol) → IndexOf (now (protocol .entry)) (now (arities .entry)) (now (rules .entry)) nr p → r ≡ variablesOf (ruleOf p number)) ⌝ }
+{
+    let mut own = [0u8; 30];
+    match rules::numbered::find_rule(arities, rules, nr, number, &mut own) {
+        Found::Written(len) => Variables::Count(own_variables(&own[..len])),
+        Found::At(place) => Variables::Count(protocol::places::variables_of(protocol, place)),
+        Found::Nothing => Variables::Nothing,
+    }
+}
+
+// A node whose rule number was read.
+fn node_from(
+    s: &[u8],
+    protocol: &[u8],
+    arities: &[u8],
+    rules: &[usize],
+    nr: usize,
+    number: usize,
+    at: usize,
+) -> NodeEnd
+    requires { ⌜ (length (now s) ≤ 2 ^ 32) × Given (now protocol) (now arities) (now rules) nr ⌝ }
+    ensures { λ r. ⌜ ((p : Protocol) → IndexOf (now (protocol .entry)) (now (arities .entry)) (now (rules .entry)) nr p → r ≡ nodeFrom p (now (s .entry)) (ruleOf p number) at) ⌝ }
+{
+    match rule_variables(protocol, arities, rules, nr, number) {
+        Variables::Count(k) => values_end(s, arities, at, k),
+        Variables::Nothing => NodeEnd::NoRule,
+    }
+}
+
+// A node: its rule number is judged before its values are read.
+fn node_end(
+    s: &[u8],
+    protocol: &[u8],
+    arities: &[u8],
+    rules: &[usize],
+    nr: usize,
+    at: usize,
+) -> NodeEnd
+    requires { ⌜ (length (now s) ≤ 2 ^ 32) × Given (now protocol) (now arities) (now rules) nr ⌝ }
+    ensures { λ r. ⌜ ((p : Protocol) → IndexOf (now (protocol .entry)) (now (arities .entry)) (now (rules .entry)) nr p → r ≡ nodeEnd p (now (s .entry)) at) ⌝ }
+{
+    match number::read_number(s, at) {
+        Number::Value(r, e) => node_from(s, protocol, arities, rules, nr, r as usize, e),
+        Number::Fault => NodeEnd::Broken,
+    }
+}
+
+// The places of n nodes.
+fn nodes_from(
+    s: &[u8],
+    protocol: &[u8],
+    arities: &[u8],
+    rules: &[usize],
+    nr: usize,
+    at: usize,
+    n: usize,
+    places: &mut [usize],
+) -> Nodes
+    requires { ⌜ (length (now s) ≤ 2 ^ 32) × (n ≤ 512) × (512 ≤ length (now places)) × Given (now protocol) (now arities) (now rules) nr ⌝ }
+    ensures kept { λ r. ⌜ length (now (places .exit)) ≡ length (now (places .entry)) ⌝ }
+    ensures told { λ r. ⌜ ((p : Protocol) → IndexOf (now (protocol .entry)) (now (arities .entry)) (now (rules .entry)) nr p → Told (nodesFrom p (now (s .entry)) 1 n at) p (now (s .entry)) (now (places .exit)) r) ⌝ }
+{
+    let mut i = at;
+    let mut j: usize = 0;
+    while j < n {
+        match node_end(s, protocol, arities, rules, nr, i) {
+            NodeEnd::End(e) => {
+                places[j] = i;
+                i = e;
+                j += 1;
+            }
+            NodeEnd::Broken => {
+                return Nodes::Broken;
+            }
+            NodeEnd::NoRule => {
+                return Nodes::NoRule(j + 1);
+            }
+        }
+    }
+    Nodes::End(n, i)
+}
+
+// The count, 512 at most, and the nodes; the place of each is kept.
+pub fn read_nodes(
+    s: &[u8],
+    at: usize,
+    protocol: &[u8],
+    arities: &[u8],
+    rules: &[usize],
+    nr: usize,
+    places: &mut [usize],
+) -> Nodes
+    requires { ⌜ (length (now s) ≤ 2 ^ 32) × (512 ≤ length (now places)) × Given (now protocol) (now arities) (now rules) nr ⌝ }
+    ensures kept { λ r. ⌜ length (now (places .exit)) ≡ length (now (places .entry)) ⌝ }
+    ensures told { λ r. ⌜ ((p : Protocol) → IndexOf (now (protocol .entry)) (now (arities .entry)) (now (rules .entry)) nr p → Told (nodes p (now (s .entry)) at) p (now (s .entry)) (now (places .exit)) r) ⌝ }
+{
+    match number::below(s, at, 513) {
+        Number::Value(n, e) => nodes_from(s, protocol, arities, rules, nr, e, n as usize, places),
+        Number::Fault => Nodes::Broken,
+    }
+}
+
+// A whole step list: leftover bytes are a layout fault.
+pub fn read_steps(
+    s: &[u8],
+    protocol: &[u8],
+    arities: &[u8],
+    rules: &[usize],
+    nr: usize,
+    places: &mut [usize],
+) -> Nodes
+    requires { ⌜ (length (now s) ≤ 2 ^ 32) × (512 ≤ length (now places)) × Given (now protocol) (now arities) (now rules) nr ⌝ }
+    ensures kept { λ r. ⌜ length (now (places .exit)) ≡ length (now (places .entry)) ⌝ }
+    ensures told { λ r. ⌜ ((p : Protocol) → IndexOf (now (protocol .entry)) (now (arities .entry)) (now (rules .entry)) nr p → Told (steps p (now (s .entry))) p (now (s .entry)) (now (places .exit)) r) ⌝ }
+{
+    match read_nodes(s, 0, protocol, arities, rules, nr, places) {
+        Nodes::End(n, e) => {
+            if e == s.len() {
+                return Nodes::End(n, e);
+            }
+            Nodes::Broken
+        }
+        Nodes::Broken => Nodes::Broken,
+        Nodes::NoRule(k) => Nodes::NoRule(k),
+    }
+}

@@ -1,0 +1,189 @@
+// The values of a node: what fits a variable (7).
+ghost use mathlib.Core.Path.{_≡_};
+ghost use mathlib.Core.Bool.{Bool, true};
+ghost use mathlib.Core.List.{List};
+ghost use mathlib.Core.Logic.{_↔_};
+ghost use Prim.Native.Nat.{ℕ, _^_, _≤_, _<_, _+_};
+ghost use lib.ListN.{length};
+ghost use Rattle.term.specs.Term.{Term};
+ghost use Rattle.term.specs.Reader.{symbolAt, term};
+ghost use Rattle.protocol.specs.Protocol.{Rule, Protocol};
+ghost use Rattle.protocol.specs.Protocol.Walks.{sortsAt};
+ghost use Rattle.protocol.specs.Places.{valueOf, Here};
+ghost use Rattle.protocol.specs.Index.{Placed};
+ghost use Rattle.rewriting.specs.Lists.{firstBad};
+ghost use Rattle.steps.specs.Index.{IndexOf, Given};
+ghost use Rattle.steps.specs.Nodes.{Node, node};
+ghost use Rattle.steps.specs.Nodes.Code.{noNode};
+ghost use Rattle.steps.specs.Values.{valueOk, valuesOk, nodeValuesOk};
+ghost use Rattle.steps.specs.Values.Loops.{behindOf, RuleHere, SomeRule, NodeFrom, SomeFrom, SomeNode};
+ghost use Rattle.steps.specs.Values.Scan.{asFound, SomeNodes};
+ghost use Rattle.steps.specs.Values.Code.{NameIs, ofName, ValueThere, SomeValue};
+use number::Number;
+use rules::numbered::Found;
+use term::Fresh;
+use term::Part;
+use term::Public;
+use term::Symbol;
+use term::Walk;
+
+// A fresh name, a public name, or no name.
+pub enum Name {
+    FreshName(Fresh),
+    PublicName(Public),
+    Other,
+}
+
+// The name at a place: "Fresh and public names are two incomparable sets".
+pub fn name_at(s: &[u8], arities: &[u8], at: usize) -> Name
+    ensures { λ r. ⌜ NameIs (symbolAt (now (s .entry)) (now (arities .entry)) at) r ⌝ }
+{
+    match term::symbol_at(s, arities, at) {
+        Symbol::Leaf(t, n, _) => {
+            if t == 2 {
+                return Name::FreshName(Fresh(n));
+            }
+            if t == 1 {
+                return Name::PublicName(Public(n));
+            }
+            Name::Other
+        }
+        Symbol::Op(_, _, _) => Name::Other,
+        Symbol::Fault => Name::Other,
+    }
+}
+
+// "each sort (0 message, 1 fresh, 2 public)": what a name fits.
+fn of_sort(sort: usize, name: Name) -> bool
+    ensures { λ r. ⌜ r ≡ ofName sort name ⌝ }
+{
+    if sort == 0 {
+        return true;
+    }
+    match name {
+        Name::FreshName(_) => sort == 1,
+        Name::PublicName(_) => sort == 2,
+        Name::Other => false,
+    }
+}
+
+// Whether the value at a place has no variable, fits the sort, has 128 symbols at most and is canonical.
+pub fn value_ok(s: &[u8], arities: &[u8], at: usize, sort: usize) -> bool
+    requires { ⌜ SomeValue (now arities) (now s) at ⌝ }
+    ensures { λ r. ⌜ ((t : Term) (e : ℕ) → ValueThere (now (arities .entry)) (now (s .entry)) at t e → r ≡ valueOk sort t) ⌝ }
+{
+    match term::walk_term(s, arities, at, 0, 0, number::NUMBER_LIMIT) {
+        Walk::End(_, n, held) => {
+            if held {
+                return false;
+            }
+            if 128 < n {
+                return false;
+            }
+            if of_sort(sort, name_at(s, arities, at)) {
+                return canonical::is_canonical(s, at, arities);
+            }
+            false
+        }
+        Walk::Fault => false,
+    }
+}
+
+// The place behind the value at a place.
+fn value_end(s: &[u8], arities: &[u8], at: usize) -> usize
+    requires { ⌜ length (now s) ≤ 2 ^ 32 ⌝ }
+    ensures { λ r. ⌜ r ≡ behindOf at (term (now (s .entry)) (now (arities .entry)) at) ⌝ }
+{
+    match term::term_end(s, arities, at) {
+        Part::End(e, _) => e,
+        Part::Fault => at,
+    }
+}
+
+// Whether the k values from a place on fit the variables of the rule at a place of src.
+fn values_fit(s: &[u8], arities: &[u8], at: usize, src: &[u8], place: usize, k: usize) -> bool
+    requires { ⌜ SomeRule (now arities) (now s) (now src) place at × (k ≡ valueOf (sortsAt (now src) place)) ⌝ }
+    ensures { λ r. ⌜ ((u : Rule) (vs : List Term) (e : ℕ) → RuleHere (now (arities .entry)) (now (s .entry)) (now (src .entry)) place at u vs e → r ≡ valuesOk (u .sorts) vs) ⌝ }
+{
+    let mut i = at;
+    let mut v: usize = 0;
+    while v < k {
+        let sort = protocol::places::sort_of(src, place, v as u32);
+        if value_ok(s, arities, i, sort) {
+            i = value_end(s, arities, i);
+            v += 1;
+        } else {
+            return false;
+        }
+    }
+    true
+}
+
+// The values of a node whose rule number was read.
+fn values_of(
+    s: &[u8],
+    protocol: &[u8],
+    arities: &[u8],
+    rules: &[usize],
+    nr: usize,
+    number: usize,
+    at: usize,
+) -> bool
+    requires { ⌜ Given (now protocol) (now arities) (now rules) nr × SomeFrom (now protocol) (now arities) (now rules) nr (now s) number at ⌝ }
+    ensures { λ r. ⌜ ((p : Protocol) (x : Node) (e : ℕ) → IndexOf (now (protocol .entry)) (now (arities .entry)) (now (rules .entry)) nr p → NodeFrom p (now (s .entry)) number at x e → r ≡ nodeValuesOk p x) ⌝ }
+{
+    let mut own = [0u8; 30];
+    match rules::numbered::find_rule(arities, rules, nr, number, &mut own) {
+        Found::Written(len) => {
+            let k = crate::nodes::own_variables(&own[..len]);
+            values_fit(s, arities, at, &own[..len], 0, k)
+        }
+        Found::At(place) => {
+            let k = protocol::places::variables_of(protocol, place);
+            values_fit(s, arities, at, protocol, place, k)
+        }
+        Found::Nothing => true,
+    }
+}
+
+// The values of the node at a place.
+fn node_values(
+    s: &[u8],
+    protocol: &[u8],
+    arities: &[u8],
+    rules: &[usize],
+    nr: usize,
+    place: usize,
+) -> bool
+    requires { ⌜ (length (now s) ≤ 2 ^ 32) × Given (now protocol) (now arities) (now rules) nr × SomeNode (now protocol) (now arities) (now rules) nr (now s) place ⌝ }
+    ensures { λ r. ⌜ ((p : Protocol) (x : Node) → IndexOf (now (protocol .entry)) (now (arities .entry)) (now (rules .entry)) nr p → Here (node p (now (s .entry))) x place → r ≡ nodeValuesOk p x) ⌝ }
+{
+    match number::read_number(s, place) {
+        Number::Value(r, e) => values_of(s, protocol, arities, rules, nr, r as usize, e),
+        Number::Fault => true,
+    }
+}
+
+// 7: the least node that has a value that does not fit; 0 where there is none.
+pub fn value_pass(
+    s: &[u8],
+    protocol: &[u8],
+    arities: &[u8],
+    rules: &[usize],
+    nr: usize,
+    places: &[usize],
+    n: usize,
+) -> usize
+    requires { ⌜ (length (now s) ≤ 2 ^ 32) × (n ≤ 512) × (n ≤ length (now places)) × Given (now protocol) (now arities) (now rules) nr × SomeNodes (now protocol) (now arities) (now rules) nr (now s) (now places) n ⌝ }
+    ensures { λ r. ⌜ ((p : Protocol) (xs : List Node) → IndexOf (now (protocol .entry)) (now (arities .entry)) (now (rules .entry)) nr p → Placed (node p (now (s .entry))) noNode (now (places .entry)) xs n → asFound r ≡ firstBad (λ (k : ℕ) (x : Node). nodeValuesOk p x) 1 xs) ⌝ }
+{
+    let mut j: usize = 0;
+    while j < n {
+        if node_values(s, protocol, arities, rules, nr, places[j]) {
+            j += 1;
+        } else {
+            return j + 1;
+        }
+    }
+    0
+}
