@@ -1,9 +1,8 @@
 -- "80 01 is 128 (M), 80 00 refused (M)": the numbers that a file can hold, by computation over the definitions.
-use mathlib.Core.List.{List, [], _∷_}
+use mathlib.Core.List.{[], _∷_}
 use mathlib.Core.Path.{_≡_, refl}
-use Prim.Native.Nat.{ℕ}
 use Rattle.number.specs.Groups.{groups, groupsIn}
-use Rattle.number.specs.Reading.{Read, got, fault, readNumber, readIn}
+use Rattle.number.specs.Reading.{got, fault, readNumber, readIn}
 
 -- 80 01 is 128
 pub two-groups : readNumber (0x80 ∷ 0x01 ∷ []) 0 ≡ got 128 2

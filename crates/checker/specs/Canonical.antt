@@ -7,7 +7,6 @@ use Rattle.term.specs.Arity.{slots}
 use Rattle.message.specs.Canon.{canon}
 use Rattle.rewriting.specs.Table.{Ruling, passed, refused, Row, fixedRow, Pass, rulingOf, rulingThen, rowsThen, andThen, rowsAfter}
 use Rattle.rewriting.specs.Table.Passes.{lessPass, needPass}
-use Rattle.protocol.specs.Protocol.{Protocol}
 use Rattle.checker.specs.Answer.{workNeed, workAfter, outputAfter}
 use Rattle.checker.specs.Files.{protocolLimit, termLimit, protocolItem, termItem, protocolRuling, protocolRows, termRuling, termRows}
 -- its outcome is what the table says

@@ -1,6 +1,6 @@
 -- "A term is written in prefix order, tag first": terms as trees, their bytes, their symbols.
 use Prim.Native.Nat.{ℕ, suc, _+_, _<_}
-use mathlib.Core.List.{List, [], _∷_, _++_}
+use mathlib.Core.List.{List, [], _++_}
 use mathlib.Core.Option.{Option, some}
 use mathlib.Core.Path.{_≡_}
 use Rattle.number.specs.Groups.{groups, numberLimit}

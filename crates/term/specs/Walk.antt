@@ -1,5 +1,5 @@
 -- What code answers of the terms at a place: the place behind them, their symbols, whether a leaf of some kind stands in them.
-use Prim.Native.Nat.{ℕ, suc, _+_}
+use Prim.Native.Nat.{ℕ, _+_}
 use mathlib.Core.List.{List, [], _∷_}
 use mathlib.Core.Bool.{Bool, false, _||_, _&&_, not}
 use lib.Dec.{ltb, eqb}

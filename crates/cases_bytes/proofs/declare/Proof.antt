@@ -1,7 +1,6 @@
 use borrow.Author.Needs.{needs}
-use native.Mathlib.Omega.{arith}
 use mathlib.Core.Path.{_≡_}
-use lib.ListN.{length, length-set}
+use lib.ListN.{length}
 use Prim.Native.Nat.{_≤_, _-_}
 use Rattle.cases_bytes.proofs.declare.Statement.{statement}
 use Rattle.cases_bytes.proofs.declare.Tie as tie

@@ -7,7 +7,7 @@ use Rattle.checker.specs.Files.Verdict.{ruled-malformed, ruled-broken}
 use Rattle.checker.specs.Canonical.Whole.{sound-asks, sound-inside}
 use Rattle.rules.specs.Fit.Meaning.Judged.{broken-place}
 use Rattle.checker.specs.Canonical.Cases.{protocol-over, term-over, no-protocol}
-use Rattle.checker.specs.Canonical.Inside.{inside-refused, inside-judged}
+use Rattle.checker.specs.Canonical.Inside.{inside-refused}
 use borrow.Author.Needs.{needs}
 use Rattle.checker.proofs.canonical_inside.Statement.{statement}
 use Rattle.checker.proofs.canonical_inside.Tie as tie

@@ -1,5 +1,4 @@
-use native.Mathlib.Omega.{arith}
-use mathlib.Core.Path.{ap, sym, _∙_}
+use mathlib.Core.Path.{ap, sym}
 use Rattle.checker.specs.Answer.{written, packed}
 use borrow.Author.Needs.{needs}
 use Rattle.checker.proofs.pack.Statement.{statement}

@@ -2,9 +2,8 @@ use Rattle.checker.specs.declared.Written.the-variants.{Length}
 use Rattle.checker.specs.Canonical.Contracts.{Formed}
 use denote.Ref.{now}
 use lib.Seq.{length-take-le}
-use lib.ListN.{length}
 use native.Mathlib.Omega.{arith}
-use mathlib.Core.Path.{refl, sym, subst, _∙_, ap}
+use mathlib.Core.Path.{sym, subst}
 use Rattle.checker.specs.Canonical.Forms.{message-at, form-bound, form-length, form-within, formed-short, formed-written}
 use borrow.Author.Needs.{needs}
 use Rattle.checker.proofs.write_form.Statement.{statement}

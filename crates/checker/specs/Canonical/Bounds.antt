@@ -1,28 +1,27 @@
 -- The outcome's figures are small, whatever the files: the packed answer of the C function comes apart into the outcome.
-use Prim.Native.Nat.{ℕ, _≤_, _<_}
-use mathlib.Core.List.{List, []}
+use Prim.Native.Nat.{ℕ, _≤_}
+use mathlib.Core.List.{List}
 use mathlib.Core.Path.{_≡_, refl, ap, sym, _∙_, subst}
 use native.Mathlib.Omega.{arith}
 use lib.ListN.{length}
 use Rattle.octets.specs.Choice.{by-size, clash}
 use Rattle.octets.specs.Head.{Bytes}
 use Rattle.number.specs.Reading.{Read, got, fault}
-use Rattle.term.specs.Term.{Term, encode}
+use Rattle.term.specs.Term.{Term}
 use Rattle.term.specs.Arity.{arity, slots}
 use Rattle.message.specs.Theorems.{fewer-bytes, declared}
-use Rattle.rewriting.specs.Table.{Ruling, passed, refused, andThen}
+use Rattle.rewriting.specs.Table.{Ruling, passed, andThen}
 use Rattle.protocol.specs.Protocol.{Protocol}
 use Rattle.protocol.specs.Protocol as files
 use Rattle.rules.specs.Fit.{Verdict, sound, broken, malformed, judged}
 use Rattle.rules.specs.Fit.Meaning.Judged.{broken-place}
 use Rattle.checker.specs.Answer.{workNeed, packed}
 use Rattle.checker.specs.Answer.Laws.{unpacked, InBounds, unpacked-packed}
-use Rattle.checker.specs.Passing.{less-yes, less-no}
 use Rattle.checker.specs.Files.{protocolLimit, termLimit, protocolRuling, termRuling}
 use Rattle.checker.specs.Files.Verdict.{ruled-malformed, ruled-broken, ruled-sound}
-use Rattle.checker.specs.Canonical.{termOf, need, roomRuling, canonicalOutcome}
+use Rattle.checker.specs.Canonical.{termOf, need, canonicalOutcome}
 use Rattle.checker.specs.Canonical.Cases.{work-short, protocol-over, term-over, no-protocol, no-term, no-room, room}
-use Rattle.checker.specs.Canonical.Files.{Encodes, taken}
+use Rattle.checker.specs.Canonical.Files.{taken}
 use Rattle.checker.specs.Canonical.Inside.{View, is-small, is-layout, is-large, view}
 
 module _ (protocol term : List ℕ) (bytes : Bytes protocol) (term-bytes : Bytes term) (output work : ℕ) where

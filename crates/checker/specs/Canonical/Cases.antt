@@ -1,8 +1,8 @@
 -- Canonical form case by case, as the code goes: the outcome, and what is left in the output and the work area.
 use Prim.Native.Nat.{ℕ, _≤_, _<_}
 use mathlib.Core.List.{List, [], _∷_}
-use mathlib.Core.Path.{_≡_, refl, ap, ap₂, sym, _∙_}
-use lib.ListN.{length, replicate}
+use mathlib.Core.Path.{_≡_, ap, ap₂, sym, _∙_}
+use lib.ListN.{length}
 use Rattle.octets.specs.Splice.{splice}
 use Rattle.term.specs.Term.{Term, encode}
 use Rattle.term.specs.Arity.{slots}
@@ -13,7 +13,7 @@ use Rattle.protocol.specs.Protocol.{Protocol}
 use Rattle.checker.specs.Answer.{workNeed, workAfter, outputAfter}
 use Rattle.checker.specs.Passing.{less-yes, less-no}
 use Rattle.checker.specs.Files.{protocolLimit, termLimit, protocolItem, termItem, protocolRuling, termRuling}
-use Rattle.checker.specs.Canonical.{termOf, need, sizes, roomRuling, canonicalOutcome, formOf, canonicalOutput, canonicalWork}
+use Rattle.checker.specs.Canonical.{termOf, need, roomRuling, canonicalOutcome, formOf, canonicalOutput, canonicalWork}
 
 module _ (protocol term : List ℕ) (output work : ℕ) where
   abbrev Outcome : Ruling ℕ

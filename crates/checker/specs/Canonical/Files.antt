@@ -1,7 +1,7 @@
 -- Canonical form at the level of files: what is written is the encoding of the canonical message of the term that the file encodes, and two
 -- term files give the same bytes exactly when their terms are equal by the paper's equations.
 use Prim.Native.Nat.{ℕ, _≤_, _<_}
-use mathlib.Core.List.{List, [], _∷_}
+use mathlib.Core.List.{List}
 use mathlib.Core.Logic.{_↔_}
 use mathlib.Core.Path.{_≡_, refl, ap, sym, _∙_, subst}
 use Rattle.octets.specs.Choice.{by-size}

@@ -1,31 +1,30 @@
 -- The canonical form of a term file's term: it may be asked for, it is short, and what becomes of the output.
-use Prim.Native.Nat.{ℕ, _+_, _-_, _^_, _≤_, _<_}
-use mathlib.Core.List.{List, [], _∷_, _++_, append-nil}
-use mathlib.Core.Path.{_≡_, refl, ap, ap₂, sym, _∙_, subst}
+use Prim.Native.Nat.{ℕ, _-_, _≤_, _<_}
+use mathlib.Core.List.{List, [], append-nil}
+use mathlib.Core.Path.{_≡_, refl, ap, sym, _∙_, subst}
 use native.Mathlib.Omega.{arith}
-use lib.ListN.{length, take, drop}
+use lib.ListN.{length, take}
 use Rattle.octets.specs.Choice.{by-size}
-use Rattle.octets.specs.Head.{Bytes, Stands, stands-part, stands-within}
+use Rattle.octets.specs.Head.{Stands, stands-part, stands-within}
 use Rattle.octets.specs.Splice.{splice}
 use Rattle.term.specs.Term.{Term, encode, symbols}
 use Rattle.term.specs.Term.Laws.{encode-some}
-use Rattle.term.specs.Arity.{arity, slots}
+use Rattle.term.specs.Arity.{arity}
 use Rattle.message.specs.Canon.{canon}
 use Rattle.message.specs.Theorems.{fewer-bytes}
 use Rattle.canonical.specs.Builtins.{Builtins, declared, group}
 use Rattle.canonical.specs.Contract.{MessageAt}
-use Rattle.canonical.specs.Inner.{CanonAt}
 use Rattle.rewriting.specs.Table.{Ruling, passed, refused, Ruled}
 use Rattle.rewriting.specs.Table.Laws.{passed-good}
 use Rattle.checker.specs.declared.Written.{Written}
 use Rattle.checker.specs.declared.Written.the-variants as wr
 use Rattle.checker.specs.Answer.{written, outputAfter}
 use Rattle.checker.specs.Passing.{less-yes, less-no}
-use Rattle.checker.specs.Files.{termLimit, termRuling, termRows}
+use Rattle.checker.specs.Files.{termLimit, termRows}
 use Rattle.checker.specs.Files.Laws.{IsSmall, term-ruled}
 use Rattle.checker.specs.Files.Terms.{IsTerm, file-form}
-use Rattle.checker.specs.Canonical.{need, roomRuling, formOf}
-use Rattle.checker.specs.Canonical.Contracts.{Form, Forms, Formed}
+use Rattle.checker.specs.Canonical.{need, formOf}
+use Rattle.checker.specs.Canonical.Contracts.{Form, Formed}
 
 small-enough : (n : ℕ) → (256 < n → ⊥) → n ≤ 256
 small-enough n f = by-size 256 n (λ l. absurd (f l)) (λ l. l)

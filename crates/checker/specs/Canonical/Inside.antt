@@ -1,12 +1,11 @@
 -- From what the functions inside the call find to what the call promises.
-use Prim.Native.Nat.{ℕ, _≤_, _<_}
+use Prim.Native.Nat.{ℕ, _≤_}
 use mathlib.Core.List.{List, [], _∷_}
-use mathlib.Core.Bool.{Bool, true, false}
+use mathlib.Core.Bool.{Bool}
 use mathlib.Core.Option.{Option, some, none}
 use mathlib.Core.Path.{_≡_, refl, ap, ap₂, sym, _∙_, subst}
 use native.Mathlib.Omega.{arith}
 use lib.ListN.{length, replicate}
-use lib.Dec.{eqb}
 use borrow.Author.Tests.{ne-eqb}
 use Rattle.octets.specs.Choice.{pick, by-size, clash}
 use Rattle.number.specs.Reading.{Read, got, fault}
@@ -18,14 +17,13 @@ use Rattle.protocol.specs.Protocol.{Protocol}
 use Rattle.protocol.specs.Protocol as files
 use Rattle.rules.specs.Fit.{fits}
 use Rattle.checker.specs.declared.Written.{Written}
-use Rattle.checker.specs.declared.TermFile.{TermFile}
 use Rattle.checker.specs.declared.TermFile.the-variants.{Small, Layout, Large}
 use Rattle.checker.specs.Answer.{workNeed, written, workAfter, outputAfter}
 use Rattle.checker.specs.Passing.{less-yes, less-no}
 use Rattle.checker.specs.Files.{protocolLimit, termLimit, protocolItem, termItem, layout, fitRuling, protocolRuling, termFile, sizeRuling, termRuling}
 use Rattle.checker.specs.Files.Answers.{fileOf}
 use Rattle.checker.specs.Canonical.{termOf, need, roomRuling, formOf, canonicalOutcome, canonicalOutput, canonicalWork}
-use Rattle.checker.specs.Canonical.Contracts.{Form, Formed, Under, Judges, Inside, InsideAs}
+use Rattle.checker.specs.Canonical.Contracts.{Form, Formed, Under, Judges, InsideAs}
 use Rattle.checker.specs.Canonical.Cases.{sized, output-kept}
 
 -- ── the ruling of a term file is one of three ──

@@ -1,5 +1,5 @@
 -- The outcome of canonical form is what the table says.
-use Prim.Native.Nat.{ℕ, _<_}
+use Prim.Native.Nat.{ℕ}
 use mathlib.Core.List.{List, [], _∷_, _++_}
 use mathlib.Core.Path.{_≡_, refl}
 use Rattle.term.specs.Term.{Term}

@@ -1,8 +1,8 @@
 -- What the code answers of the files.
 use Prim.Native.Nat.{ℕ, _≤_, _<_}
-use mathlib.Core.List.{List, [], _∷_}
+use mathlib.Core.List.{List, []}
 use mathlib.Core.Bool.{Bool, true, false, _&&_, not}
-use mathlib.Core.Path.{_≡_, refl, ap, ap₂, sym, _∙_}
+use mathlib.Core.Path.{_≡_, refl, ap, ap₂, _∙_}
 use native.Mathlib.Omega.{arith}
 use lib.ListN.{length}
 use lib.Dec.{eqb}
@@ -14,7 +14,6 @@ use Rattle.number.specs.Reading.Laws.{then-got, then-fault}
 use Rattle.term.specs.Term.{Term, symbols}
 use Rattle.term.specs.Reader.{term}
 use Rattle.term.specs.Walk.{holds, walked}
-use Rattle.term.specs.declared.Walk.{Walk}
 use Rattle.term.specs.declared.Walk.the-variants as wk
 use Rattle.rewriting.specs.Table.{Ruling, passed, refused, andThen}
 use Rattle.checker.specs.declared.TermFile.{TermFile}

@@ -1,17 +1,17 @@
 -- A term file is read exactly: it is the encoding of one formed term in range without variables.
-use Prim.Native.Nat.{ℕ, _+_, _≤_, _<_}
-use mathlib.Core.List.{List, [], _∷_, _++_, append-nil}
+use Prim.Native.Nat.{ℕ, _+_, _<_}
+use mathlib.Core.List.{List, [], _++_, append-nil}
 use mathlib.Core.Bool.{Bool, true, false, _||_, _&&_, not}
 use mathlib.Core.Path.{_≡_, refl, ap, ap₂, sym, _∙_, subst}
 use native.Mathlib.Omega.{arith}
 use lib.ListN.{length, drop}
 use lib.Seq.{drop-length}
-use lib.Dec.{eqb, ltb}
+use lib.Dec.{eqb}
 use borrow.Author.Tests.{eq-eqb, eqb-true, lt-ltb, le-ltb}
 use Rattle.octets.specs.Choice.{pick, cut, clash}
-use Rattle.octets.specs.Head.{Bytes, Stands}
+use Rattle.octets.specs.Head.{Bytes}
 use Rattle.number.specs.Groups.{numberLimit}
-use Rattle.number.specs.Reading.{Read, got, fault, andThen}
+use Rattle.number.specs.Reading.{got, fault}
 use Rattle.number.specs.Reading.Laws.{cut-got, then-got}
 use Rattle.term.specs.Term.{variable, public, fresh, Term, leaf, app, Terms, nil, _&_, encode, Formed, InRange, InRanges}
 use Rattle.term.specs.Arity.{arity}

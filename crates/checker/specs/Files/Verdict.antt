@@ -1,19 +1,19 @@
 -- The verdict on a protocol file, as the code gives it, is the ruling of causes 3 and 4.
-use Prim.Native.Nat.{ℕ, zero, suc, _+_, _≤_, _<_}
+use Prim.Native.Nat.{ℕ, zero, suc, _<_}
 use mathlib.Core.List.{List, [], _∷_}
-use mathlib.Core.Bool.{Bool, true, false, not}
+use mathlib.Core.Bool.{Bool, true, not}
 use mathlib.Core.Option.{Option, some, none}
-use mathlib.Core.Path.{_≡_, refl, ap, ap₂, sym, _∙_}
+use mathlib.Core.Path.{_≡_, refl, ap, sym, _∙_}
 use native.Mathlib.Omega.{arith}
 use lib.ListN.{length, getD, getElem?}
 use Rattle.octets.specs.Choice.{cut-eq, clash}
 use Rattle.number.specs.Reading.{Read, got, fault}
-use Rattle.rewriting.specs.Lists.{firstBad, nth}
-use Rattle.rewriting.specs.Table.{Ruling, passed, refused, Fails, Finds, Least, andThen, orRefuse}
+use Rattle.rewriting.specs.Lists.{firstBad}
+use Rattle.rewriting.specs.Table.{passed, refused, Fails, Finds, Least, andThen, orRefuse}
 use Rattle.rewriting.specs.Table.Laws.{least-unique}
 use Rattle.rewriting.specs.Table.Passes.{first-bad}
 use Rattle.protocol.specs.Protocol.{Rule, Protocol, noRule, protocol}
-use Rattle.rules.specs.Fit.{fits, leastUnfit, Verdict, sound, broken, malformed, outcome, judged}
+use Rattle.rules.specs.Fit.{fits, leastUnfit, sound, broken, malformed, judged}
 use Rattle.rules.specs.Fit.Laws.{false-of, unfit}
 use Rattle.rules.specs.Fit.Meaning.Judged.{First, least-zero, least-some}
 use Rattle.checker.specs.Files.{protocolItem, layout, fitRuling, protocolRuling}

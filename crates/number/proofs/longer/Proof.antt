@@ -1,4 +1,3 @@
-use native.Mathlib.Omega.{arith}
 use mathlib.Core.Path.{sym}
 use Rattle.number.specs.Reading.Numbers.{longer-zero, longer-some}
 use borrow.Author.Needs.{needs}

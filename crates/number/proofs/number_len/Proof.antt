@@ -1,9 +1,9 @@
 use Rattle.number.specs.Groups.Laws.{groups-one, groups-more, groups-short}
 use Rattle.number.specs.Groups.{groups}
 use native.Mathlib.Omega.{arith}
-use mathlib.Core.Path.{_≡_, ap, sym, _∙_}
+use mathlib.Core.Path.{_≡_, ap}
 use lib.ListN.{length}
-use Prim.Native.Nat.{_+_, _≤_}
+use Prim.Native.Nat.{_+_}
 use Rattle.number.proofs.number_len.Statement.{statement}
 use Rattle.number.proofs.number_len.Tie as tie
 use Rattle.number.proofs.number_len.Reads as reads

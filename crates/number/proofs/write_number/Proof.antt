@@ -3,11 +3,10 @@ use Rattle.number.specs.Groups.Laws.{groups-one, groups-more, groups-som
 use Rattle.number.specs.Groups.{groups}
 use Rattle.octets.specs.Splice.Laws.{splice-cons, sets-splice}
 use Rattle.octets.specs.Splice.{splice}
-use denote.Ref.{now}
 use native.Mathlib.Omega.{arith}
 use mathlib.Core.Path.{_≡_, ap, sym, _∙_, refl}
 use lib.ListN.{length, length-set}
-use Prim.Native.Nat.{_+_, _≤_, _%_}
+use Prim.Native.Nat.{_+_}
 use Rattle.number.proofs.write_number.Statement.{statement}
 use Rattle.number.proofs.write_number.Tie as tie
 use Rattle.number.proofs.write_number.Reads as reads

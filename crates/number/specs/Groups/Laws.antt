@@ -1,13 +1,13 @@
 -- The laws of groups: a number below 128 is one group, another is its low seven bits and the groups of the rest; they are bytes, at least
 -- one, and those of one number are never a proper prefix of another's.
-use Prim.Native.Nat.{ℕ, zero, suc, _+_, _*_, _/_, _%_, _^_, _≤_, _<_}
+use Prim.Native.Nat.{ℕ, zero, suc, _+_, _/_, _%_, _≤_, _<_}
 use mathlib.Core.List.{List, [], _∷_, _++_}
-use mathlib.Core.Path.{_≡_, refl, ap, ap₂, sym, _∙_}
+use mathlib.Core.Path.{_≡_, refl, ap, sym, _∙_}
 use native.Mathlib.Omega.{arith}
 use lib.ListN.{length}
 use borrow.Author.Tests.{lt-ltb, le-ltb}
-use Rattle.octets.specs.Choice.{by-size, clash}
-use Rattle.number.specs.Groups.{groupsIn, groups, mostGroups, numberLimit}
+use Rattle.octets.specs.Choice.{by-size}
+use Rattle.number.specs.Groups.{groupsIn, groups}
 
 -- ── the two cases ──
 in-one : (b n : ℕ) → n < 128 → groupsIn b n ≡ n ∷ []

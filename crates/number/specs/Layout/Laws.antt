@@ -1,18 +1,16 @@
 -- Exact layouts of numbers, of things that pass a test, of several things, of one thing after another.
 use Prim.Native.Nat.{ℕ, zero, suc, _+_, _≤_, _<_}
 use mathlib.Core.List.{List, [], _∷_, _++_, append-assoc}
-use mathlib.Core.Bool.{Bool, true, false}
+use mathlib.Core.Bool.{Bool, true}
 use mathlib.Core.Path.{_≡_, refl, ap, ap₂, sym, _∙_, subst, subst₂}
 use native.Mathlib.Omega.{arith}
 use lib.ListN.{length, drop, length-append}
-use lib.Dec.{ltb}
-use borrow.Author.Tests.{ltb-true, lt-ltb}
 use Rattle.octets.specs.Choice.{pick, cut, clash}
-use Rattle.octets.specs.Head.{Bytes, Stands, stands-at, stands-join, behind}
+use Rattle.octets.specs.Head.{Bytes, Stands, stands-join, behind}
 use Rattle.number.specs.Groups.{groups, numberLimit}
-use Rattle.number.specs.Reading.{Read, got, fault, andThen, readNumber, below, many, counted}
+use Rattle.number.specs.Reading.{Read, got, fault, andThen, below, many, counted}
 use Rattle.number.specs.Reading.Laws.{cut-got, then-got}
-use Rattle.number.specs.Reading.Numbers.{read-back, below-back, below-inside}
+use Rattle.number.specs.Reading.Numbers.{below-back, below-inside}
 use Rattle.number.specs.Layout.{flat, listed, All, Exact}
 
 -- a number below n

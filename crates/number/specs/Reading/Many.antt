@@ -1,12 +1,11 @@
 -- n things one after another: one more, and none. Said once for every list of the files.
 use Prim.Native.Nat.{ℕ, zero, suc, _+_, _≤_, _<_}
 use mathlib.Core.List.{List, [], _∷_, _++_}
-use mathlib.Core.Bool.{Bool, true, false, _||_, or-assoc, or-false}
+use mathlib.Core.Bool.{Bool, false, _||_, or-assoc, or-false}
 use mathlib.Core.Path.{_≡_, refl, ap, ap₂, sym, _∙_}
 use native.Mathlib.Omega.{arith}
 use native.Mathlib.Numerals.{add-one}
-use lib.ListN.{length, getD}
-use Rattle.number.specs.declared.Seen.{Seen}
+use lib.ListN.{length}
 use Rattle.number.specs.declared.Seen.the-variants as sn
 use Rattle.number.specs.Reading.{Read, got, fault, andThen, many, any, seen, below, counted}
 use Rattle.number.specs.Reading.Laws.{cut-got, then-got, then-fault, then-same, then-then, then-ext, cut-seen, cut-fault, then-same-at}

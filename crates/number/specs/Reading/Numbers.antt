@@ -1,20 +1,18 @@
 -- Numbers: what is written reads back; what reads is the groups of its value, so that the shortest form is unique.
 use Prim.Native.Nat.{ℕ, zero, suc, _+_, _-_, _*_, _/_, _%_, _^_, _≤_, _<_}
-use mathlib.Core.List.{List, [], _∷_, _++_}
-use mathlib.Core.Bool.{Bool, true, false}
+use mathlib.Core.List.{List, _∷_, _++_}
 use mathlib.Core.Path.{_≡_, refl, ap, ap₂, sym, _∙_, subst, subst₂}
 use native.Mathlib.Omega.{arith}
 use native.Mathlib.Nat.{pow-succ', pow-zero, one-le-pow, pow-le-pow-right}
 use lib.ListN.{length, getD, drop}
-use lib.Dec.{ltb, eqb}
 use borrow.Author.Tests.{lt-ltb, le-ltb, eq-eqb, ne-eqb}
-use Rattle.octets.specs.Choice.{pick, cut-lt, cut-eq, by-size, clash}
+use Rattle.octets.specs.Choice.{cut-lt, cut-eq, by-size, clash}
 use Rattle.octets.specs.Head.{head-at, head-of, Bytes, Stands, stands-within}
 use Rattle.octets.specs.Splice.{splice}
 use Rattle.octets.specs.Splice.Laws.{part-splice}
 use Rattle.number.specs.Groups.{groups, mostGroups, numberLimit}
-use Rattle.number.specs.Groups.Laws.{groups-one, groups-more, groups-some, by-groups}
-use Rattle.number.specs.Reading.{Read, got, fault, andThen, longer, readIn, readNumber, below}
+use Rattle.number.specs.Groups.Laws.{groups-one, groups-more, groups-some}
+use Rattle.number.specs.Reading.{Read, got, fault, longer, readIn, readNumber, below}
 use Rattle.number.specs.Reading.Laws.{cut-got, then-got, then-fault}
 
 -- ── readIn case by case: shared by the code's proof and the laws ──

@@ -5,7 +5,7 @@ use native.Mathlib.Omega.{arith}
 use mathlib.Core.Path.{ap}
 use mathlib.Core.List.{List}
 use Prim.Native.Nat.{ℕ, _+_}
-use Rattle.octets.specs.Splice.Laws.{splice-copy, splice-nil, length-splice}
+use Rattle.octets.specs.Splice.Laws.{splice-copy, splice-nil}
 use lib.ListN.{length, take}
 use mathlib.Core.Path.{_≡_, sym, _∙_}
 use Prim.Native.Nat.{_≤_, _-_}

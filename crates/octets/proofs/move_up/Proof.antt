@@ -2,7 +2,6 @@ use borrow.Author.Needs.{needs}
 use Rattle.octets.specs.Splice.Laws.{splice-copy-back, splice-nil, splice-before}
 use Rattle.octets.specs.Splice.{splice}
 use denote.Ref.{now}
-use native.Mathlib.Nat.{add-zero}
 use native.Mathlib.Omega.{arith}
 use lib.Seq.{getD-drop, getD-take, length-take-le, drop-length}
 use lib.ListN.{length, take, drop, set, getD, length-set, length-drop}

@@ -1,5 +1,5 @@
 use denote.Ref.{now}
-use mathlib.Core.Path.{ap, sym, _∙_}
+use mathlib.Core.Path.{sym, _∙_}
 use Rattle.term.specs.Walk.Exact.{end-within, part-bytes, none-bytes}
 use native.Mathlib.Omega.{arith}
 use borrow.Author.Needs.{needs}

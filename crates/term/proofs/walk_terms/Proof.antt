@@ -3,8 +3,8 @@ use Rattle.term.specs.Walk.Laws.{tally, tally-begins, step-ahead, walk-t
 use Rattle.term.specs.Walk.{walks}
 use Rattle.term.specs.Reader.{term}
 use Rattle.number.specs.Reading.{many}
-use mathlib.Core.Path.{_≡_, ap, sym, _∙_}
-use Prim.Native.Nat.{_+_, _-_, _*_, _≤_, _<_}
+use mathlib.Core.Path.{_≡_, sym, _∙_}
+use Prim.Native.Nat.{_+_, _-_, _*_, _≤_}
 use lib.ListN.{length}
 use denote.Ref.{now}
 use native.Mathlib.Omega.{arith}

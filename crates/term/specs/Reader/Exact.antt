@@ -1,15 +1,14 @@
 -- What reads is the encoding of one formed term in range, and each such term reads back.
-use Prim.Native.Nat.{ℕ, zero, suc, _+_, _≤_, _<_}
+use Prim.Native.Nat.{ℕ, zero, suc, _+_, _<_}
 use mathlib.Core.List.{List, [], _∷_, _++_, append-assoc}
-use mathlib.Core.Option.{Option, some, none}
-use mathlib.Core.Logic.{_↔_}
+use mathlib.Core.Option.{Option, some}
 use mathlib.Core.Path.{_≡_, refl, ap, ap₂, sym, _∙_, subst, subst₂}
 use native.Mathlib.Omega.{arith}
 use lib.ListN.{length, drop, length-append}
 use Rattle.octets.specs.Choice.{clash}
 use Rattle.octets.specs.Head.{Bytes, Stands, stands-join, behind}
 use Rattle.number.specs.Groups.{groups, numberLimit}
-use Rattle.number.specs.Reading.{Read, got, fault, andThen, readNumber, many}
+use Rattle.number.specs.Reading.{Read, got, many}
 use Rattle.number.specs.Reading.Laws.{cut-got, then-got}
 use Rattle.number.specs.Reading.Many.{many-cons}
 use Rattle.number.specs.Reading.Numbers.{read-back, read-form}

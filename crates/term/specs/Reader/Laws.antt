@@ -1,15 +1,13 @@
 -- The symbol at a place, from what was read; a term goes forward; a term by its first symbol, however deep it is.
 use Prim.Native.Nat.{ℕ, zero, suc, _+_, _≤_, _<_}
-use mathlib.Core.List.{List, [], _∷_}
-use mathlib.Core.Bool.{Bool, true, false}
+use mathlib.Core.List.{List}
 use mathlib.Core.Option.{Option, some, none}
 use mathlib.Core.Path.{_≡_, refl, ap, ap₂, sym, _∙_}
 use native.Mathlib.Omega.{arith}
 use lib.ListN.{length}
-use lib.Dec.{ltb}
 use borrow.Author.Tests.{lt-ltb, le-ltb}
-use Rattle.octets.specs.Choice.{pick, cut-lt, clash}
-use Rattle.octets.specs.Head.{Bytes, Stands, stands-within}
+use Rattle.octets.specs.Choice.{cut-lt, clash}
+use Rattle.octets.specs.Head.{Bytes, stands-within}
 use Rattle.number.specs.Groups.Laws.{groups-some}
 use Rattle.number.specs.Reading.{Read, got, fault, andThen, readNumber, many}
 use Rattle.number.specs.Reading.Laws.{cut-got}
@@ -17,9 +15,9 @@ use Rattle.number.specs.Reading.Many.{many-forward, many-agree}
 use Rattle.number.specs.Reading.Numbers.{read-form}
 use Rattle.term.specs.declared.Symbol.{Symbol}
 use Rattle.term.specs.declared.Symbol.the-variants as sy
-use Rattle.term.specs.Term.{Term, leaf, app}
+use Rattle.term.specs.Term.{Term, app}
 use Rattle.term.specs.Arity.{arity}
-use Rattle.term.specs.Reader.{terms, kindOf, nameAt, opAt, symbolOf, symbolAt, build, termIn, term}
+use Rattle.term.specs.Reader.{terms, nameAt, opAt, symbolOf, symbolAt, build, termIn, term}
 
 -- ── the symbol at a place, case by case ──
 module _ (s slots : List ℕ) (at : ℕ) where

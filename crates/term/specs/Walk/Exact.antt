@@ -1,6 +1,6 @@
 -- What the answers say of trees: the place and the symbols of a term are told exactly where one formed term in range stands, and there is
 -- one such term only.
-use Prim.Native.Nat.{ℕ, _+_, _-_}
+use Prim.Native.Nat.{ℕ, _-_}
 use mathlib.Core.List.{List, []}
 use mathlib.Core.Logic.{_↔_}
 use mathlib.Core.Path.{_≡_, refl, ap, ap₂, sym, _∙_}
@@ -9,7 +9,6 @@ use lib.ListN.{take, drop}
 use Rattle.octets.specs.Choice.{clash}
 use Rattle.octets.specs.Head.{Bytes, Stands, stands-part, stands-within}
 use Rattle.number.specs.Reading.{Read, got, fault}
-use Rattle.term.specs.declared.Part.{Part}
 use Rattle.term.specs.declared.Part.the-variants as part
 use Rattle.term.specs.Term.{Term, encode, symbols, Formed, InRange}
 use Rattle.term.specs.Term.Laws.{encode-prefix, encode-some}

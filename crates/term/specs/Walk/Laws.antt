@@ -2,10 +2,9 @@
 -- answers say of trees.
 use Prim.Native.Nat.{ℕ, zero, suc, _+_, _-_, _≤_, _<_}
 use mathlib.Core.List.{List, [], _∷_, _++_}
-use mathlib.Core.Bool.{Bool, true, false, _||_, or-assoc, or-false}
+use mathlib.Core.Bool.{Bool, false, _||_, or-assoc, or-false}
 use mathlib.Core.Path.{_≡_, refl, ap, ap₂, sym, _∙_}
 use native.Mathlib.Omega.{arith}
-use lib.ListN.{length}
 use Rattle.octets.specs.Choice.{clash}
 use Rattle.octets.specs.Head.{Bytes}
 use Rattle.number.specs.Reading.{Read, got, fault, andThen, many, any}
@@ -19,7 +18,7 @@ use Rattle.term.specs.declared.Walk.{Walk}
 use Rattle.term.specs.declared.Walk.the-variants as wk
 use Rattle.term.specs.declared.Part.{Part}
 use Rattle.term.specs.declared.Part.the-variants as part
-use Rattle.term.specs.Term.{Kind, Term, leaf, app, Terms, nil, _&_, symbols, symbolss, tagOf}
+use Rattle.term.specs.Term.{Kind, Term, leaf, app, symbols, symbolss, tagOf}
 use Rattle.term.specs.Reader.{terms, kindOf, symbolAt, build, term}
 use Rattle.term.specs.Reader.Laws.{Ahead, leaf-at, leaf-ahead, op-ahead, term-build}
 use Rattle.term.specs.Reader.Exact.{tag-kind}
