@@ -23,6 +23,8 @@ pub mod Inside
 pub mod Whole
 -- what it writes, in terms of the files
 pub mod Files
+-- what it writes, in document 01's words
+pub mod Meaning
 -- its packed answer comes apart into the outcome
 pub mod Bounds
 
