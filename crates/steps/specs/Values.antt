@@ -33,6 +33,8 @@ pub mod Weights
 pub mod Parts
 -- the sizes of a node's values, in a table
 pub mod Sizes
+-- a rule's terms with a node's values filled in
+pub mod Filled
 -- the passes of 7 and 8 find their least node
 pub mod Passes
 

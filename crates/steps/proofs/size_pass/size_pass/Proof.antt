@@ -1,0 +1,95 @@
+use borrow.Author.Needs.{needs}
+use Rattle.steps.specs.Values.Scan.{Rest, rest-all, rest-more, rest-bad, rest-none}
+use Rattle.steps.specs.Values.{nodeTermsOk}
+use Rattle.steps.specs.Index.{IndexOf}
+use Rattle.steps.specs.Nodes.{Node, node}
+use Rattle.steps.specs.Nodes.Code.{noNode}
+use Rattle.protocol.specs.Protocol.{Protocol}
+use Rattle.protocol.specs.Index.{Placed}
+use Prim.Native.Nat.{ℕ, _+_, _-_, _≤_, _<_}
+use mathlib.Core.List.{List}
+use mathlib.Core.Path.{_≡_, ap, sym, _∙_}
+use lib.ListN.{length, getD}
+use native.Mathlib.Omega.{arith}
+use Rattle.steps.proofs.size_pass.size_pass.Statement.{statement}
+use Rattle.steps.proofs.size_pass.size_pass.Tie as tie
+use Rattle.steps.proofs.size_pass.size_pass.Reads as reads
+use Rattle.steps.proofs.size_pass.size_pass.Lts as lts
+use Rattle.steps.proofs.size_pass.node_terms.Reads as node-terms-reads
+
+abbrev Inv-loop : tie.InvT-loop
+Inv-loop s protocol arities ars rules nr places n j₀ j =
+    (j ≤ n) × ((p : Protocol) (xs : List Node) → IndexOf protocol arities rules nr p → Placed (node p s) noNode places xs n → Rest (nodeTermsOk p) noNode xs j)
+
+abbrev μ-loop : tie.MeasureT-loop
+μ-loop s protocol arities ars rules nr places n j₀ j =
+    n - j
+
+-- src/size_pass.rt:102:5
+loop-holds : tie.Need-loop-holds Inv-loop μ-loop
+loop-holds c =
+    (search needs, λ p xs i h. rest-all (nodeTermsOk p) noNode xs)
+
+-- src/size_pass.rt:103:61
+mul-node-terms : tie.Need-mul-node-terms Inv-loop μ-loop
+mul-node-terms c = search needs
+
+-- src/size_pass.rt:103:61
+shared-slice-read-node-terms : tie.Need-shared-slice-read-node-terms Inv-loop μ-loop
+shared-slice-read-node-terms c = search needs
+
+-- src/size_pass.rt:103:12
+node-terms-requires : tie.Need-node-terms-requires Inv-loop μ-loop
+node-terms-requires c κs =
+    let q = c .before .before .before .before .before .before .before .before .before .pre .4 in
+    (search needs, c .before .before .before .before .before .before .before .before .before .pre .3, record { of = q .of; index = q .index; its = getD (q .their) (c .before .before .loop .j) noNode; here = q .placed .each (c .before .before .loop .j) (c .before .loop-test .taken) }, c .before .before .before .before .before .before .before .before .before .pre .5)
+
+-- src/size_pass.rt:104:13
+add-j : tie.Need-add-j Inv-loop μ-loop
+add-j c = search needs
+
+-- src/size_pass.rt:102:5
+loop-less : tie.Need-loop-less Inv-loop μ-loop
+loop-less c = search needs
+
+-- src/size_pass.rt:102:5
+loop-again : tie.Need-loop-again Inv-loop μ-loop
+loop-again c = (
+  omega arith,
+  λ p xs i h.
+      let l : c .before .before .before .before .loop .j < length xs = omega (arith, h .count) in
+      rest-more (nodeTermsOk p) noNode xs _ l (sym (c .before .node-terms .ensures p _ i (h .each (c .before .before .before .before .loop .j) (c .before .before .before .loop-test .taken))) ∙ c .if1 .taken) (c .before .before .before .before .loop .inv .1 p xs i h),
+)
+
+-- src/size_pass.rt:106:20
+add-result : tie.Need-add-result Inv-loop μ-loop
+add-result c = search needs
+
+-- src/size_pass.rt:106:13
+returns : tie.Need-returns Inv-loop μ-loop
+returns c =
+    λ p xs i h.
+    let l : c .before .before .before .before .loop .j < length xs = omega (arith, h .count) in
+    rest-bad (nodeTermsOk p) noNode xs _ l (sym (c .before .node-terms .ensures p _ i (h .each (c .before .before .before .before .loop .j) (c .before .before .before .loop-test .taken))) ∙ c .if1 .left) (c .before .before .before .before .loop .inv .1 p xs i h)
+
+-- src/size_pass.rt:88:1
+returns-2 : tie.Need-returns-2 Inv-loop μ-loop
+returns-2 c =
+    λ p xs i h. rest-none (nodeTermsOk p) noNode xs (c .before .loop .j) (omega (arith, h .count)) (c .before .loop .inv .1 p xs i h)
+
+pub size-pass-spec : {M : Type 1} → statement M
+size-pass-spec =
+    tie.close
+    (tie.spec
+    Inv-loop
+    μ-loop
+    loop-holds
+    mul-node-terms
+    shared-slice-read-node-terms
+    node-terms-requires
+    add-j
+    loop-less
+    loop-again
+    add-result
+    returns
+    returns-2)

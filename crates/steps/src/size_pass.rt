@@ -1,0 +1,110 @@
+// The least node that has a filled-in term of more than 256 symbols (8).
+ghost use mathlib.Core.Path.{_≡_};
+ghost use mathlib.Core.List.{List};
+ghost use Prim.Native.Nat.{ℕ, _^_, _≤_, _<_, _+_};
+ghost use lib.ListN.{length};
+ghost use Rattle.term.specs.Term.{Term};
+ghost use Rattle.protocol.specs.Protocol.{Rule, Protocol};
+ghost use Rattle.protocol.specs.Protocol.Walks.{sortsAt};
+ghost use Rattle.protocol.specs.Places.{valueOf, Here};
+ghost use Rattle.protocol.specs.Index.{Placed};
+ghost use Rattle.rewriting.specs.Lists.{firstBad};
+ghost use Rattle.steps.specs.Index.{IndexOf, Given};
+ghost use Rattle.steps.specs.Nodes.{Node, node};
+ghost use Rattle.steps.specs.Nodes.Code.{noNode};
+ghost use Rattle.steps.specs.Values.{ruleOk, nodeTermsOk};
+ghost use Rattle.steps.specs.Values.Loops.{NodeFrom, SomeFrom, SomeNode};
+ghost use Rattle.steps.specs.Values.Scan.{asFound, SomeNodes};
+ghost use Rattle.steps.specs.Values.Filled.{ArityTable, FillsRule, SomeFilling};
+use number::Number;
+use rules::numbered::Found;
+
+// Whether the terms of the rule at a place of src are small enough with the k values from a place of s on filled in.
+fn filled_small(
+    s: &[u8],
+    arities: &[u8],
+    ars: &[u8],
+    at: usize,
+    src: &[u8],
+    place: usize,
+    k: usize,
+) -> bool
+    requires { ⌜ (length (now src) ≤ 2 ^ 32) × SomeFilling (now arities) (now ars) (now s) (now src) place at × (k ≡ valueOf (sortsAt (now src) place)) ⌝ }
+    ensures { λ r. ⌜ ((u : Rule) (vs : List Term) (e : ℕ) → FillsRule (now (arities .entry)) (now (ars .entry)) (now (s .entry)) (now (src .entry)) place at u vs e → r ≡ ruleOk vs u) ⌝ }
+{
+    let mut sizes = [1usize; 16];
+    crate::sizes::value_sizes(s, arities, at, k, &mut sizes);
+    crate::sizes::rule_small(src, arities, ars, place, &sizes[..k])
+}
+
+// The terms of a node whose rule number was read.
+fn terms_of(
+    s: &[u8],
+    protocol: &[u8],
+    arities: &[u8],
+    ars: &[u8],
+    rules: &[usize],
+    nr: usize,
+    number: usize,
+    at: usize,
+) -> bool
+    requires { ⌜ Given (now protocol) (now arities) (now rules) nr × SomeFrom (now protocol) (now arities) (now rules) nr (now s) number at × ArityTable (now protocol) (now arities) (now rules) nr (now ars) ⌝ }
+    ensures { λ r. ⌜ ((p : Protocol) (x : Node) (e : ℕ) → IndexOf (now (protocol .entry)) (now (arities .entry)) (now (rules .entry)) nr p → NodeFrom p (now (s .entry)) number at x e → r ≡ nodeTermsOk p x) ⌝ }
+{
+    let mut own = [0u8; 30];
+    match rules::numbered::find_rule(arities, rules, nr, number, &mut own) {
+        Found::Written(len) => {
+            let k = crate::nodes::own_variables(&own[..len]);
+            filled_small(s, arities, ars, at, &own[..len], 0, k)
+        }
+        Found::At(place) => {
+            let k = protocol::places::variables_of(protocol, place);
+            filled_small(s, arities, ars, at, protocol, place, k)
+        }
+        Found::Nothing => true,
+    }
+}
+
+// The terms of the node at a place.
+fn node_terms(
+    s: &[u8],
+    protocol: &[u8],
+    arities: &[u8],
+    ars: &[u8],
+    rules: &[usize],
+    nr: usize,
+    place: usize,
+) -> bool
+    requires { ⌜ (length (now s) ≤ 2 ^ 32) × Given (now protocol) (now arities) (now rules) nr × SomeNode (now protocol) (now arities) (now rules) nr (now s) place × ArityTable (now protocol) (now arities) (now rules) nr (now ars) ⌝ }
+    ensures { λ r. ⌜ ((p : Protocol) (x : Node) → IndexOf (now (protocol .entry)) (now (arities .entry)) (now (rules .entry)) nr p → Here (node p (now (s .entry))) x place → r ≡ nodeTermsOk p x) ⌝ }
+{
+    match number::read_number(s, place) {
+        Number::Value(r, e) => terms_of(s, protocol, arities, ars, rules, nr, r as usize, e),
+        Number::Fault => true,
+    }
+}
+
+// 8: the least node that has a filled-in term of more than 256 symbols; 0 where there is none.
+pub fn size_pass(
+    s: &[u8],
+    protocol: &[u8],
+    arities: &[u8],
+    ars: &[u8],
+    rules: &[usize],
+    nr: usize,
+    places: &[usize],
+    n: usize,
+) -> usize
+    requires { ⌜ (length (now s) ≤ 2 ^ 32) × (n ≤ 512) × (n ≤ length (now places)) × Given (now protocol) (now arities) (now rules) nr × SomeNodes (now protocol) (now arities) (now rules) nr (now s) (now places) n × ArityTable (now protocol) (now arities) (now rules) nr (now ars) ⌝ }
+    ensures { λ r. ⌜ ((p : Protocol) (xs : List Node) → IndexOf (now (protocol .entry)) (now (arities .entry)) (now (rules .entry)) nr p → Placed (node p (now (s .entry))) noNode (now (places .entry)) xs n → asFound r ≡ firstBad (λ (k : ℕ) (x : Node). nodeTermsOk p x) 1 xs) ⌝ }
+{
+    let mut j: usize = 0;
+    while j < n {
+        if node_terms(s, protocol, arities, ars, rules, nr, places[j]) {
+            j += 1;
+        } else {
+            return j + 1;
+        }
+    }
+    0
+}
