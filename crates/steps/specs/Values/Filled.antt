@@ -1,19 +1,19 @@
 -- The terms of a node's rule with the node's values filled in: the sizes that code has of the values are theirs, and the rule's test is the
 -- node's.
-use Prim.Native.Nat.{ℕ, zero, suc, _+_, _-_, _^_, _≤_, _<_}
+use Prim.Native.Nat.{ℕ, zero, suc, _^_, _≤_, _<_}
 use mathlib.Core.List.{List, [], _∷_}
 use mathlib.Core.Bool.{Bool}
-use mathlib.Core.Option.{Option, some}
+use mathlib.Core.Option.{some}
 use mathlib.Core.Path.{_≡_, refl, ap, ap₂, sym, _∙_, subst}
 use native.Mathlib.Omega.{arith}
 use lib.ListN.{length, getD, take, List·getD-eq-default}
 use lib.Seq.{getD-take, length-take-le}
-use Rattle.octets.specs.Choice.{clash, by-size}
+use Rattle.octets.specs.Choice.{by-size}
 use Rattle.octets.specs.Head.{Bytes, stands-within}
-use Rattle.number.specs.Reading.{Read, got, fault, many}
+use Rattle.number.specs.Reading.{got, many}
 use Rattle.number.specs.Reading.Laws.{cut-got}
 use Rattle.number.specs.Reading.Many.{many-length}
-use Rattle.term.specs.Term.{variable, Term, leaf, encode, symbols}
+use Rattle.term.specs.Term.{variable, Term, leaf, symbols}
 use Rattle.term.specs.Term.Laws.{symbols-bytes, encode-some}
 use Rattle.term.specs.Reader.{term}
 use Rattle.term.specs.Reader.Exact.{term-form}
@@ -29,7 +29,7 @@ use Rattle.steps.specs.Nodes.Code.{index-within, index-slots}
 use Rattle.steps.specs.Facts.{valueAt}
 use Rattle.steps.specs.Values.{ruleOk, ofRule, nodeTermsOk}
 use Rattle.steps.specs.Values.Weights.{sizeIn}
-use Rattle.steps.specs.Values.Parts.{noTerm, ruleSmall, RuleAt, rule-weighed}
+use Rattle.steps.specs.Values.Parts.{noTerm, ruleSmall, rule-weighed}
 use Rattle.steps.specs.Values.Loops.{RuleHere, count-here, NodeFrom, written-rule, placed-rule}
 
 -- ── the sizes of values ──

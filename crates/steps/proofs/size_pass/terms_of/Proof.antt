@@ -1,11 +1,8 @@
 use Rattle.steps.specs.Nodes.Code.{written-at, placed-at, nothing-at}
 use Rattle.steps.specs.Values.Filled.{written-filling, placed-filling, written-short, terms-test}
 use Rattle.steps.specs.Values.Loops.{no-rule-from}
-use mathlib.Core.Path.{ap, sym, _∙_}
-use native.Mathlib.Omega.{arith}
+use mathlib.Core.Path.{sym}
 use lib.Seq.{length-take-le}
-use lib.ListN.{length}
-use denote.Ref.{now}
 use borrow.Author.Needs.{needs}
 use Rattle.steps.proofs.size_pass.terms_of.Statement.{statement}
 use Rattle.steps.proofs.size_pass.terms_of.Tie as tie
