@@ -14,6 +14,8 @@ use Rattle.steps.specs.Values.{WrongValue, TermLong, nodeValuesOk, nodeT
 use Rattle.steps.specs.Runs.{rewrittens}
 -- the ruling is what the rows say
 pub mod Laws
+-- what the code answers
+pub mod Code
 
 -- "An item is .. 3 graph, .. 5 steps where "file" stands."
 abbrev pub stepsItem : ℕ

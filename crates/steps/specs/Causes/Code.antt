@@ -1,0 +1,113 @@
+-- What the code answers of a list of nodes.
+use Prim.Native.Nat.{ℕ, zero, suc, _≤_}
+use mathlib.Core.List.{List}
+use mathlib.Core.Option.{Option, none, some}
+use mathlib.Core.Path.{_≡_, refl, ap, sym, _∙_, subst}
+use lib.ListN.{length}
+use Rattle.rewriting.specs.Lists.{firstBad}
+use Rattle.rewriting.specs.Table.{Ruling, passed, refused, orRefuse}
+use Rattle.rewriting.specs.Writer.{firstNameTwice}
+use Rattle.octets.specs.Head.{Bytes}
+use Rattle.protocol.specs.Protocol.{Protocol}
+use Rattle.protocol.specs.Index.{Placed}
+use Rattle.steps.specs.Nodes.{Node, Reading, broken, no-rule, read, node, steps}
+use Rattle.steps.specs.Nodes.Code.{noNode, NodesAre, Told}
+use Rattle.steps.specs.Nodes.Exact.{steps-form}
+use Rattle.steps.specs.Index.{IndexOf}
+use Rattle.steps.specs.Values.{nodeValuesOk, nodeTermsOk}
+use Rattle.steps.specs.Values.Scan.{asFound, SomeNodes}
+use Rattle.steps.specs.Runs.{rewrittens}
+use Rattle.steps.specs.Causes.{stepsItem, nodeRuling, listRuling}
+use Rattle.steps.specs.declared.nodes.Nodes.{Nodes}
+use Rattle.steps.specs.declared.nodes.Nodes.the-variants as all
+use Rattle.steps.specs.declared.ruling.Judged.{Judged}
+use Rattle.steps.specs.declared.ruling.Judged.the-variants as jd
+
+abbrev pub rulingOf : Judged → Ruling ℕ
+rulingOf (jd.Good n) = passed n
+rulingOf (jd.Refused n k) = refused n k
+
+-- of the nodes their number
+abbrev pub counted : Ruling (List Node) → Ruling ℕ
+counted (passed xs) = passed (length xs)
+counted (refused n k) = refused n k
+
+found-some : (k : ℕ) → (k ≡ 0 → ⊥) → asFound k ≡ some k
+found-some zero h = absurd (h refl)
+found-some (suc k) h = refl
+
+found-none : (k : ℕ) → k ≡ 0 → asFound k ≡ none
+found-none k h = ap asFound h
+
+module _ (p : Protocol) (xs : List Node) where
+  abbrev Values : Option ℕ
+  Values = firstBad (λ k x. nodeValuesOk p x) 1 xs
+
+  abbrev Terms : Option ℕ
+  Terms = firstBad (λ k x. nodeTermsOk p x) 1 xs
+
+  abbrev Names : Option ℕ
+  Names = firstNameTwice (rewrittens p xs)
+
+  -- what the passes found, one by one
+  abbrev Passes : Option ℕ → Option ℕ → Option ℕ → Ruling ℕ
+  Passes a b c = counted (orRefuse 7 a (orRefuse 8 b (orRefuse 9 c (passed xs))))
+
+  module _ (i : ℕ) (values : asFound i ≡ Values) where
+    pub wrong-value : (i ≡ 0 → ⊥) → refused 7 i ≡ counted (nodeRuling p xs)
+    wrong-value h = ap (λ (o : Option ℕ). Passes o Terms Names) (sym (found-some i h) ∙ values)
+
+    module _ (none-wrong : i ≡ 0) (j : ℕ) (terms : asFound j ≡ Terms) where
+      first : Passes none Terms Names ≡ counted (nodeRuling p xs)
+      first = ap (λ (o : Option ℕ). Passes o Terms Names) (sym (found-none i none-wrong) ∙ values)
+
+      pub too-large : (j ≡ 0 → ⊥) → refused 8 j ≡ counted (nodeRuling p xs)
+      too-large h = ap (λ (o : Option ℕ). Passes none o Names) (sym (found-some j h) ∙ terms) ∙ first
+
+      module _ (none-large : j ≡ 0) (k : ℕ) (names : asFound k ≡ Names) where
+        second : Passes none none Names ≡ counted (nodeRuling p xs)
+        second = ap (λ (o : Option ℕ). Passes none o Names) (sym (found-none j none-large) ∙ terms) ∙ first
+
+        pub made-twice : (k ≡ 0 → ⊥) → refused 9 k ≡ counted (nodeRuling p xs)
+        made-twice h = ap (λ (o : Option ℕ). Passes none none o) (sym (found-some k h) ∙ names) ∙ second
+
+        pub all-good : (n : ℕ) → length xs ≡ n → k ≡ 0 → passed n ≡ counted (nodeRuling p xs)
+        all-good n l h =
+            ap {B = Ruling ℕ} passed (sym l) ∙ ap (λ (o : Option ℕ). Passes none none o) (sym (found-none k h) ∙ names) ∙ second
+
+-- ── the whole list, as it was read ──
+module _ (p : Protocol) (s places : List ℕ) (r : Nodes) (told : Told (steps p s) p s places r) where
+  abbrev Whole : Ruling ℕ
+  Whole = counted (listRuling p stepsItem (steps p s))
+
+  pub list-broken : r ≡ all.Broken → refused 3 stepsItem ≡ Whole
+  list-broken h =
+      ap (λ (q : Reading (List Node)). counted (listRuling p stepsItem q)) (sym (subst (Told (steps p s) p s places) h told))
+
+  pub list-unknown : {k : ℕ} → r ≡ all.NoRule k → refused 6 k ≡ Whole
+  list-unknown h =
+      ap (λ (q : Reading (List Node)). counted (listRuling p stepsItem q)) (sym (subst (Told (steps p s) p s places) h told))
+
+  module _ {n e : ℕ} (h : r ≡ all.End n e) where
+    pub list-read : NodesAre (steps p s) p s places n e
+    list-read = subst (Told (steps p s) p s places) h told
+
+    pub list-few : Bytes s → n ≤ 512
+    list-few bytes =
+        let t = list-read in
+        let f : length (t .items) ≤ 512 = steps-form p s bytes (t .items) e (t .there) .0 .few in
+        subst (λ k. k ≤ 512) (t .placed .count) f
+
+    pub list-nodes :
+        (j : Judged) → ((xs : List Node) → Placed (node p s) noNode places xs n → rulingOf j ≡ counted (nodeRuling p xs)) → rulingOf j ≡ Whole
+    list-nodes j k =
+        let t = list-read in
+        k (t .items) (t .placed) ∙ ap (λ (q : Reading (List Node)). counted (listRuling p stepsItem q)) (sym (t .there))
+
+-- the nodes that were read are nodes of some protocol with this index
+pub list-some :
+    {protocol table rules : List ℕ} {nr : ℕ} {p : Protocol} (i : IndexOf protocol table rules nr p) (s places : List ℕ) (r : Nodes)
+    → Told (steps p s) p s places r → {n e : ℕ} → r ≡ all.End n e → SomeNodes protocol table rules nr s places n
+list-some {p = p} i s places r told h =
+    let t = list-read p s places r told h in
+    record { of = p; index = i; their = t .items; placed = t .placed }
