@@ -20,6 +20,8 @@ use Rattle.steps.specs.Nodes.{Node}
 pub mod Laws
 -- the facts of a node within the limits are well formed, and its terms without variables
 pub mod Formed
+-- the places of a node's values
+pub mod Places
 
 -- ── the facts of a node ──
 -- the value of variable v; one without a value stays
