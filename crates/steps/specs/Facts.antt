@@ -22,6 +22,8 @@ pub mod Laws
 pub mod Formed
 -- the places of a node's values
 pub mod Places
+-- the canonical bytes of a fact, as the code writes them
+pub mod Writing
 
 -- ── the facts of a node ──
 -- the value of variable v; one without a value stays

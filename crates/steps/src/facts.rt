@@ -7,6 +7,7 @@ ghost use Rattle.number.specs.Reading.{got, many};
 ghost use Rattle.term.specs.Term.{Term};
 ghost use Rattle.term.specs.Reader.{term};
 ghost use Rattle.protocol.specs.Index.{Placed};
+ghost use Rattle.steps.specs.Facts.Writing.{FactReady, FactDone};
 ghost use Rattle.steps.specs.Values.Parts.{noTerm};
 use term::Part;
 
@@ -30,4 +31,26 @@ pub fn value_places(s: &[u8], arities: &[u8], at: usize, k: usize, starts: &mut 
             }
         }
     }
+}
+
+// Writes the canonical bytes of the fact at a place of src, filled in with the values, into the part of the output that starts at o; the
+// place behind them. The value of variable i lies in `vals` from the i-th of `starts` on.
+pub fn fact_into(
+    out: &mut [u8],
+    o: usize,
+    src: &[u8],
+    place: usize,
+    arities: &[u8],
+    ars: &[u8],
+    vals: &[u8],
+    starts: &[usize],
+) -> usize
+    requires { ⌜ FactReady (now arities) (now ars) (now vals) (now starts) (now src) place (length (now out)) o ⌝ }
+    ensures { λ r. ⌜ FactDone (now (arities .entry)) (now (ars .entry)) (now (vals .entry)) (now (starts .entry)) (now (src .entry)) place (now (out .entry)) o (now (out .exit)) r ⌝ }
+{
+    let y = protocol::places::symbol_of(src, ars, place);
+    let k = ars[y] as usize;
+    let at = protocol::places::term_at(src, arities, ars, place, 0);
+    let n = canonical::canonical_into(out, o, src, at, k, arities, vals, starts);
+    n.o
 }
