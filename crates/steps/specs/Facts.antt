@@ -24,6 +24,8 @@ pub mod Formed
 pub mod Places
 -- the canonical bytes of a fact, as the code writes them
 pub mod Writing
+-- facts of one symbol are the same just where these bytes are
+pub mod Bytes
 
 -- ── the facts of a node ──
 -- the value of variable v; one without a value stays

@@ -7,6 +7,7 @@ ghost use Rattle.number.specs.Reading.{got, many};
 ghost use Rattle.term.specs.Term.{Term};
 ghost use Rattle.term.specs.Reader.{term};
 ghost use Rattle.protocol.specs.Index.{Placed};
+ghost use Rattle.steps.specs.Facts.Bytes.{FactsSame};
 ghost use Rattle.steps.specs.Facts.Writing.{FactReady, FactDone};
 ghost use Rattle.steps.specs.Values.Parts.{noTerm};
 use term::Part;
@@ -53,4 +54,30 @@ pub fn fact_into(
     let at = protocol::places::term_at(src, arities, ars, place, 0);
     let n = canonical::canonical_into(out, o, src, at, k, arities, vals, starts);
     n.o
+}
+
+// Whether the fact at a place of s and the one at a place of u, each with its node's values filled in, are the same. Their canonical
+// bytes go into the two outputs.
+pub fn same_fact(
+    a: &mut [u8],
+    b: &mut [u8],
+    s: &[u8],
+    i: usize,
+    starts: &[usize],
+    u: &[u8],
+    j: usize,
+    begins: &[usize],
+    arities: &[u8],
+    ars: &[u8],
+    vals: &[u8],
+) -> bool
+    requires { ⌜ FactReady (now arities) (now ars) (now vals) (now starts) (now s) i (length (now a)) 0 × FactReady (now arities) (now ars) (now vals) (now begins) (now u) j (length (now b)) 0 ⌝ }
+    ensures { λ r. ⌜ FactsSame (now (arities .entry)) (now (ars .entry)) (now (vals .entry)) (now (starts .entry)) (now (s .entry)) i (length (now (a .entry))) (now (begins .entry)) (now (u .entry)) j (length (now (b .entry))) r ⌝ }
+{
+    if protocol::places::symbol_of(s, ars, i) != protocol::places::symbol_of(u, ars, j) {
+        return false;
+    }
+    let m = fact_into(a, 0, s, i, arities, ars, vals, starts);
+    let n = fact_into(b, 0, u, j, arities, ars, vals, begins);
+    octets::same_bytes(&a[..m], &b[..n])
 }
