@@ -26,6 +26,8 @@ pub mod Places
 pub mod Writing
 -- facts of one symbol are the same just where these bytes are
 pub mod Bytes
+-- a node's facts can be written so
+pub mod Ready
 
 -- ── the facts of a node ──
 -- the value of variable v; one without a value stays

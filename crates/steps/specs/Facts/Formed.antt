@@ -65,7 +65,7 @@ mutual
       let (a, b) = or-split (holds t 0 n numberLimit) (holdss ts 0 n numberLimit) h in
       ⊎-elim (λ q. none-below t v n a l q) (λ q. none-belows ts v n b l q) o
 
-occurs-below : (t : Term) (v n : ℕ) → InRange t → holds t 0 n numberLimit ≡ false → Occurs v t → v < n
+pub occurs-below : (t : Term) (v n : ℕ) → InRange t → holds t 0 n numberLimit ≡ false → Occurs v t → v < n
 occurs-below t v n r h o = none-below t v n h (occurs-range t v r o) o
 
 value-ground : (vs : List Term) → All Ground vs → (v : ℕ) → v < length vs → Ground (valueAt vs v)

@@ -58,8 +58,7 @@ loop-again : tie.Need-loop-again Inv-loop μ-loop
 loop-again c =
     let b : c .before .before .before .before .before .loop .v < length (c .before .before .before .before .before .loop .starts) = omega arith in
     let q = c .before .before .before .before .before .loop .inv in
-    let x = ended-got _ _ _ (sym (c .before .before .before .term-end .ensures) ∙ c .before .e .given .1) in
-    (search needs, simp length-set (omega arith), came-more (term _ _) _ _ _ _ (x .0) (q .2) (x .1), places-more (term _ _) _ _ _ (c .before .before .before .before .before .loop .starts) (q .3) (q .2) b)
+    (search needs, simp length-set (omega arith), let x = ended-got _ _ _ (sym (c .before .before .before .term-end .ensures) ∙ c .before .e .given .1) in came-more (term _ _) _ _ _ _ (x .0) (q .2) (x .1), places-more (term _ _) _ _ _ (c .before .before .before .before .before .loop .starts) (q .3) (q .2) b)
 
 -- src/facts.rt:29:17
 enum-told : tie.Need-enum-told Inv-loop μ-loop

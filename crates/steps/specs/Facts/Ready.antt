@@ -1,0 +1,101 @@
+-- What the code that writes a fact is asked holds of a fact of a node whose values fit and whose filled-in terms are small enough.
+use Prim.Native.Nat.{ℕ, _+_, _*_, _≤_, _<_}
+use mathlib.Core.List.{List, [], _∷_, _++_, map}
+use mathlib.Core.Bool.{Bool, false}
+use mathlib.Core.Logic.{⊎-elim, inl, inr}
+use mathlib.Core.Path.{_≡_, refl}
+use native.Mathlib.Omega.{arith}
+use lib.ListN.{length, getD, length-append}
+use Rattle.octets.specs.Head.{Bytes}
+use Rattle.number.specs.Groups.{numberLimit}
+use Rattle.number.specs.Layout.{flat, All}
+use Rattle.number.specs.Layout.Laws.{many-form}
+use Rattle.term.specs.Term.{variable, Term, leaf, encode, symbols, InRange}
+use Rattle.term.specs.Reader.{terms, term}
+use Rattle.term.specs.Walk.{holds}
+use Rattle.message.specs.Substitution.{sub, Occurss}
+use Rattle.message.specs.Canon.{canon}
+use Rattle.canonical.specs.Builtins.{Builtins}
+use Rattle.canonical.specs.Size.{bytes-few}
+use Rattle.canonical.specs.Loose.Laws.{sub-range}
+use Rattle.canonical.specs.Contract.{mostSymbols, longest, Value}
+use Rattle.protocol.specs.Protocol.{Fact, ruleTerm, fact, leafIn}
+use Rattle.protocol.specs.Protocol.Limits.{TermWithin}
+use Rattle.protocol.specs.Protocol.Exact.{rule-term-exact}
+use Rattle.protocol.specs.Places.{Here}
+use Rattle.protocol.specs.Places.Laws.{fact-fields}
+use Rattle.protocol.specs.Index.{Placed}
+use Rattle.steps.specs.Lists.{all-at, none-all}
+use Rattle.steps.specs.Facts.{valueAt, filledFact}
+use Rattle.steps.specs.Facts.Formed.{occurs-below}
+use Rattle.steps.specs.Facts.Places.{placed-value}
+use Rattle.steps.specs.Facts.Writing.{plainBytes, FactJob}
+use Rattle.steps.specs.Values.Parts.{noTerm}
+
+-- eight terms of 256 symbols, four bytes each at most
+abbrev pub factRoom : ℕ
+factRoom = 8192
+
+-- ── the variables of a fact's terms ──
+all-below :
+    (slots : List ℕ) (k v : ℕ) (ts : List Term) → All (TermWithin slots) ts → All (λ t. holds t 0 k numberLimit ≡ false) ts
+    → Occurss v (terms ts) → v < k
+all-below slots k v [] a b o = absurd o
+all-below slots k v (t ∷ ts) a b o =
+    ⊎-elim (λ q. occurs-below t v k (a .0 .range) (b .0) q) (λ q. all-below slots k v ts (a .1) (b .1) q) o
+
+-- ── the room that the terms take ──
+filled-few :
+    (slots : List ℕ) (θ : ℕ → Term) (ts : List Term) → All (TermWithin slots) ts → ((v : ℕ) → Occurss v (terms ts) → InRange (θ v))
+    → All (λ t. symbols (sub θ t) ≤ mostSymbols) ts → length (flat encode (map (sub θ) ts)) ≤ 1024 * length ts
+filled-few slots θ [] a h s = omega arith
+filled-few slots θ (t ∷ ts) a h s =
+    let b = bytes-few (sub θ t) (sub-range θ t (a .0 .range) (λ v o. h v (inl o))) in
+    let r = filled-few slots θ ts (a .1) (λ v o. h v (inr o)) (s .1) in
+    omega (arith, b, r, s .0, length-append (encode (sub θ t)) (flat encode (map (sub θ) ts)))
+
+-- ── the values stand at their places, each its own canonical form ──
+pub record Valued (slots s starts : List ℕ) (vs : List Term) (k : ℕ) : Type 0 where
+  pub table : Builtins slots
+  pub bytes : Bytes s
+  pub short : length s ≤ longest
+  pub placed : Placed (term s slots) noTerm starts vs k
+  pub many : k ≤ length starts
+  pub own : All (λ t. canon t ≡ t) vs
+
+-- a fact of no other variables, its terms small enough filled in
+pub record Fillable (slots ars src : List ℕ) (place : ℕ) (vs : List Term) (k : ℕ) (f : Fact) : Type 0 where
+  pub bytes : Bytes src
+  pub short : length src ≤ longest
+  pub here : Here (fact src slots ars) f place
+  pub bound : leafIn 0 k numberLimit f ≡ false
+  pub few : length (f .terms) ≤ 8
+  pub small : All (λ t. symbols (sub (valueAt vs) t) ≤ mostSymbols) (f .terms)
+
+module _ (slots ars s starts src : List ℕ) (place : ℕ) (vs : List Term) (k : ℕ) (f : Fact) (has : Valued slots s starts vs k)
+    (fits : Fillable slots ars src place vs k f) where
+  within : All (TermWithin slots) (f .terms)
+  within =
+      let x = fact-fields src slots ars place f (fits .here) in
+      many-form src (ruleTerm src slots) (TermWithin slots) encode (rule-term-exact src (fits .bytes) slots .form) (getD ars (f .symbol) 0)
+      (f .terms) (x .behind) (fits .here .next) (x .terms) .0 .1
+
+  value-of : (v : ℕ) → Occurss v (terms (f .terms)) → Value slots s starts v (valueAt vs v)
+  value-of v o =
+      placed-value s slots starts vs k (has .bytes) (has .placed) (has .many) v
+      (all-below slots k v (f .terms) within (none-all (λ t. holds t 0 k numberLimit) (f .terms) (fits .bound)) o)
+      (all-at (λ t. canon t ≡ t) (leaf variable v) refl vs (has .own) v)
+
+  pub fillable-job : (n o : ℕ) → o + factRoom ≤ n → n ≤ longest → FactJob slots ars s starts src place n o vs f
+  fillable-job n o room short =
+      let b = filled-few slots (valueAt vs) (f .terms) within (λ v q. value-of v q .range) (fits .small) in
+      record {
+        table = has .table;
+        here = fits .here;
+        values = value-of;
+        small = fits .small;
+        room = omega (arith, b, fits .few);
+        short = short;
+        values-short = has .short;
+        source-short = fits .short;
+      }
