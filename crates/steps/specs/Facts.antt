@@ -26,8 +26,9 @@ pub mod Places
 pub mod Writing
 -- facts of one symbol are the same just where these bytes are
 pub mod Bytes
--- a node's facts can be written so
+-- what the writing asks, by the values and the fact; of a node that is right
 pub mod Ready
+pub mod Nodes
 
 -- ── the facts of a node ──
 -- the value of variable v; one without a value stays

@@ -1,0 +1,110 @@
+-- The facts of a node of which 7 and 8 are absent are such as the code can write.
+use Prim.Native.Nat.{ℕ, suc, _+_, _≤_}
+use mathlib.Core.List.{List, [], _∷_, List·Memᴰ·head, List·Memᴰ·tail}
+use mathlib.Core.Bool.{Bool, false}
+use mathlib.Core.Option.{some, Option·some-injective}
+use mathlib.Core.Path.{_≡_, refl, ap, sym, _∙_, subst}
+use native.Mathlib.Omega.{arith}
+use lib.ListN.{length, getD, getElem?}
+use Rattle.octets.specs.Head.{Bytes}
+use Rattle.number.specs.Groups.{numberLimit}
+use Rattle.number.specs.Reading.{any}
+use Rattle.number.specs.Layout.{All}
+use Rattle.term.specs.Term.{Term, symbols}
+use Rattle.term.specs.Arity.{slots}
+use Rattle.term.specs.Reader.{term}
+use Rattle.term.specs.Reader.Exact.{Good}
+use Rattle.rewriting.specs.Lists.{_∈_}
+use Rattle.rewriting.specs.Tests.{not-split}
+use Rattle.message.specs.Canonical.{Canonical}
+use Rattle.message.specs.Substitution.{sub}
+use Rattle.message.specs.Canon.{canon}
+use Rattle.canonical.specs.Builtins.{Builtins, declared}
+use Rattle.canonical.specs.Contract.{mostSymbols, longest}
+use Rattle.canonical.specs.Contract.Laws.{own-canonical}
+use Rattle.protocol.specs.Protocol.{Fact, Rule, Own, Protocol, part, noFact, factArities, fact, leafIn}
+use Rattle.protocol.specs.Protocol.Limits.{FactWithin, OwnWithin, RuleWithin, Within}
+use Rattle.protocol.specs.Places.{Here}
+use Rattle.protocol.specs.Index.{Placed}
+use Rattle.rules.specs.Numbered.Limits.{rule-within}
+use Rattle.steps.specs.Lists.{all-map, all-at, map-all, none-all}
+use Rattle.steps.specs.Nodes.{Node, NodeWithin}
+use Rattle.steps.specs.Facts.{valueAt}
+use Rattle.steps.specs.Facts.Formed.{part-within}
+use Rattle.steps.specs.Facts.Writing.{FactJob}
+use Rattle.steps.specs.Facts.Ready.{factRoom, Valued, Fillable, fillable-job}
+use Rattle.steps.specs.Values.{NodeRight}
+use Rattle.steps.specs.Values.Parts.{noTerm}
+
+each-member : {A : Type 0} (P : A → Type 0) (xs : List A) → ((x : A) → x ∈ xs → P x) → All P xs
+each-member P [] h = tt
+each-member P (x ∷ xs) h = (h x (List·Memᴰ·head refl), each-member P xs (λ y m. h y (List·Memᴰ·tail m)))
+
+-- "each arity (0 to 8)"
+arities-few : (os : List Own) → All OwnWithin os → (y : ℕ) → getD (factArities os) y 0 ≤ 8
+arities-few os w y =
+    all-at (λ (a : ℕ). a ≤ 8) 0 (omega arith) (factArities os)
+    (omega arith, (omega arith, (omega arith, (omega arith, map-all OwnWithin (λ (a : ℕ). a ≤ 8) (λ o. o .arity) (λ o q. omega (arith, q .small)) os w)))) y
+
+all-own :
+    (table : List ℕ) → Builtins table → (ss : List ℕ) (vs : List Term) → length vs ≡ length ss → All (Good table) vs
+    → ((i sort : ℕ) (v : Term) → getElem? ss i ≡ some sort → getElem? vs i ≡ some v → Canonical v) → All (λ t. canon t ≡ t) vs
+all-own table b ss [] n g h = tt
+all-own table b [] (v ∷ vs) n g h = absurd (omega arith)
+all-own table b (s ∷ ss) (v ∷ vs) n g h =
+    (own-canonical table b v (g .0 .0) .1 (h 0 s v refl refl), all-own table b ss vs (omega arith) (g .1) (λ i t u a c. h (suc i) t u a c))
+
+module _ (p : Protocol) (fit : Within p) (x : Node) (b : NodeWithin p x) (r : NodeRight p x) where
+  same-rule : r .is ≡ b .is
+  same-rule = Option·some-injective (r .is) (b .is) (sym (r .known) ∙ b .known)
+
+  lawful : RuleWithin (slots (p .functions)) (factArities (p .symbols)) (b .is)
+  lawful = rule-within p fit (x .rule) (b .is) (b .known)
+
+  -- its values are their own canonical forms
+  node-own : All (λ t. canon t ≡ t) (x .values)
+  node-own =
+      all-own (slots (p .functions)) (declared (p .functions)) (b .is .sorts) (x .values) (b .takes) (b .each)
+      (λ i sort v e d.
+      r .fits i sort v (record { sorted = ap (λ (u : Rule). getElem? (u .sorts) i) same-rule ∙ e; valued = d }) .canonical)
+
+  abbrev Small : Fact → Type 0
+  Small f = All (λ t. symbols (sub (valueAt (x .values)) t) ≤ mostSymbols) (f .terms)
+
+  abbrev Bound : Fact → Type 0
+  Bound f = leafIn 0 (length (b .is .sorts)) numberLimit f ≡ false
+
+  node-small : All (All Small) (b .is .parts)
+  node-small =
+      each-member (All Small) (b .is .parts) (λ fs m. each-member Small fs (λ f k.
+      each-member (λ t. symbols (sub (valueAt (x .values)) t) ≤ mostSymbols) (f .terms) (λ t l.
+      r .small t (record { facts = fs; fact = f; of-rule = subst (λ (u : Rule). fs ∈ u .parts) (sym same-rule) m; of-facts = k; of-fact = l }))))
+
+  node-bound : All (All Bound) (b .is .parts)
+  node-bound =
+      all-map (λ fs. any (leafIn 0 (length (b .is .sorts)) numberLimit) fs ≡ false) (All Bound)
+      (λ fs h. none-all (leafIn 0 (length (b .is .sorts)) numberLimit) fs h) (b .is .parts)
+      (none-all (any (leafIn 0 (length (b .is .sorts)) numberLimit)) (b .is .parts) (not-split _ (lawful .bound)))
+
+  node-few : (w : ℕ) → All (λ f. length (f .terms) ≤ 8) (part w (b .is))
+  node-few w =
+      all-map (FactWithin (slots (p .functions)) (factArities (p .symbols))) (λ f. length (f .terms) ≤ 8)
+      (λ f q. omega (arith, q .takes, arities-few (p .symbols) (fit .symbols) (f .symbol))) (part w (b .is)) (part-within p (b .is) lawful w)
+
+  -- fact i of its list w, which stands at a place of src, can be written with its values, which stand at their places in s
+  pub node-job :
+      (table ars s starts src : List ℕ) (place w i n o : ℕ) → table ≡ slots (p .functions) → Bytes s → Bytes src
+      → Placed (term s table) noTerm starts (x .values) (length (b .is .sorts)) → Here (fact src table ars) (getD (part w (b .is)) i noFact) place
+      → length (b .is .sorts) ≤ length starts → length s ≤ longest → length src ≤ longest → o + factRoom ≤ n → n ≤ longest
+      → FactJob table ars s starts src place n o (x .values) (getD (part w (b .is)) i noFact)
+  node-job table ars s starts src place w i n o same bs bsrc placed here many short short-src room short-out =
+      fillable-job table ars s starts src place (x .values) (length (b .is .sorts)) (getD (part w (b .is)) i noFact)
+      (record { table = subst Builtins (sym same) (declared (p .functions)); bytes = bs; short = short; placed = placed; many = many; own = node-own })
+      (record {
+        bytes = bsrc;
+        short = short-src;
+        here = here;
+        bound = all-at Bound noFact refl (part w (b .is)) (all-at (All Bound) [] tt (b .is .parts) node-bound w) i;
+        few = all-at (λ f. length (f .terms) ≤ 8) noFact (omega arith) (part w (b .is)) (node-few w) i;
+        small = all-at Small noFact tt (part w (b .is)) (all-at (All Small) [] tt (b .is .parts) node-small w) i;
+      }) n o room short-out
