@@ -26,6 +26,8 @@ pub mod Places
 pub mod Writing
 -- facts of one symbol are the same just where these bytes are
 pub mod Bytes
+-- and terms
+pub mod Arguments
 -- what the writing asks, by the values and the fact; of a node that is right
 pub mod Ready
 pub mod Nodes

@@ -7,6 +7,8 @@ ghost use Rattle.number.specs.Reading.{got, many};
 ghost use Rattle.term.specs.Term.{Term};
 ghost use Rattle.term.specs.Reader.{term};
 ghost use Rattle.protocol.specs.Index.{Placed};
+ghost use Rattle.canonical.specs.Contract.{Ready};
+ghost use Rattle.steps.specs.Facts.Arguments.{TermsSame};
 ghost use Rattle.steps.specs.Facts.Bytes.{FactsSame};
 ghost use Rattle.steps.specs.Facts.Writing.{FactReady, FactDone};
 ghost use Rattle.steps.specs.Values.Parts.{noTerm};
@@ -80,4 +82,25 @@ pub fn same_fact(
     let m = fact_into(a, 0, s, i, arities, ars, vals, starts);
     let n = fact_into(b, 0, u, j, arities, ars, vals, begins);
     octets::same_bytes(&a[..m], &b[..n])
+}
+
+// Whether the term at a place of s and the one at a place of u, each with its node's values filled in, are the same.
+pub fn same_term(
+    a: &mut [u8],
+    b: &mut [u8],
+    s: &[u8],
+    i: usize,
+    starts: &[usize],
+    u: &[u8],
+    j: usize,
+    begins: &[usize],
+    arities: &[u8],
+    vals: &[u8],
+) -> bool
+    requires { ⌜ Ready (now arities) (now vals) (now starts) (now s) i 1 (length (now a)) 0 × Ready (now arities) (now vals) (now begins) (now u) j 1 (length (now b)) 0 ⌝ }
+    ensures { λ r. ⌜ TermsSame (now (arities .entry)) (now (vals .entry)) (now (starts .entry)) (now (s .entry)) i (length (now (a .entry))) (now (begins .entry)) (now (u .entry)) j (length (now (b .entry))) r ⌝ }
+{
+    let m = canonical::canonical_into(a, 0, s, i, 1, arities, vals, starts);
+    let n = canonical::canonical_into(b, 0, u, j, 1, arities, vals, begins);
+    octets::same_bytes(&a[..m.o], &b[..n.o])
 }

@@ -101,7 +101,7 @@ module _ (slots ars vals starts src : List ℕ) (place n o : ℕ) (bytes : Bytes
       }
 
 -- what was written from the front on lies within the output
-wrote-within : (w : ℕ) (out out′ : List ℕ) (e : ℕ) (q : List ℕ) → Wrote w out 0 out′ e q → e ≤ length out′
+pub wrote-within : (w : ℕ) (out out′ : List ℕ) (e : ℕ) (q : List ℕ) → Wrote w out 0 out′ e q → e ≤ length out′
 wrote-within w out out′ e q h =
     let n : min e (length out′) ≡ length q = sym (length-take e out′) ∙ ap length (h .bytes) in
     omega (arith, n, h .ends)
