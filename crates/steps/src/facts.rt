@@ -8,7 +8,7 @@ ghost use Rattle.term.specs.Term.{Term};
 ghost use Rattle.term.specs.Reader.{term};
 ghost use Rattle.protocol.specs.Index.{Placed};
 ghost use Rattle.canonical.specs.Contract.{Ready};
-ghost use Rattle.steps.specs.Facts.Arguments.{TermsSame};
+ghost use Rattle.steps.specs.Facts.Arguments.{TermsSame, ArgumentReady, ArgumentsSame};
 ghost use Rattle.steps.specs.Facts.Bytes.{FactsSame};
 ghost use Rattle.steps.specs.Facts.Writing.{FactReady, FactDone};
 ghost use Rattle.steps.specs.Values.Parts.{noTerm};
@@ -103,4 +103,29 @@ pub fn same_term(
     let m = canonical::canonical_into(a, 0, s, i, 1, arities, vals, starts);
     let n = canonical::canonical_into(b, 0, u, j, 1, arities, vals, begins);
     octets::same_bytes(&a[..m.o], &b[..n.o])
+}
+
+// Whether argument x of the fact at a place of s and argument y of the one at a place of u, each with its node's values filled in, are the
+// same.
+pub fn same_argument(
+    a: &mut [u8],
+    b: &mut [u8],
+    s: &[u8],
+    i: usize,
+    x: usize,
+    starts: &[usize],
+    u: &[u8],
+    j: usize,
+    y: usize,
+    begins: &[usize],
+    arities: &[u8],
+    ars: &[u8],
+    vals: &[u8],
+) -> bool
+    requires { ⌜ ArgumentReady (now arities) (now ars) (now vals) (now starts) (now s) i x (length (now a)) × ArgumentReady (now arities) (now ars) (now vals) (now begins) (now u) j y (length (now b)) ⌝ }
+    ensures { λ r. ⌜ ArgumentsSame (now (arities .entry)) (now (ars .entry)) (now (vals .entry)) (now (starts .entry)) (now (s .entry)) i x (length (now (a .entry))) (now (begins .entry)) (now (u .entry)) j y (length (now (b .entry))) r ⌝ }
+{
+    let p = protocol::places::term_at(s, arities, ars, i, x);
+    let q = protocol::places::term_at(u, arities, ars, j, y);
+    same_term(a, b, s, p, starts, u, q, begins, arities, vals)
 }
