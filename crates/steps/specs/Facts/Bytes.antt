@@ -13,7 +13,6 @@ use Rattle.octets.specs.Head.{Bytes}
 use Rattle.octets.specs.Splice.Prefix.{Wrote}
 use Rattle.number.specs.Reading.{below}
 use Rattle.number.specs.Layout.{flat, All}
-use Rattle.number.specs.Layout.Laws.{many-form}
 use Rattle.term.specs.Term.{Term, encode, Formed}
 use Rattle.term.specs.Term.Laws.{encode-prefix}
 use Rattle.term.specs.Arity.{arity}
@@ -25,14 +24,13 @@ use Rattle.message.specs.Substitution.Laws.{sub-formed}
 use Rattle.message.specs.Canon.{canon}
 use Rattle.message.specs.Theorems.{canon-is-formed}
 use Rattle.canonical.specs.Builtins.{Builtins, group}
-use Rattle.protocol.specs.Protocol.{Fact, ruleTerm}
+use Rattle.protocol.specs.Protocol.{Fact}
 use Rattle.protocol.specs.Protocol.Limits.{TermWithin}
-use Rattle.protocol.specs.Protocol.Exact.{rule-term-exact}
 use Rattle.protocol.specs.Places.{valueOf}
-use Rattle.protocol.specs.Places.Laws.{fact-fields, symbol-law, terms-law}
+use Rattle.protocol.specs.Places.Laws.{symbol-law, terms-law}
 use Rattle.steps.specs.Facts.{valueAt, filledFact, sameTerm, sameTerms, sameFact}
 use Rattle.steps.specs.Facts.Laws.{equal-bytes}
-use Rattle.steps.specs.Facts.Writing.{canonBytes, FactJob, FactReady, FactDone}
+use Rattle.steps.specs.Facts.Writing.{canonBytes, FactJob, FactReady, FactDone, fact-terms}
 
 same-test : (a b : Bool) → (a ≡ true → b ≡ true) → (b ≡ true → a ≡ true) → a ≡ b
 same-test true b h k = sym (h refl)
@@ -92,12 +90,9 @@ module _ (slots ars vals starts src : List ℕ) (place n o : ℕ) (bytes : Bytes
     (J : FactJob slots ars vals starts src place n o vs f) where
   pub job-fit : FactFit slots ars (filledFact vs f)
   job-fit =
-      let x = fact-fields src slots ars place f (J .here) in
-      let m = many-form src (ruleTerm src slots) (TermWithin slots) encode (rule-term-exact src bytes slots .form)
-      (getD ars (f .symbol) 0) (f .terms) (x .behind) (J .here .next) (x .terms) in
       record {
         takes = length-map (f .terms) (sub (valueAt vs)) ∙ terms-law src slots ars place f (J .here);
-        each = filled-formed slots (valueAt vs) (f .terms) (m .0 .1) (λ v i. J .values v i .formed);
+        each = filled-formed slots (valueAt vs) (f .terms) (fact-terms src slots ars place bytes f (J .here) .0) (λ v i. J .values v i .formed);
       }
 
 -- what was written from the front on lies within the output

@@ -5,11 +5,10 @@ use mathlib.Core.Bool.{Bool, false}
 use mathlib.Core.Logic.{⊎-elim, inl, inr}
 use mathlib.Core.Path.{_≡_, refl}
 use native.Mathlib.Omega.{arith}
-use lib.ListN.{length, getD, length-append}
+use lib.ListN.{length, length-append}
 use Rattle.octets.specs.Head.{Bytes}
 use Rattle.number.specs.Groups.{numberLimit}
 use Rattle.number.specs.Layout.{flat, All}
-use Rattle.number.specs.Layout.Laws.{many-form}
 use Rattle.term.specs.Term.{variable, Term, leaf, encode, symbols, InRange}
 use Rattle.term.specs.Reader.{terms, term}
 use Rattle.term.specs.Walk.{holds}
@@ -19,17 +18,15 @@ use Rattle.canonical.specs.Builtins.{Builtins}
 use Rattle.canonical.specs.Size.{bytes-few}
 use Rattle.canonical.specs.Loose.Laws.{sub-range}
 use Rattle.canonical.specs.Contract.{mostSymbols, longest, Value}
-use Rattle.protocol.specs.Protocol.{Fact, ruleTerm, fact, leafIn}
+use Rattle.protocol.specs.Protocol.{Fact, fact, leafIn}
 use Rattle.protocol.specs.Protocol.Limits.{TermWithin}
-use Rattle.protocol.specs.Protocol.Exact.{rule-term-exact}
 use Rattle.protocol.specs.Places.{Here}
-use Rattle.protocol.specs.Places.Laws.{fact-fields}
 use Rattle.protocol.specs.Index.{Placed}
 use Rattle.steps.specs.Lists.{all-at, none-all}
-use Rattle.steps.specs.Facts.{valueAt, filledFact}
+use Rattle.steps.specs.Facts.{valueAt}
 use Rattle.steps.specs.Facts.Formed.{occurs-below}
 use Rattle.steps.specs.Facts.Places.{placed-value}
-use Rattle.steps.specs.Facts.Writing.{plainBytes, FactJob}
+use Rattle.steps.specs.Facts.Writing.{FactJob, fact-terms}
 use Rattle.steps.specs.Values.Parts.{noTerm}
 
 -- eight terms of 256 symbols, four bytes each at most
@@ -75,10 +72,7 @@ pub record Fillable (slots ars src : List ℕ) (place : ℕ) (vs : List Term) (k
 module _ (slots ars s starts src : List ℕ) (place : ℕ) (vs : List Term) (k : ℕ) (f : Fact) (has : Valued slots s starts vs k)
     (fits : Fillable slots ars src place vs k f) where
   within : All (TermWithin slots) (f .terms)
-  within =
-      let x = fact-fields src slots ars place f (fits .here) in
-      many-form src (ruleTerm src slots) (TermWithin slots) encode (rule-term-exact src (fits .bytes) slots .form) (getD ars (f .symbol) 0)
-      (f .terms) (x .behind) (fits .here .next) (x .terms) .0 .1
+  within = fact-terms src slots ars place (fits .bytes) f (fits .here) .0
 
   value-of : (v : ℕ) → Occurss v (terms (f .terms)) → Value slots s starts v (valueAt vs v)
   value-of v o =

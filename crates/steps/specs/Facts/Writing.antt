@@ -4,7 +4,7 @@ use mathlib.Core.List.{List, [], _∷_, _++_, map}
 use mathlib.Core.Path.{_≡_, refl, ap, ap₂, sym, _∙_, subst, subst₂}
 use native.Mathlib.Omega.{arith}
 use lib.ListN.{length, getD, drop}
-use Rattle.octets.specs.Head.{Bytes}
+use Rattle.octets.specs.Head.{Bytes, Stands}
 use Rattle.octets.specs.Splice.Prefix.{Wrote}
 use Rattle.number.specs.Reading.{Read, andThen, got, below, many}
 use Rattle.number.specs.Layout.{flat, All}
@@ -71,6 +71,16 @@ terms-good : (slots : List ℕ) (ts : List Term) → All (TermWithin slots) ts �
 terms-good slots [] a = (tt, tt)
 terms-good slots (t ∷ ts) a = let r = terms-good slots ts (a .1) in ((a .0 .formed, r .0), (a .0 .range, r .1))
 
+-- ── the terms of a fact that stands at a place ──
+pub fact-terms :
+    (src slots ars : List ℕ) (place : ℕ) (bytes : Bytes src) (f : Fact) (h : Here (fact src slots ars) f place)
+    → All (TermWithin slots) (f .terms) × Stands src (fact-fields src slots ars place f h .behind) (flat encode (f .terms)) (h .next)
+fact-terms src slots ars place bytes f h =
+    let x = fact-fields src slots ars place f h in
+    let m = many-form src (ruleTerm src slots) (TermWithin slots) encode (rule-term-exact src bytes slots .form)
+    (getD ars (f .symbol) 0) (f .terms) (x .behind) (h .next) (x .terms) in
+    (m .0 .1, m .1)
+
 -- ── a fact's arguments are k terms at the place of the first ──
 module _ (slots ars vals starts src : List ℕ) (place n o : ℕ) (bytes : Bytes src) (vs : List Term) (f : Fact)
     (J : FactJob slots ars vals starts src place n o vs f) where
@@ -83,10 +93,8 @@ module _ (slots ars vals starts src : List ℕ) (place n o : ℕ) (bytes : Bytes
       (y at k : ℕ) → y ≡ valueOf (below src (length ars) place) → k ≡ getD ars y 0 → at ≡ termPlace src slots ars place 0
       → Job slots vals starts src at k n o (valueAt vs) (terms (f .terms))
   fact-job y at k hy hk ha =
-      let x = fact-fields src slots ars place f (J .here) in
-      let m = many-form src (ruleTerm src slots) (TermWithin slots) encode (rule-term-exact src bytes slots .form)
-      (getD ars (f .symbol) 0) (f .terms) (x .behind) (J .here .next) (x .terms) in
-      let g = terms-good slots (f .terms) (m .0 .1) in
+      let m = fact-terms src slots ars place bytes f (J .here) in
+      let g = terms-good slots (f .terms) (m .0) in
       record {
         table = J .table;
         many = count-terms (f .terms) ∙ sym (terms-many src slots ars bytes place f (J .here) y hy) ∙ sym hk;
