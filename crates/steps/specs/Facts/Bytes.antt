@@ -1,5 +1,5 @@
 -- Facts of one symbol are the same just where their canonical bytes are, one argument's behind the other's.
-use Prim.Native.Nat.{ℕ, _+_, _≤_, min}
+use Prim.Native.Nat.{ℕ, _≤_, min}
 use mathlib.Core.List.{List, [], _∷_, _++_, map}
 use mathlib.Core.Bool.{Bool, true, false, _&&_}
 use mathlib.Core.Logic.{inl, inr}
@@ -7,7 +7,6 @@ use mathlib.Core.Path.{_≡_, refl, ap, ap₂, sym, _∙_}
 use native.Mathlib.Omega.{arith}
 use borrow.Author.Tests.{eq-eqb, ne-eqb}
 use lib.ListN.{length, getD, take, length-take, length-map}
-use lib.Dec.{eqb}
 use Rattle.octets.specs.Compare.{compareBytes, isEqual}
 use Rattle.octets.specs.Head.{Bytes}
 use Rattle.octets.specs.Splice.Prefix.{Wrote}

@@ -1,7 +1,7 @@
 -- The facts of a node of which 7 and 8 are absent are such as the code can write.
 use Prim.Native.Nat.{ℕ, suc, _+_, _≤_}
 use mathlib.Core.List.{List, [], _∷_, List·Memᴰ·head, List·Memᴰ·tail}
-use mathlib.Core.Bool.{Bool, false}
+use mathlib.Core.Bool.{false}
 use mathlib.Core.Option.{some, Option·some-injective}
 use mathlib.Core.Path.{_≡_, refl, ap, sym, _∙_, subst}
 use native.Mathlib.Omega.{arith}
@@ -32,7 +32,7 @@ use Rattle.steps.specs.Nodes.{Node, NodeWithin}
 use Rattle.steps.specs.Facts.{valueAt}
 use Rattle.steps.specs.Facts.Formed.{part-within}
 use Rattle.steps.specs.Facts.Writing.{FactJob}
-use Rattle.steps.specs.Facts.Ready.{factRoom, Valued, Fillable, fillable-job}
+use Rattle.steps.specs.Facts.Ready.{factRoom, fillable-job}
 use Rattle.steps.specs.Values.{NodeRight}
 use Rattle.steps.specs.Values.Parts.{noTerm}
 

@@ -1,15 +1,15 @@
 -- The canonical bytes of a fact: what the code is asked that writes them, and what it promises.
 use Prim.Native.Nat.{ℕ, _+_, _≤_}
 use mathlib.Core.List.{List, [], _∷_, _++_, map}
-use mathlib.Core.Path.{_≡_, refl, ap, ap₂, sym, _∙_, subst, subst₂}
+use mathlib.Core.Path.{_≡_, refl, ap, sym, _∙_, subst₂}
 use native.Mathlib.Omega.{arith}
 use lib.ListN.{length, getD, drop}
 use Rattle.octets.specs.Head.{Bytes, Stands}
 use Rattle.octets.specs.Splice.Prefix.{Wrote}
-use Rattle.number.specs.Reading.{Read, andThen, got, below, many}
+use Rattle.number.specs.Reading.{Read, andThen, below, many}
 use Rattle.number.specs.Layout.{flat, All}
 use Rattle.number.specs.Layout.Laws.{many-form}
-use Rattle.term.specs.Term.{Term, Terms, count, encode, encodes, symbols, Formeds, InRanges}
+use Rattle.term.specs.Term.{Term, encode, encodes, symbols, Formeds, InRanges}
 use Rattle.term.specs.Arity.{arity}
 use Rattle.term.specs.Reader.{terms}
 use Rattle.term.specs.Reader.Exact.{encodes-terms, count-terms}

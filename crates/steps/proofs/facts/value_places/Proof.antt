@@ -6,7 +6,7 @@ use Rattle.term.specs.Reader.{term}
 use Rattle.number.specs.Reading.Many.{Came, came-none, came-more, came-stop}
 use Rattle.number.specs.Reading.{got, fault}
 use Rattle.octets.specs.Choice.{clash}
-use Prim.Native.Nat.{ℕ, _+_, _-_, _≤_, _<_}
+use Prim.Native.Nat.{ℕ, _-_, _≤_, _<_}
 use mathlib.Core.Path.{_≡_, sym, _∙_}
 use lib.ListN.{length, getD, length-set}
 use native.Mathlib.Omega.{arith}
