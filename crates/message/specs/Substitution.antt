@@ -5,6 +5,8 @@ use mathlib.Core.Logic.{_⊎_}
 use Rattle.term.specs.Term.{variable, public, fresh, Term, leaf, app, Terms, nil, _&_}
 -- their laws
 pub mod Laws
+-- the test for variables decides
+pub mod Decided
 -- equality is closed under it
 pub mod Same
 

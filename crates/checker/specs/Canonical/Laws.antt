@@ -30,7 +30,7 @@ module _ (protocol term : List ℕ) where
   pub record Length (n : ℕ) : Type 0 where
     pub is : Term
     pub holds : Holds is
-    pub length : n ≡ need is
+    pub needs : n ≡ need is
 
   -- "Canonical form: 1 to 4, term 3, 8, 15"; the answer is unique
   pub canonical-ruled : (output work : ℕ) → Ruled (canonicalRows protocol term output work) Length (canonicalOutcome protocol term output work)
@@ -39,4 +39,4 @@ module _ (protocol term : List ℕ) where
       ruled-then Length (sizes protocol term work) (readRows protocol term ++ rowsAfter (termOf protocol term) (roomRows output))
       (andThen (termOf protocol term) (roomRuling output))
       (λ a. ruled-and-then Holds Length (readRows protocol term) (termOf protocol term) (roomRows output) (roomRuling output) read-ruled
-      (λ t h e. ruled Length (needPass 15 output (need t) ∷ []) (need t) (λ b. record { is = t; holds = h; length = refl })))
+      (λ t h e. ruled Length (needPass 15 output (need t) ∷ []) (need t) (λ b. record { is = t; holds = h; needs = refl })))

@@ -1,67 +1,28 @@
 -- A term file is read exactly: it is the encoding of one formed term in range without variables.
-use Prim.Native.Nat.{ℕ, _+_, _<_}
+use Prim.Native.Nat.{ℕ, _+_}
 use mathlib.Core.List.{List, [], _++_, append-nil}
-use mathlib.Core.Bool.{Bool, true, false, _||_, _&&_, not}
+use mathlib.Core.Bool.{Bool, true, false, _&&_, not}
 use mathlib.Core.Path.{_≡_, refl, ap, ap₂, sym, _∙_, subst}
 use native.Mathlib.Omega.{arith}
 use lib.ListN.{length, drop}
 use lib.Seq.{drop-length}
 use lib.Dec.{eqb}
-use borrow.Author.Tests.{eq-eqb, eqb-true, lt-ltb, le-ltb}
+use borrow.Author.Tests.{eq-eqb, eqb-true}
 use Rattle.octets.specs.Choice.{pick, cut, clash}
 use Rattle.octets.specs.Head.{Bytes}
 use Rattle.number.specs.Groups.{numberLimit}
 use Rattle.number.specs.Reading.{got, fault}
 use Rattle.number.specs.Reading.Laws.{cut-got, then-got}
-use Rattle.term.specs.Term.{variable, public, fresh, Term, leaf, app, Terms, nil, _&_, encode, Formed, InRange, InRanges}
+use Rattle.term.specs.Term.{Term, encode, Formed, InRange}
 use Rattle.term.specs.Arity.{arity}
 use Rattle.term.specs.Reader.{term}
 use Rattle.term.specs.Reader.Exact.{term-back, term-form}
-use Rattle.term.specs.Walk.{hits, holds, holdss}
-use Rattle.message.specs.Substitution.{Ground, Grounds}
+use Rattle.term.specs.Walk.{holds}
+use Rattle.rewriting.specs.Tests.{not-split, and-split}
+use Rattle.message.specs.Substitution.{Ground}
+use Rattle.message.specs.Substitution.Decided.{none-ground, ground-none}
 use Rattle.checker.specs.Files.{termFile}
 
--- ── without variables ──
-or-false : (a b : Bool) → (a || b) ≡ false → (a ≡ false) × (b ≡ false)
-or-false true b e = clash (cc)
-or-false false b e = (refl, e)
-
-and-true : (a b : Bool) → (a && b) ≡ true → (a ≡ true) × (b ≡ true)
-and-true true b e = (refl, e)
-and-true false b e = clash (cc)
-
-not-true : (b : Bool) → not b ≡ true → b ≡ false
-not-true true e = clash (cc)
-not-true false e = refl
-
-variable-hit : (n : ℕ) → n < numberLimit → hits 0 0 numberLimit 0 n ≡ true
-variable-hit n h = simp (le-ltb n 0 (omega arith)) (lt-ltb n numberLimit h)
-
-mutual
-  pub ground-term : (t : Term) → InRange t → holds t 0 0 numberLimit ≡ false → Ground t
-  ground-term (leaf variable n) r e = let h = variable-hit n r in clash (cc)
-  ground-term (leaf public n) r e = tt
-  ground-term (leaf fresh n) r e = tt
-  ground-term (app f ts) r e = ground-terms ts (r .1) e
-
-  ground-terms : (ts : Terms) → InRanges ts → holdss ts 0 0 numberLimit ≡ false → Grounds ts
-  ground-terms nil r e = tt
-  ground-terms (t & ts) r e =
-      let p = or-false (holds t 0 0 numberLimit) (holdss ts 0 0 numberLimit) e in
-      (ground-term t (r .0) (p .0), ground-terms ts (r .1) (p .1))
-
-mutual
-  pub term-ground : (t : Term) → Ground t → holds t 0 0 numberLimit ≡ false
-  term-ground (leaf variable n) g = absurd g
-  term-ground (leaf public n) g = refl
-  term-ground (leaf fresh n) g = refl
-  term-ground (app f ts) g = terms-ground ts g
-
-  terms-ground : (ts : Terms) → Grounds ts → holdss ts 0 0 numberLimit ≡ false
-  terms-ground nil g = refl
-  terms-ground (t & ts) g = ap₂ _||_ (term-ground t (g .0)) (terms-ground ts (g .1))
-
--- ── the file ──
 -- s is the encoding of t, a formed term in range without variables
 pub record IsTerm (slots s : List ℕ) (t : Term) : Type 0 where
   pub bytes : s ≡ encode t
@@ -75,12 +36,12 @@ module _ (slots s : List ℕ) (bytes : Bytes s) where
   file-form t e h =
       cut-got (term s slots 0) _ h (λ u d r h. cut _ _ _ (eqb d (length s) && not (holds u 0 0 numberLimit)) h
       (λ b h. let p : u ≡ t = cc in
-      let q = and-true (eqb d (length s)) (not (holds u 0 0 numberLimit)) b in
+      let q = and-split (eqb d (length s)) (not (holds u 0 0 numberLimit)) b in
       let l : d ≡ length s = eqb-true d (length s) (q .0) in
       let f = term-form s slots bytes u 0 d r in
       let w : s ≡ encode u = f .1 .there ∙ ap (λ (k : ℕ). encode u ++ drop k s) l ∙ ap (λ (m : List ℕ). encode u ++ m) (drop-length s) ∙ append-nil (encode u) in
       subst (λ (x : Term). IsTerm slots s x) p
-      (record { bytes = w; formed = f .0 .0; range = f .0 .1; ground = ground-term u (f .0 .1) (not-true (holds u 0 0 numberLimit) (q .1)) }))
+      (record { bytes = w; formed = f .0 .0; range = f .0 .1; ground = none-ground u (f .0 .1) (not-split (holds u 0 0 numberLimit) (q .1)) }))
       (λ b h. clash (cc)))
 
   pub file-back : (t : Term) → IsTerm slots s t → termFile slots s ≡ got t (length s)
@@ -91,4 +52,4 @@ module _ (slots s : List ℕ) (bytes : Bytes s) where
       let r : term s slots 0 ≡ got t (length s) = term-back s slots bytes t 0 [] (h .formed) (h .range) e ∙ ap (got t) l in
       then-got (term s slots 0) _ r
       ∙ ap (λ (b : Bool). pick b (got t (length s)) fault)
-      (ap₂ (λ (x y : Bool). x && not y) (eq-eqb (length s) (length s) refl) (term-ground t (h .ground)))
+      (ap₂ (λ (x y : Bool). x && not y) (eq-eqb (length s) (length s) refl) (ground-none t (h .ground)))

@@ -2,7 +2,7 @@
 use Prim.Native.Nat.{ℕ}
 use mathlib.Core.Path.{_≡_, refl, sym, _∙_, ap, subst}
 use mathlib.Core.Logic.{_≢_, _⊎_, inl, inr, ⊎-elim}
-use mathlib.Core.Bool.{Bool, true, false, cond, _&&_}
+use mathlib.Core.Bool.{Bool, true, false, cond, _&&_, and-eq-true-iff}
 use mathlib.Core.Option.{Option, some, Option·getD}
 use native.Mathlib.Omega.{arith}
 use lib.Dec.{eqb}
@@ -82,19 +82,15 @@ on2-ind P g f (x & (y & nil)) c h = h x y refl
 on2-ind P g f (x & (y & (z & ts))) c h = absurd (omega arith)
 
 -- ── equality of terms, as a test ──
-both : (a b : Bool) → (a && b) ≡ true → (a ≡ true) × (b ≡ true)
-both true b e = (refl, e)
-both false b e = clash (cc)
-
 mutual
   eqT-sound : (t u : Term) → eqT t u ≡ true → t ≡ u
   eqT-sound (leaf s n) (leaf r m) e =
-      let b = both (eqb (tagOf s) (tagOf r)) (eqb n m) e in
+      let b = and-eq-true-iff (eqb (tagOf s) (tagOf r)) (eqb n m) .0 e in
       cc (tag-same s r (eqb-true (tagOf s) (tagOf r) (b .0)), eqb-true n m (b .1))
   eqT-sound (leaf s n) (app g us) e = clash (cc)
   eqT-sound (app f ts) (leaf r m) e = clash (cc)
   eqT-sound (app f ts) (app g us) e =
-      let b = both (eqb f g) (eqTs ts us) e in
+      let b = and-eq-true-iff (eqb f g) (eqTs ts us) .0 e in
       cc (eqb-true f g (b .0), eqTs-sound ts us (b .1))
 
   pub eqTs-sound : (ts us : Terms) → eqTs ts us ≡ true → ts ≡ us
@@ -102,7 +98,7 @@ mutual
   eqTs-sound nil (u & us) e = clash (cc)
   eqTs-sound (t & ts) nil e = clash (cc)
   eqTs-sound (t & ts) (u & us) e =
-      let b = both (eqT t u) (eqTs ts us) e in
+      let b = and-eq-true-iff (eqT t u) (eqTs ts us) .0 e in
       cc (eqT-sound t u (b .0), eqTs-sound ts us (b .1))
 
 mutual

@@ -1,59 +1,30 @@
 -- The tests decide what fits: of a value that is well formed and in range, of a node's values one by one, of a rule's terms.
-use Prim.Native.Nat.{ℕ, zero, suc, _≤_, _<_}
+use Prim.Native.Nat.{ℕ, zero, suc, _<_}
 use mathlib.Core.List.{List, [], _∷_}
-use mathlib.Core.Bool.{Bool, true, false, not, _&&_, _||_}
+use mathlib.Core.Bool.{Bool, true, false, not, _&&_}
 use mathlib.Core.Logic.{_↔_}
-use mathlib.Core.Option.{Option, none, some, Option·none-ne-some, Option·some-injective}
-use mathlib.Core.Path.{_≡_, refl, ap, sym, _∙_, subst}
+use mathlib.Core.Option.{some, Option·none-ne-some, Option·some-injective}
+use mathlib.Core.Path.{_≡_, refl, ap, sym, _∙_}
 use native.Mathlib.Omega.{arith}
 use lib.ListN.{getElem?}
 use lib.Dec.{ltb}
 use borrow.Author.Tests.{ltb-true, lt-ltb, ltb-false, le-ltb}
 use Rattle.octets.specs.Choice.{clash}
 use Rattle.number.specs.Groups.{numberLimit}
-use Rattle.number.specs.Layout.{All}
-use Rattle.term.specs.Term.{variable, public, fresh, Term, leaf, app, Terms, nil, _&_, encode, symbols, Formed, InRange, InRanges}
+use Rattle.term.specs.Term.{variable, public, fresh, Term, leaf, app, encode, symbols, Formed}
 use Rattle.term.specs.Arity.{arity}
 use Rattle.term.specs.Reader.Exact.{Good}
-use Rattle.term.specs.Walk.{hits, holds, holdss}
-use Rattle.rewriting.specs.Tests.{by-bool, true-false, not-true, not-split, and-split, and-both, or-split}
+use Rattle.term.specs.Walk.{holds}
+use Rattle.rewriting.specs.Tests.{by-bool, not-split, and-split, and-both}
 use Rattle.rewriting.specs.Lists.Laws.{all-fails, fails-all}
 use Rattle.message.specs.Canonical.{Canonical}
-use Rattle.message.specs.Substitution.{Ground, Grounds}
+use Rattle.message.specs.Substitution.Decided.{none-ground, ground-none}
 use Rattle.message.specs.Rules.{FitArities}
 use Rattle.message.specs.Canon.{canon}
 use Rattle.message.specs.Theorems.{canonical-canon, canonical-bytes}
-use Rattle.protocol.specs.Protocol.{Fact, Rule}
+use Rattle.protocol.specs.Protocol.{Rule}
 use Rattle.steps.specs.Facts.Laws.{equal-bytes}
-use Rattle.steps.specs.Values.{OfSort, mostInValue, mostFilledIn, ValueFits, TermOf, filledSymbols, isFresh, isPublic, ofSort, isCanonical, valueOk, valuesOk, termOk, factOk, ruleOk}
-
--- ── variables ──
-any-variable : (n : ℕ) → n < numberLimit → hits 0 0 numberLimit 0 n ≡ true
-any-variable n l = simp (le-ltb n 0 (omega arith), lt-ltb n numberLimit l)
-
-mutual
-  pub none-ground : (t : Term) → InRange t → holds t 0 0 numberLimit ≡ false → Ground t
-  none-ground (leaf variable n) r h = true-false true refl (sym (any-variable n r) ∙ h)
-  none-ground (leaf public n) r h = tt
-  none-ground (leaf fresh n) r h = tt
-  none-ground (app f ts) r h = none-grounds ts (r .1) h
-
-  none-grounds : (ts : Terms) → InRanges ts → holdss ts 0 0 numberLimit ≡ false → Grounds ts
-  none-grounds nil r h = tt
-  none-grounds (t & ts) r h =
-      let (a, b) = or-split (holds t 0 0 numberLimit) (holdss ts 0 0 numberLimit) h in
-      (none-ground t (r .0) a, none-grounds ts (r .1) b)
-
-mutual
-  ground-none : (t : Term) → Ground t → holds t 0 0 numberLimit ≡ false
-  ground-none (leaf variable n) g = absurd g
-  ground-none (leaf public n) g = refl
-  ground-none (leaf fresh n) g = refl
-  ground-none (app f ts) g = grounds-none ts g
-
-  grounds-none : (ts : Terms) → Grounds ts → holdss ts 0 0 numberLimit ≡ false
-  grounds-none nil g = refl
-  grounds-none (t & ts) g = rw (ground-none t (g .0), grounds-none ts (g .1))
+use Rattle.steps.specs.Values.{OfSort, mostFilledIn, ValueFits, TermOf, filledSymbols, isFresh, isPublic, ofSort, isCanonical, valueOk, valuesOk, termOk, factOk, ruleOk}
 
 -- ── sorts ──
 fresh-is : (v : Term) → isFresh v ≡ true → (n : ℕ) × (v ≡ leaf fresh n)

@@ -1,7 +1,7 @@
 -- The tests decide P1 to P4, for every rule within the limits.
 use Prim.Native.Nat.{ℕ, _+_, _<_}
 use mathlib.Core.List.{List}
-use mathlib.Core.Bool.{Bool, true, false, _||_, _&&_, not}
+use mathlib.Core.Bool.{Bool, true, false, _||_, _&&_, not, and-eq-true-iff}
 use mathlib.Core.Logic.{_↔_, _⊎_, inl, inr}
 use mathlib.Core.Path.{_≡_, refl, ap, ap₂}
 use native.Mathlib.Omega.{arith}
@@ -18,7 +18,7 @@ use Rattle.protocol.specs.Protocol.Walks.{symbolIn}
 use Rattle.protocol.specs.Protocol.Limits.{TermWithin, FactWithin, FactsWithin, RuleWithin}
 use Rattle.rules.specs.Fit.{p1, p2, p3, p4, bound, fits}
 use Rattle.rules.specs.Fit.Meaning.{Some, Occurs, OccursIn, Fit}
-use Rattle.rules.specs.Fit.Meaning.Several.{both, either, or-right, refuse, never, some-part, all-map, below-to, below-from}
+use Rattle.rules.specs.Fit.Meaning.Several.{either, or-right, refuse, never, some-part, all-map, below-to, below-from}
 use Rattle.rules.specs.Fit.Meaning.Leaves.{lists-asked, asked-lists, variable-occurs, occurs-variable, among-asked, asked-two, asked-one}
 
 module _ (slots ars : List ℕ) (r : Rule) (w : RuleWithin slots ars r) where
@@ -62,10 +62,10 @@ module _ (slots ars : List ℕ) (r : Rule) (w : RuleWithin slots ars r) where
 
   fit-to : fits r ≡ true → Fit r
   fit-to h =
-      let a = both (p1 r) (p2 r && (p3 r && p4 r)) h in
-      let b = both (p2 r) (p3 r && p4 r) (a .1) in
-      let c = both (p3 r) (p4 r) (b .1) in
-      let d = both (not (any (symbolIn 0 2) (conclusions r))) (not (any (symbolIn 3 4) (conclusions r))) (c .0) in
+      let a = and-eq-true-iff (p1 r) (p2 r && (p3 r && p4 r)) .0 h in
+      let b = and-eq-true-iff (p2 r) (p3 r && p4 r) .0 (a .1) in
+      let c = and-eq-true-iff (p3 r) (p4 r) .0 (b .1) in
+      let d = and-eq-true-iff (not (any (symbolIn 0 2) (conclusions r))) (not (any (symbolIn 3 4) (conclusions r))) .0 (c .0) in
       record {
         p1 = λ n s. never (any (any (leafIn 2 0 numberLimit)) (r .parts)) (a .0) (asked-lists fresh 0 n (r .parts) ranges (omega arith) s);
         p2 = λ s. never (any (symbolIn 2 4) (premises r)) (b .0)

@@ -1,7 +1,7 @@
 -- Leaves in terms and in facts, symbols of facts: what the tests by three numbers say of them.
 use Prim.Native.Nat.{ℕ, _+_, _≤_, _<_}
 use mathlib.Core.List.{List}
-use mathlib.Core.Bool.{Bool, true, _||_, _&&_, not}
+use mathlib.Core.Bool.{Bool, true, _||_, _&&_, not, and-eq-true-iff}
 use mathlib.Core.Logic.{_⊎_, inl, inr}
 use mathlib.Core.Path.{_≡_, refl, ap, ap₂, subst}
 use native.Mathlib.Omega.{arith}
@@ -18,15 +18,15 @@ use Rattle.protocol.specs.Protocol.{Fact, leafIn}
 use Rattle.protocol.specs.Protocol.Walks.{symbolIn}
 use Rattle.rules.specs.Fit.Laws.{false-of}
 use Rattle.rules.specs.Fit.Meaning.{Some, Occurs, itself, under, Occurss, first, next, OccursIn, Among}
-use Rattle.rules.specs.Fit.Meaning.Several.{both, either, or-right, Ranged, ranged-as, any-some, some-any, any-ranged, some-with, some-split}
+use Rattle.rules.specs.Fit.Meaning.Several.{either, or-right, Ranged, ranged-as, any-some, some-any, any-ranged, some-with, some-split}
 
 -- ── in a term ──
 module _ (k : Kind) (lo hi : ℕ) where
   mutual
     holds-to : (t : Term) → holds t (tagOf k) lo hi ≡ true → Ranged lo hi (λ n. Occurs k n t)
     holds-to (leaf j m) h =
-        let a = both (eqb (tagOf j) (tagOf k)) (not (ltb m lo) && ltb m hi) h in
-        let b = both (not (ltb m lo)) (ltb m hi) (a .1) in
+        let a = and-eq-true-iff (eqb (tagOf j) (tagOf k)) (not (ltb m lo) && ltb m hi) .0 h in
+        let b = and-eq-true-iff (not (ltb m lo)) (ltb m hi) .0 (a .1) in
         record {
           number = m;
           low = ltb-false m lo (false-of (ltb m lo) (b .0));
@@ -107,7 +107,7 @@ module _ (v : ℕ) (fs : List Fact) where
 module _ (lo hi : ℕ) where
   symbol-to : (f : Fact) → symbolIn lo hi f ≡ true → (lo ≤ f .symbol) × (f .symbol < hi)
   symbol-to f h =
-      let a = both (not (ltb (f .symbol) lo)) (ltb (f .symbol) hi) h in
+      let a = and-eq-true-iff (not (ltb (f .symbol) lo)) (ltb (f .symbol) hi) .0 h in
       (ltb-false (f .symbol) lo (false-of (ltb (f .symbol) lo) (a .0)), ltb-true (f .symbol) hi (a .1))
 
   symbol-from : (f : Fact) → lo ≤ f .symbol → f .symbol < hi → symbolIn lo hi f ≡ true

@@ -1,7 +1,7 @@
 -- One of several: from a test to what has the property, and back.
 use Prim.Native.Nat.{ℕ, zero, suc, _≤_, _<_}
 use mathlib.Core.List.{List, [], _∷_}
-use mathlib.Core.Bool.{Bool, true, false, _||_, _&&_, not}
+use mathlib.Core.Bool.{Bool, true, false, _||_, _&&_, not, and-eq-true-iff}
 use mathlib.Core.Logic.{_⊎_, inl, inr}
 use mathlib.Core.Path.{_≡_, refl, ap, ap₂, subst}
 use native.Mathlib.Omega.{arith}
@@ -14,10 +14,6 @@ use Rattle.rules.specs.Fit.Laws.{false-of}
 use Rattle.rules.specs.Fit.Meaning.{Some, here, later}
 
 -- ── tests ──
-pub both : (a b : Bool) → (a && b) ≡ true → (a ≡ true) × (b ≡ true)
-both true b h = (refl, h)
-both false b h = clash (cc)
-
 pub either : (a b : Bool) → (a || b) ≡ true → (a ≡ true) ⊎ (b ≡ true)
 either true b h = inl refl
 either false b h = inr h
@@ -95,7 +91,7 @@ module _ (q : ℕ → Bool) where
   unfolding allBelow
   below-to zero h v l = absurd (omega arith)
   below-to (suc n) h v l =
-      let a = both (allBelow q n) (q n) h in
+      let a = and-eq-true-iff (allBelow q n) (q n) .0 h in
       by-size v n (below-to n (a .0) v) (λ k. let e : n ≡ v = omega arith in subst (λ (i : ℕ). q i ≡ true) e (a .1))
 
   pub below-from : (n : ℕ) → ((v : ℕ) → v < n → q v ≡ true) → allBelow q n ≡ true
