@@ -20,17 +20,6 @@ use Rattle.steps.specs.Nodes.{Node}
 pub mod Laws
 -- the facts of a node within the limits are well formed, and its terms without variables
 pub mod Formed
--- the places of a node's values
-pub mod Places
--- the canonical bytes of a fact, as the code writes them
-pub mod Writing
--- facts of one symbol are the same just where these bytes are
-pub mod Bytes
--- and terms
-pub mod Arguments
--- what the writing asks, by the values and the fact; of a node that is right
-pub mod Ready
-pub mod Nodes
 
 -- ── the facts of a node ──
 -- the value of variable v; one without a value stays

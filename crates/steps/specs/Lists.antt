@@ -1,10 +1,11 @@
 -- A condition of all elements of a list.
-use Prim.Native.Nat.{ℕ, zero, suc}
+use Prim.Native.Nat.{ℕ, zero, suc, _<_}
 use mathlib.Core.List.{List, [], _∷_, map}
 use mathlib.Core.Bool.{Bool, true, false}
 use mathlib.Core.Option.{some, Option·none-ne-some, Option·some-injective}
 use mathlib.Core.Path.{_≡_, refl, subst}
-use lib.ListN.{getD}
+use native.Mathlib.Omega.{arith}
+use lib.ListN.{length, getD}
 use Rattle.number.specs.Reading.{any}
 use Rattle.number.specs.Layout.{All}
 use Rattle.rewriting.specs.Lists.{nth}
@@ -26,6 +27,12 @@ module _ {A : Type 0} (P : A → Type 0) where
   all-at d b (x ∷ xs) a zero = a .0
   all-at d b (x ∷ xs) a (suc i) = all-at d b xs (a .1) i
 
+  -- of one that is there
+  pub all-inside : (d : A) (xs : List A) → All P xs → (i : ℕ) → i < length xs → P (getD xs i d)
+  all-inside d [] a i l = absurd (omega arith)
+  all-inside d (x ∷ xs) a zero l = a .0
+  all-inside d (x ∷ xs) a (suc i) l = all-inside d xs (a .1) i (omega arith)
+
   -- of the element of a number, counted from 1
   pub all-nth : (xs : List A) → All P xs → (k : ℕ) (x : A) → nth xs k ≡ some x → P x
   all-nth xs a zero x h = absurd (Option·none-ne-some x h)
@@ -45,6 +52,12 @@ module _ {A B : Type 0} (P : A → Type 0) (Q : B → Type 0) (g : A → B) wher
   pub map-all : ((x : A) → P x → Q (g x)) → (xs : List A) → All P xs → All Q (map g xs)
   map-all h [] a = tt
   map-all h (x ∷ xs) a = (h x (a .0), map-all h xs (a .1))
+
+-- the element of a number of a mapped list
+pub map-at : {A B : Type 0} (f : A → B) (xs : List A) (i : ℕ) (a : A) (b : B) → i < length xs → getD (map f xs) i b ≡ f (getD xs i a)
+map-at f [] i a b l = absurd (omega arith)
+map-at f (x ∷ xs) zero a b l = refl
+map-at f (x ∷ xs) (suc i) a b l = map-at f xs i a b (omega arith)
 
 -- no element passes a test
 pub none-all : {A : Type 0} (q : A → Bool) (xs : List A) → any q xs ≡ false → All (λ x. q x ≡ false) xs

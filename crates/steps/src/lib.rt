@@ -6,4 +6,3 @@ pub mod names; // 9: the names that nodes make
 pub mod sizes; // 8: the symbols of filled-in terms
 pub mod size_pass; // 8: the least node
 pub mod ruling; // 3, 6, 7, 8 and 9 of a step list
-pub mod facts; // the canonical bytes of facts

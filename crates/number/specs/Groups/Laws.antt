@@ -1,6 +1,6 @@
 -- The laws of groups: a number below 128 is one group, another is its low seven bits and the groups of the rest; they are bytes, at least
 -- one, and those of one number are never a proper prefix of another's.
-use Prim.Native.Nat.{ℕ, zero, suc, _+_, _/_, _%_, _≤_, _<_}
+use Prim.Native.Nat.{ℕ, zero, suc, _+_, _/_, _%_, _^_, _≤_, _<_}
 use mathlib.Core.List.{List, [], _∷_, _++_}
 use mathlib.Core.Path.{_≡_, refl, ap, sym, _∙_}
 use native.Mathlib.Omega.{arith}
@@ -58,6 +58,16 @@ groups-short =
     by-groups (λ n. length (groups n) ≤ n + 1)
     (λ n h. rw (groups-one n h) (omega arith))
     (λ n h ih. rw (groups-more n h) (omega arith))
+
+-- so many groups hold the numbers of seven bits each
+pub groups-few : (k n : ℕ) → n < 128 ^ suc k → length (groups n) ≤ suc k
+groups-few zero n h = omega (arith, ap length (groups-one n (omega arith)))
+groups-few (suc k) n h =
+    by-size n 128
+    (λ l. omega (arith, ap length (groups-one n l)))
+    (λ l.
+    let r = groups-few k (n / 128) (omega arith) in
+    omega (arith, r, ap length (groups-more n l)))
 
 -- ── the groups of one number are never a proper prefix of another's ──
 abbrev Alone : ℕ → Type 0

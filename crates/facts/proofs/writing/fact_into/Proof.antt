@@ -1,12 +1,12 @@
-use Rattle.steps.specs.Facts.Writing.{fact-ready, fact-done}
+use Rattle.facts.specs.Writing.Whole.{fact-ready, fact-done}
 use Rattle.steps.specs.Values.Parts.{symbol-inside}
 use native.Mathlib.Omega.{arith}
 use mathlib.Core.Path.{refl}
 use borrow.Author.Needs.{needs}
-use Rattle.steps.proofs.facts.fact_into.Statement.{statement}
-use Rattle.steps.proofs.facts.fact_into.Tie as tie
-use Rattle.steps.proofs.facts.fact_into.Reads as reads
-use Rattle.steps.proofs.facts.fact_into.Lts as lts
+use Rattle.facts.proofs.writing.fact_into.Statement.{statement}
+use Rattle.facts.proofs.writing.fact_into.Tie as tie
+use Rattle.facts.proofs.writing.fact_into.Reads as reads
+use Rattle.facts.proofs.writing.fact_into.Lts as lts
 use Rattle.canonical.proofs.canonical_into.Reads as canonical-into-reads
 use Rattle.protocol.proofs.places.symbol_of.Reads as symbol-of-reads
 use Rattle.protocol.proofs.places.term_at.Reads as term-at-reads

@@ -1,6 +1,6 @@
 use borrow.Author.Needs.{needs}
-use Rattle.steps.specs.Facts.Places.{ended-got, ended-fault}
+use Rattle.facts.specs.Writing.Places.{ended-got, ended-fault}
 use Rattle.steps.specs.Values.Parts.{noTerm}
 use Rattle.protocol.specs.Index.Fill.{places-more, places-end}
 use Rattle.term.specs.Reader.{term}
 use Rattle.number.specs.Reading.Many.{Came, came-none, came-more, came-stop}
@@ -10,10 +10,10 @@ use Prim.Native.Nat.{ℕ, _-_, _≤_, _<_}
 use mathlib.Core.Path.{_≡_, sym, _∙_}
 use lib.ListN.{length, getD, length-set}
 use native.Mathlib.Omega.{arith}
-use Rattle.steps.proofs.facts.value_places.Statement.{statement}
-use Rattle.steps.proofs.facts.value_places.Tie as tie
-use Rattle.steps.proofs.facts.value_places.Reads as reads
-use Rattle.steps.proofs.facts.value_places.Lts as lts
+use Rattle.facts.proofs.writing.value_places.Statement.{statement}
+use Rattle.facts.proofs.writing.value_places.Tie as tie
+use Rattle.facts.proofs.writing.value_places.Reads as reads
+use Rattle.facts.proofs.writing.value_places.Lts as lts
 use Rattle.term.proofs.term_end.Reads as term-end-reads
 
 abbrev Inv-loop : tie.InvT-loop

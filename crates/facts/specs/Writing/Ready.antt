@@ -22,16 +22,13 @@ use Rattle.protocol.specs.Protocol.{Fact, fact, leafIn}
 use Rattle.protocol.specs.Protocol.Limits.{TermWithin}
 use Rattle.protocol.specs.Places.{Here}
 use Rattle.protocol.specs.Index.{Placed}
 use Rattle.steps.specs.Lists.{all-at, none-all}
 use Rattle.steps.specs.Facts.{valueAt}
 use Rattle.steps.specs.Facts.Formed.{occurs-below}
-use Rattle.steps.specs.Facts.Places.{placed-value}
-use Rattle.steps.specs.Facts.Writing.{FactJob, fact-terms}
+use Rattle.facts.specs.Writing.Places.{placed-value}
+use Rattle.facts.specs.Writing.{FactJob, factRoom}
+use Rattle.facts.specs.Writing.Whole.{fact-terms}
 use Rattle.steps.specs.Values.Parts.{noTerm}
-
--- eight terms of 256 symbols, four bytes each at most
-abbrev pub factRoom : ℕ
-factRoom = 8192
 
 -- ── the variables of a fact's terms ──
 all-below :
@@ -88,7 +85,8 @@ module _ (slots ars s starts src : List ℕ) (place : ℕ) (vs : List Term) (k :
         here = fits .here;
         values = value-of;
         small = fits .small;
-        room = omega (arith, b, fits .few);
+        few = omega (arith, b, fits .few);
+        room = room;
         short = short;
         values-short = has .short;
         source-short = fits .short;

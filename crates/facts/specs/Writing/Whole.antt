@@ -1,65 +1,43 @@
--- The canonical bytes of a fact: what the code is asked that writes them, and what it promises.
+-- All arguments of a fact that stands at a place, with a node's values filled in.
 use Prim.Native.Nat.{ℕ, _+_, _≤_}
 use mathlib.Core.List.{List, [], _∷_, _++_, map}
-use mathlib.Core.Path.{_≡_, refl, ap, sym, _∙_, subst₂}
+use mathlib.Core.Logic.{inl, inr}
+use mathlib.Core.Path.{_≡_, refl, ap, sym, _∙_, subst, subst₂}
 use native.Mathlib.Omega.{arith}
-use lib.ListN.{length, getD, drop}
+use lib.ListN.{length, getD, drop, length-append}
 use Rattle.octets.specs.Head.{Bytes, Stands}
-use Rattle.octets.specs.Splice.Prefix.{Wrote}
+use Rattle.octets.specs.Splice.Prefix.{Wrote, widen}
 use Rattle.number.specs.Reading.{Read, andThen, below, many}
 use Rattle.number.specs.Layout.{flat, All}
 use Rattle.number.specs.Layout.Laws.{many-form}
-use Rattle.term.specs.Term.{Term, encode, encodes, symbols, Formeds, InRanges}
+use Rattle.term.specs.Term.{Term, encode, encodes, symbols, Formed, Formeds, InRanges}
 use Rattle.term.specs.Arity.{arity}
 use Rattle.term.specs.Reader.{terms}
 use Rattle.term.specs.Reader.Exact.{encodes-terms, count-terms}
 use Rattle.message.specs.Substitution.{sub, subs, Occurss}
+use Rattle.message.specs.Substitution.Laws.{sub-formed}
+use Rattle.message.specs.Theorems.{fewer-bytes}
 use Rattle.message.specs.Parts.Entries.{Each}
 use Rattle.message.specs.Canon.{canon, canons}
-use Rattle.canonical.specs.Builtins.{Builtins}
-use Rattle.canonical.specs.Contract.{mostSymbols, longest, Value, Job, Ready, Done}
+use Rattle.canonical.specs.Builtins.{Builtins, group}
+use Rattle.canonical.specs.Contract.{mostSymbols, Job, Ready, Done}
 use Rattle.canonical.specs.Contract.Laws.{written-canons}
 use Rattle.protocol.specs.Protocol.{Fact, ruleTerm, fact}
 use Rattle.protocol.specs.Protocol.Limits.{TermWithin}
 use Rattle.protocol.specs.Protocol.Exact.{rule-term-exact}
 use Rattle.protocol.specs.Places.{placeOf, valueOf, Here, termPlace}
 use Rattle.protocol.specs.Places.Laws.{fact-fields}
 use Rattle.steps.specs.Facts.{valueAt, filledFact}
 use Rattle.steps.specs.Values.Parts.{terms-many}
-
--- the bytes of its arguments as they are, and of their canonical forms
-abbrev pub plainBytes : Fact → List ℕ
-plainBytes f = flat encode (f .terms)
-
-abbrev pub canonBytes : Fact → List ℕ
-canonBytes f = flat (λ t. encode (canon t)) (f .terms)
-
--- the fact f stands in src at a place, its variables have the values vs, and an output of n bytes has room from o on for the fact filled in
-pub record FactJob (slots ars vals starts src : List ℕ) (place n o : ℕ) (vs : List Term) (f : Fact) : Type 0 where
-  pub table : Builtins slots
-  pub here : Here (fact src slots ars) f place
-  pub values : (v : ℕ) → Occurss v (terms (f .terms)) → Value slots vals starts v (valueAt vs v)
-  pub small : All (λ t. symbols (sub (valueAt vs) t) ≤ mostSymbols) (f .terms)
-  pub room : o + length (plainBytes (filledFact vs f)) ≤ n
-  pub short : n ≤ longest
-  pub values-short : length vals ≤ longest
-  pub source-short : length src ≤ longest
-
-abbrev pub FactReady : List ℕ → List ℕ → List ℕ → List ℕ → List ℕ → ℕ → ℕ → ℕ → Type 0
-FactReady slots ars vals starts src place n o = (vs : List Term) × (f : Fact) × FactJob slots ars vals starts src place n o vs f
-
--- the canonical bytes of the fact filled in were written, and nothing past the room for it changed
-abbrev pub FactDone : List ℕ → List ℕ → List ℕ → List ℕ → List ℕ → ℕ → List ℕ → ℕ → List ℕ → ℕ → Type 0
-FactDone slots ars vals starts src place out o out′ o′ =
-    (vs : List Term) (f : Fact) → FactJob slots ars vals starts src place (length out) o vs f
-    → Wrote (o + length (plainBytes (filledFact vs f))) out o out′ o′ (canonBytes (filledFact vs f))
+use Rattle.facts.specs.declared.writing.Wanted.{Wanted}
+use Rattle.facts.specs.Writing.{plainBytes, canonBytes, factRoom, FactJob, Put, WantedReady, WantedDone, FactReady, FactDone}
 
 -- ── the two kinds of lists of terms ──
 filled-bytes : (θ : ℕ → Term) (ts : List Term) → encodes (subs θ (terms ts)) ≡ flat encode (map (sub θ) ts)
 filled-bytes θ [] = refl
 filled-bytes θ (t ∷ ts) = ap (λ (l : List ℕ). encode (sub θ t) ++ l) (filled-bytes θ ts)
 
-canonical-bytes : (θ : ℕ → Term) (ts : List Term) → encodes (canons (subs θ (terms ts))) ≡ flat (λ t. encode (canon t)) (map (sub θ) ts)
+canonical-bytes : (θ : ℕ → Term) (ts : List Term) → encodes (canons (subs θ (terms ts))) ≡ canonBytes (map (sub θ) ts)
 canonical-bytes θ [] = refl
 canonical-bytes θ (t ∷ ts) = ap (λ (l : List ℕ). encode (canon (sub θ t)) ++ l) (canonical-bytes θ ts)
 
@@ -80,6 +58,21 @@ fact-terms src slots ars place bytes f h =
     let m = many-form src (ruleTerm src slots) (TermWithin slots) encode (rule-term-exact src bytes slots .form)
     (getD ars (f .symbol) 0) (f .terms) (x .behind) (h .next) (x .terms) in
     (m .0 .1, m .1)
+
+-- ── canonical forms take no more room ──
+pub filled-formed :
+    (slots : List ℕ) (θ : ℕ → Term) (ts : List Term) → All (TermWithin slots) ts → ((v : ℕ) → Occurss v (terms ts) → Formed (arity slots) (θ v))
+    → All (Formed (arity slots)) (map (sub θ) ts)
+filled-formed slots θ [] a h = tt
+filled-formed slots θ (t ∷ ts) a h =
+    (sub-formed (arity slots) θ t (a .0 .formed) (λ v o. h v (inl o)), filled-formed slots θ ts (a .1) (λ v o. h v (inr o)))
+
+canon-few : (slots : List ℕ) → Builtins slots → (ts : List Term) → All (Formed (arity slots)) ts → length (canonBytes ts) ≤ length (flat encode ts)
+canon-few slots table [] a = omega arith
+canon-few slots table (t ∷ ts) a =
+    let b = fewer-bytes (arity slots) (group slots table) t (a .0) in
+    let r = canon-few slots table ts (a .1) in
+    omega (arith, b, r, length-append (encode t) (flat encode ts), length-append (encode (canon t)) (canonBytes ts))
 
 -- ── a fact's arguments are k terms at the place of the first ──
 module _ (slots ars vals starts src : List ℕ) (place n o : ℕ) (bytes : Bytes src) (vs : List Term) (f : Fact)
@@ -106,10 +99,17 @@ module _ (slots ars vals starts src : List ℕ) (place n o : ℕ) (bytes : Bytes
             ∙ ap (λ (l : List ℕ). l ++ drop (J .here .next) src) (sym (encodes-terms (f .terms)));
         values = J .values;
         small = each-terms (λ t. symbols (sub (valueAt vs) t) ≤ mostSymbols) (f .terms) (J .small);
-        room = omega (arith, J .room, ap length (filled-bytes (valueAt vs) (f .terms)));
+        room = omega (arith, J .room, J .few, ap length (filled-bytes (valueAt vs) (f .terms)));
         short = J .short;
         values-short = J .values-short;
       }
+
+  pub job-formed : All (Formed (arity slots)) (filledFact vs f .terms)
+  job-formed =
+      filled-formed slots (valueAt vs) (f .terms) (fact-terms src slots ars place bytes f (J .here) .0) (λ v i. J .values v i .formed)
+
+  fact-few : length (canonBytes (filledFact vs f .terms)) ≤ factRoom
+  fact-few = omega (arith, J .few, canon-few slots (J .table) (filledFact vs f .terms) job-formed)
 
 module _ (slots ars vals starts src : List ℕ) (place : ℕ) (bytes : Bytes src) (y at k : ℕ)
     (hy : y ≡ valueOf (below src (length ars) place)) (hk : k ≡ getD ars y 0) (ha : at ≡ termPlace src slots ars place 0) where
@@ -119,8 +119,23 @@ module _ (slots ars vals starts src : List ℕ) (place : ℕ) (bytes : Bytes src
   pub fact-done :
       (out out′ : List ℕ) (o at′ o′ : ℕ) → Done slots vals starts src at k out o out′ at′ o′
       → FactDone slots ars vals starts src place out o out′ o′
-  fact-done out out′ o at′ o′ done vs f J =
+  fact-done out out′ o at′ o′ done vs f J has =
       let j = fact-job slots ars vals starts src place (length out) o bytes vs f J y at k hy hk ha in
-      subst₂ (λ (p q : List ℕ). Wrote (o + length p) out o out′ o′ q) (filled-bytes (valueAt vs) (f .terms))
-      (written-canons slots vals starts src at k (length out) o (valueAt vs) (terms (f .terms)) j ∙ canonical-bytes (valueAt vs) (f .terms))
-      (done (valueAt vs) (terms (f .terms)) j .wrote)
+      record {
+        wrote =
+            widen (o + factRoom) (omega (arith, J .few))
+            (subst₂ (λ (p q : List ℕ). Wrote (o + length p) out o out′ o′ q) (filled-bytes (valueAt vs) (f .terms))
+            (written-canons slots vals starts src at k (length out) o (valueAt vs) (terms (f .terms)) j ∙ canonical-bytes (valueAt vs) (f .terms))
+            (done (valueAt vs) (terms (f .terms)) j .wrote));
+        few = fact-few slots ars vals starts src place (length out) o bytes vs f J;
+      }
+
+-- ── by what is wanted ──
+module _ (slots ars vals starts src : List ℕ) (place : ℕ) (p q : Wanted) (same : p ≡ q) where
+  pub ready-as : (n o : ℕ) → WantedReady slots ars vals starts src place n o p → WantedReady slots ars vals starts src place n o q
+  ready-as n o h = subst (WantedReady slots ars vals starts src place n o) same h
+
+  pub done-as :
+      (out out′ : List ℕ) (o o′ : ℕ) → WantedDone slots ars vals starts src place out o q out′ o′
+      → WantedDone slots ars vals starts src place out o p out′ o′
+  done-as out out′ o o′ h = subst (λ (w : Wanted). WantedDone slots ars vals starts src place out o w out′ o′) (sym same) h

@@ -27,14 +27,14 @@ use Rattle.protocol.specs.Protocol.Limits.{FactWithin, OwnWithin, RuleWithin, W
 use Rattle.protocol.specs.Places.{Here}
 use Rattle.protocol.specs.Index.{Placed}
 use Rattle.rules.specs.Numbered.Limits.{rule-within}
 use Rattle.steps.specs.Lists.{all-map, all-at, map-all, none-all}
 use Rattle.steps.specs.Nodes.{Node, NodeWithin}
 use Rattle.steps.specs.Facts.{valueAt}
 use Rattle.steps.specs.Facts.Formed.{part-within}
-use Rattle.steps.specs.Facts.Writing.{FactJob}
-use Rattle.steps.specs.Facts.Ready.{factRoom, fillable-job}
+use Rattle.facts.specs.Writing.{FactJob, factRoom}
+use Rattle.facts.specs.Writing.Ready.{fillable-job}
 use Rattle.steps.specs.Values.{NodeRight}
 use Rattle.steps.specs.Values.Parts.{noTerm}
 
 each-member : {A : Type 0} (P : A → Type 0) (xs : List A) → ((x : A) → x ∈ xs → P x) → All P xs
 each-member P [] h = tt

@@ -1,0 +1,143 @@
+-- A node's fact is its rule's with the values filled in, and who finds the rule can write it.
+use Prim.Native.Nat.{ℕ, zero, suc, _+_, _^_, _≤_, _<_}
+use mathlib.Core.List.{List, [], _∷_, map}
+use mathlib.Core.Option.{Option, some, Option·some-injective}
+use mathlib.Core.Path.{_≡_, refl, ap, sym, _∙_, subst}
+use native.Mathlib.Omega.{arith}
+use lib.ListN.{length, getD, take, length-map, List·getD-eq-default}
+use Rattle.octets.specs.Choice.{by-size}
+use Rattle.octets.specs.Head.{Bytes}
+use Rattle.number.specs.Reading.{got, readNumber, many, below}
+use Rattle.term.specs.Term.{Term}
+use Rattle.term.specs.Arity.{slots}
+use Rattle.term.specs.Reader.{term}
+use Rattle.message.specs.Substitution.{sub}
+use Rattle.canonical.specs.Contract.{longest}
+use Rattle.protocol.specs.Protocol.{Fact, Rule, Protocol, part, noFact, fact}
+use Rattle.protocol.specs.Protocol.Walks.{sortsAt}
+use Rattle.protocol.specs.Places.{Here, listPlace, factPlace, valueOf}
+use Rattle.protocol.specs.Places.Laws.{symbol-law}
+use Rattle.protocol.specs.Index.{Placed}
+use Rattle.rules.specs.Numbered.{ruleOf}
+use Rattle.steps.specs.Nodes.{Node, NodeWithin}
+use Rattle.steps.specs.Nodes.Exact.{node-exact}
+use Rattle.steps.specs.Nodes.Code.{index-within, index-slots}
+use Rattle.steps.specs.Index.{IndexOf}
+use Rattle.steps.specs.Lists.{map-at}
+use Rattle.steps.specs.Facts.{valueAt, filledFact, filledPart, factsOf}
+use Rattle.steps.specs.Values.Parts.{noTerm, list-there, fact-there, lists-many}
+use Rattle.steps.specs.Values.Loops.{count-here, node-from}
+use Rattle.steps.specs.Values.Filled.{FillsRule}
+use Rattle.facts.specs.declared.writing.Wanted.{Wanted}
+use Rattle.facts.specs.declared.writing.Wanted.the-variants as want
+use Rattle.facts.specs.Writing.{Has, FactJob, WantedReady}
+use Rattle.facts.specs.Writing.Nodes.{node-job}
+use Rattle.facts.specs.declared.nodes.Place.{Place}
+use Rattle.facts.specs.declared.nodes.Form.{Form}
+use Rattle.facts.specs.Calls.{factAt, ruleFact, Room, FactOf, FactFrom, RuleFact, Written}
+
+-- ── filled in one by one ──
+has-filled : (q : Wanted) (vs : List Term) (f : Fact) → Has q (filledFact vs f) → Has q f
+has-filled want.All vs f h = tt
+has-filled (want.One x) vs f h = omega (arith, length-map (f .terms) (sub (valueAt vs)))
+
+module _ (p : Protocol) (x : Node) (u : Rule) (known : ruleOf p (x .rule) ≡ some u) (w i : ℕ) (l : i < length (factsOf p w x)) where
+  facts-are : factsOf p w x ≡ map (filledFact (x .values)) (part w u)
+  facts-are = ap (filledPart w (x .values)) known
+
+  fact-listed : i < length (part w u)
+  fact-listed = omega (arith, ap length facts-are, length-map (part w u) (filledFact (x .values)))
+
+  pub fact-filled : factAt p w i x ≡ ruleFact (x .values) w i u
+  fact-filled =
+      ap (λ (fs : List Fact). getD fs i noFact) facts-are
+      ∙ map-at (filledFact (x .values)) (part w u) i noFact noFact fact-listed
+
+-- ── a node whose rule was found ──
+module _ (p : Protocol) (s : List ℕ) (number at w i : ℕ) (q : Wanted) (x : Node) (e : ℕ) (from : FactFrom p s number at w i q x e) (u : Rule)
+    (is : ruleOf p number ≡ some u) where
+  known : ruleOf p (x .rule) ≡ some u
+  known = ap (ruleOf p) (from .from .is-number) ∙ is
+
+  pub fact-is : ruleFact (x .values) w i u ≡ factAt p w i x
+  fact-is = sym (fact-filled p x u known w i (from .listed))
+
+module _ {file table rules : List ℕ} {nr : ℕ} {p : Protocol} (index : IndexOf file table rules nr p) (ars s : List ℕ) (bytes : Bytes s)
+    (number at w i : ℕ) (q : Wanted) (x : Node) (e : ℕ) (from : FactFrom p s number at w i q x e) (u : Rule) (is : ruleOf p number ≡ some u) where
+  abbrev Jobs : List ℕ → ℕ → ℕ → Rule → Type 0
+  Jobs src n o v =
+      (starts : List ℕ) (f : ℕ) → Placed (term s table) noTerm starts (x .values) (length (v .sorts)) → length (v .sorts) ≤ length starts
+      → Here (fact src table ars) (getD (part w v) i noFact) f → FactJob table ars s starts src f n o (x .values) (getD (part w v) i noFact)
+
+  pub rule-fact :
+      (out src : List ℕ) (place o : ℕ) → Room out o → Bytes src → length src ≤ 2 ^ 32 → FillsRule table ars s src place at u (x .values) e
+      → RuleFact table ars s src place at (length out) o w i q u (x .values) e
+  rule-fact out src place o room bsrc short fills = record {
+    fills = fills;
+    short = short;
+    inside = fact-listed p x u (known p s number at w i q x e from u is) w i (from .listed);
+    has = has-filled q (x .values) (getD (part w u) i noFact) (subst (Has q) (sym (fact-is p s number at w i q x e from u is)) (from .has));
+    job =
+        subst (Jobs src (length out) o) (Option·some-injective (from .within .is) u (sym (from .within .known) ∙ known p s number at w i q x e from u is))
+        (λ starts f placed many here.
+        node-job p (index-within index) x (from .within) (from .right) table ars s starts src f w i (length out) o (index-slots index)
+        bytes bsrc placed here many (from .short) short (room .enough) (room .short));
+  }
+
+-- ── a rule at a place, and the places of a node's values ──
+part-inside : (u : Rule) (w i : ℕ) → i < length (part w u) → w < length (u .parts)
+part-inside u w i l =
+    by-size w (length (u .parts)) (λ h. h)
+    (λ h. absurd (omega (arith, ap length (List·getD-eq-default (u .parts) [] h))))
+
+module _ {table ars s src : List ℕ} {place at n o w i : ℕ} {q : Wanted} {u : Rule} {vs : List Term} {e : ℕ}
+    (r : RuleFact table ars s src place at n o w i q u vs e) where
+  -- the values have places enough
+  pub values-few : (k : ℕ) → k ≡ valueOf (sortsAt src place) → (length s ≤ 2 ^ 32) × (k ≤ 16)
+  values-few k h = (r .fills .is .short, omega (arith, h, count-here (r .fills .is), r .fills .is .few))
+
+  module _ (list f : ℕ) (hl : list ≡ listPlace src table ars place w) (hf : f ≡ factPlace src table ars list i) where
+    fact-here : Here (fact src table ars) (getD (part w u) i noFact) f
+    fact-here =
+        let m : w < 3 = omega (arith, part-inside u w i (r .inside), lists-many src table ars place u (r .fills .here)) in
+        fact-there src table ars list (part w u) (list-there src table ars place u (r .fills .here) w list m hl) i f (r .inside) hf
+
+    module _ (k : ℕ) (counted : k ≡ valueOf (sortsAt src place)) (starts : List ℕ)
+        (told : (vs : List Term) (d : ℕ) → many (term s table) k at ≡ got vs d → Placed (term s table) noTerm starts vs k)
+        (room : length starts ≡ 16) where
+      many-are : k ≡ length (u .sorts)
+      many-are = counted ∙ count-here (r .fills .is)
+
+      pub fact-job : FactJob table ars s starts src f n o vs (getD (part w u) i noFact)
+      fact-job =
+          r .job starts f
+          (subst (λ (j : ℕ). Placed (term s table) noTerm starts vs j) many-are
+          (told vs e (ap (λ (j : ℕ). many (term s table) j at) many-are ∙ r .fills .is .reads)))
+          (omega (arith, room, r .fills .is .few)) fact-here
+
+      pub wanted-ready : WantedReady table ars s starts src f n o q
+      wanted-ready = (vs, getD (part w u) i noFact, fact-job, r .has)
+
+    pub symbol-is : (y : ℕ) → y ≡ valueOf (below src (length ars) f) → y ≡ ruleFact vs w i u .symbol
+    symbol-is y h = h ∙ symbol-law src table ars f (getD (part w u) i noFact) fact-here
+
+pub written-is : (q : Wanted) (out : List ℕ) (o : ℕ) (out′ : List ℕ) (r : Form) (f g : Fact) → f ≡ g → Written q out o out′ r f → Written q out o out′ r g
+written-is q out o out′ r f g same h = subst (Written q out o out′ r) same h
+
+-- ── a node at its place ──
+-- its rule number was read
+pub fact-read :
+    (p : Protocol) (s : List ℕ) → Bytes s → length s ≤ 2 ^ 32 → (a : Place) (q : Wanted) (number at : ℕ) (x : Node)
+    → readNumber s (a .node) ≡ got number at → FactOf p s a q x → (e : ℕ) × FactFrom p s number at (a .part) (a .number) q x e
+fact-read p s bytes short a q number at x h f =
+    let (e, g) = node-from p s (a .node) number at x h (f .here) in (
+      e,
+      record {
+        from = g;
+        within = node-exact p s bytes .form x (a .node) (f .here .next) (f .here .reads) .0;
+        right = f .right;
+        listed = f .listed;
+        has = f .has;
+        short = short;
+      },
+    )

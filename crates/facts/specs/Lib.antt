@@ -1,0 +1,6 @@
+-- The facts of nodes in bytes: what is written of a fact, and when two facts are the same.
+
+-- the canonical bytes of a fact or of one argument: what is asked, what is promised
+pub mod Writing
+-- the calls over the facts of nodes: a fact by its node, list and number
+pub mod Calls

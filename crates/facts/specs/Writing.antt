@@ -1,0 +1,90 @@
+-- The canonical bytes of a fact, or of one argument of it: what the code is asked that writes them, and what it promises.
+use Prim.Native.Nat.{ℕ, _+_, _≤_, _<_}
+use mathlib.Core.List.{List, [], _∷_}
+use lib.ListN.{length, getD}
+use Rattle.octets.specs.Splice.Prefix.{Wrote}
+use Rattle.number.specs.Layout.{flat, All}
+use Rattle.term.specs.Term.{Term, encode, symbols}
+use Rattle.term.specs.Reader.{terms}
+use Rattle.message.specs.Substitution.{sub, Occurss}
+use Rattle.message.specs.Canon.{canon}
+use Rattle.canonical.specs.Builtins.{Builtins}
+use Rattle.canonical.specs.Contract.{mostSymbols, longest, Value}
+use Rattle.protocol.specs.Protocol.{Fact, fact}
+use Rattle.protocol.specs.Places.{Here}
+use Rattle.steps.specs.Facts.{valueAt, filledFact}
+use Rattle.steps.specs.Values.Parts.{noTerm}
+use Rattle.facts.specs.declared.writing.Wanted.{Wanted}
+use Rattle.facts.specs.declared.writing.Wanted.the-variants as want
+-- all arguments of a fact, and one of them
+pub mod Whole
+pub mod Argument
+-- the places of a node's values
+pub mod Places
+-- what the writing asks, by the values and the fact; of a node that is right
+pub mod Ready
+pub mod Nodes
+
+-- ── the arguments that are wanted ──
+-- all, or one
+abbrev pub wantedTerms : Wanted → List Term → List Term
+wantedTerms want.All ts = ts
+wantedTerms (want.One x) ts = getD ts x noTerm ∷ []
+
+-- the fact has them
+abbrev pub Has : Wanted → Fact → Type 0
+Has want.All f = Unit {0}
+Has (want.One x) f = x < length (f .terms)
+
+-- the bytes of all arguments as they are; of the canonical forms of those that are wanted
+abbrev pub plainBytes : Fact → List ℕ
+plainBytes f = flat encode (f .terms)
+
+abbrev pub canonBytes : List Term → List ℕ
+canonBytes ts = flat (λ t. encode (canon t)) ts
+
+abbrev pub wantedBytes : Wanted → Fact → List ℕ
+wantedBytes q f = canonBytes (wantedTerms q (f .terms))
+
+-- ── what is asked and what is promised ──
+-- eight terms of 256 symbols, four bytes each at most
+abbrev pub factRoom : ℕ
+factRoom = 8192
+
+-- the fact f stands in src at a place, its variables have the values vs, and an output of n bytes has room for a fact from o on
+pub record FactJob (slots ars vals starts src : List ℕ) (place n o : ℕ) (vs : List Term) (f : Fact) : Type 0 where
+  pub table : Builtins slots
+  pub here : Here (fact src slots ars) f place
+  pub values : (v : ℕ) → Occurss v (terms (f .terms)) → Value slots vals starts v (valueAt vs v)
+  pub small : All (λ t. symbols (sub (valueAt vs) t) ≤ mostSymbols) (f .terms)
+  pub few : length (plainBytes (filledFact vs f)) ≤ factRoom
+  pub room : o + factRoom ≤ n
+  pub short : n ≤ longest
+  pub values-short : length vals ≤ longest
+  pub source-short : length src ≤ longest
+
+-- q was written from o on, and nothing past the room for a fact changed
+pub record Put (out : List ℕ) (o : ℕ) (out′ : List ℕ) (o′ : ℕ) (q : List ℕ) : Type 0 where
+  pub wrote : Wrote (o + factRoom) out o out′ o′ q
+  pub few : length q ≤ factRoom
+
+module _ (slots ars vals starts src : List ℕ) (place : ℕ) where
+  abbrev pub WantedReady : ℕ → ℕ → Wanted → Type 0
+  WantedReady n o q = (vs : List Term) × (f : Fact) × FactJob slots ars vals starts src place n o vs f × Has q f
+
+  abbrev pub WantedDone : List ℕ → ℕ → Wanted → List ℕ → ℕ → Type 0
+  WantedDone out o q out′ o′ =
+      (vs : List Term) (f : Fact) → FactJob slots ars vals starts src place (length out) o vs f → Has q f
+      → Put out o out′ o′ (wantedBytes q (filledFact vs f))
+
+  abbrev pub FactReady : ℕ → ℕ → Type 0
+  FactReady n o = WantedReady n o want.All
+
+  abbrev pub FactDone : List ℕ → ℕ → List ℕ → ℕ → Type 0
+  FactDone out o out′ o′ = WantedDone out o want.All out′ o′
+
+  abbrev pub ArgumentReady : ℕ → ℕ → ℕ → Type 0
+  ArgumentReady n o x = WantedReady n o (want.One x)
+
+  abbrev pub ArgumentDone : List ℕ → ℕ → ℕ → List ℕ → ℕ → Type 0
+  ArgumentDone out o x out′ o′ = WantedDone out o (want.One x) out′ o′

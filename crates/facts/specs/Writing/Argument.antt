@@ -1,0 +1,105 @@
+-- One argument of a fact that stands at a place, with a node's values filled in.
+use Prim.Native.Nat.{ℕ, zero, suc, _+_, _≤_, _<_}
+use mathlib.Core.List.{List, [], _∷_, _++_, map, append-nil}
+use mathlib.Core.Logic.{⊎-elim, inl, inr}
+use mathlib.Core.Path.{_≡_, refl, ap, ap₂, sym, _∙_, subst}
+use native.Mathlib.Omega.{arith}
+use lib.ListN.{length, getD, drop, length-append, length-map}
+use Rattle.octets.specs.Head.{Bytes}
+use Rattle.octets.specs.Splice.Prefix.{Wrote, widen}
+use Rattle.number.specs.Layout.{flat, All}
+use Rattle.term.specs.Term.{Term, nil, _&_, encode, encodes, symbols, Formed}
+use Rattle.term.specs.Arity.{arity}
+use Rattle.term.specs.Reader.{terms}
+use Rattle.term.specs.Reader.Exact.{term-form}
+use Rattle.message.specs.Substitution.{sub, subs, Occurs, Occurss}
+use Rattle.message.specs.Theorems.{fewer-bytes}
+use Rattle.message.specs.Canon.{canon}
+use Rattle.canonical.specs.Builtins.{group}
+use Rattle.canonical.specs.Contract.{mostSymbols, Job, Ready, Done}
+use Rattle.canonical.specs.Contract.Laws.{written-canons}
+use Rattle.protocol.specs.Protocol.{Fact}
+use Rattle.protocol.specs.Places.{termPlace}
+use Rattle.steps.specs.Lists.{all-inside, map-at}
+use Rattle.steps.specs.Facts.{valueAt, filledFact}
+use Rattle.steps.specs.Values.Parts.{noTerm, term-there}
+use Rattle.facts.specs.Writing.{canonBytes, factRoom, FactJob, ArgumentReady, ArgumentDone}
+use Rattle.facts.specs.Writing.Whole.{job-formed}
+
+-- ── a term of a list ──
+occurs-at : (v j : ℕ) (ts : List Term) → j < length ts → Occurs v (getD ts j noTerm) → Occurss v (terms ts)
+occurs-at v j [] l o = absurd (omega arith)
+occurs-at v zero (t ∷ ts) l o = inl o
+occurs-at v (suc j) (t ∷ ts) l o = inr (occurs-at v j ts (omega arith) o)
+
+part-few :
+    (θ : ℕ → Term) (j : ℕ) (ts : List Term) → j < length ts
+    → length (encode (sub θ (getD ts j noTerm))) ≤ length (flat encode (map (sub θ) ts))
+part-few θ j [] l = absurd (omega arith)
+part-few θ zero (t ∷ ts) l = omega (arith, length-append (encode (sub θ t)) (flat encode (map (sub θ) ts)))
+part-few θ (suc j) (t ∷ ts) l =
+    let r = part-few θ j ts (omega arith) in
+    omega (arith, r, length-append (encode (sub θ t)) (flat encode (map (sub θ) ts)))
+
+module _ (slots ars vals starts src : List ℕ) (place n o : ℕ) (bytes : Bytes src) (vs : List Term) (f : Fact)
+    (J : FactJob slots ars vals starts src place n o vs f) where
+  argument-job :
+      (x at : ℕ) → x < length (f .terms) → at ≡ termPlace src slots ars place x
+      → Job slots vals starts src at 1 n o (valueAt vs) (getD (f .terms) x noTerm & nil)
+  argument-job x at l ha =
+      let t : Term = getD (f .terms) x noTerm in
+      let (e, h) = term-there src slots ars bytes place f (J .here) x at l ha in
+      let g = term-form src slots bytes t at e h in
+      let few = part-few (valueAt vs) x (f .terms) l in
+      let same = ap length (append-nil (encode (sub (valueAt vs) t))) in
+      record {
+        table = J .table;
+        many = refl;
+        formed = (g .0 .0, tt);
+        range = (g .0 .1, tt);
+        rest = drop e src;
+        there = g .1 .there ∙ ap (λ (l : List ℕ). l ++ drop e src) (sym (append-nil (encode t)));
+        values = λ v i. J .values v (occurs-at v x (f .terms) l (⊎-elim (λ q. q) (λ q. absurd q) i));
+        small = (all-inside (λ t. symbols (sub (valueAt vs) t) ≤ mostSymbols) noTerm (f .terms) (J .small) x l, tt);
+        room = omega (arith, J .room, J .few, few, same);
+        short = J .short;
+        values-short = J .values-short;
+      }
+
+  argument-few : (x : ℕ) → x < length (f .terms) → length (encode (canon (getD (filledFact vs f .terms) x noTerm))) ≤ factRoom
+  argument-few x l =
+      let us : List Term = filledFact vs f .terms in
+      let m : x < length us = omega (arith, length-map (f .terms) (sub (valueAt vs))) in
+      let b = fewer-bytes (arity slots) (group slots (J .table)) (getD us x noTerm)
+      (all-inside (Formed (arity slots)) noTerm us (job-formed slots ars vals starts src place n o bytes vs f J) x m) in
+      let c = part-few (valueAt vs) x (f .terms) l in
+      omega (arith, b, c, J .few, ap (λ (t : Term). length (encode t)) (sym (map-at (sub (valueAt vs)) (f .terms) x noTerm noTerm l)))
+
+module _ (slots ars vals starts src : List ℕ) (place : ℕ) (bytes : Bytes src) (x at : ℕ) (ha : at ≡ termPlace src slots ars place x) where
+  pub argument-ready : (n o : ℕ) → ArgumentReady slots ars vals starts src place n o x → Ready slots vals starts src at 1 n o
+  argument-ready n o r = (
+    valueAt (r .0),
+    getD (r .1 .terms) x noTerm & nil,
+    argument-job slots ars vals starts src place n o bytes (r .0) (r .1) (r .2) x at (r .3) ha,
+  )
+
+  pub argument-done :
+      (out out′ : List ℕ) (o at′ o′ : ℕ) → Done slots vals starts src at 1 out o out′ at′ o′
+      → ArgumentDone slots ars vals starts src place out o x out′ o′
+  argument-done out out′ o at′ o′ done vs f J l =
+      let t : Term = getD (f .terms) x noTerm in
+      let j = argument-job slots ars vals starts src place (length out) o bytes vs f J x at l ha in
+      let e : sub (valueAt vs) t ≡ getD (filledFact vs f .terms) x noTerm = sym (map-at (sub (valueAt vs)) (f .terms) x noTerm noTerm l) in
+      record {
+        wrote =
+            widen (o + factRoom) (omega (arith, J .few, part-few (valueAt vs) x (f .terms) l, ap length (append-nil (encode (sub (valueAt vs) t)))))
+            (subst (λ (q : List ℕ). Wrote (o + length (encodes (subs (valueAt vs) (t & nil)))) out o out′ o′ q)
+            (written-canons slots vals starts src at 1 (length out) o (valueAt vs) (t & nil) j ∙ ap (λ (u : Term). encode (canon u) ++ []) e)
+            (done (valueAt vs) (t & nil) j .wrote));
+        few =
+            omega (
+              arith,
+              argument-few slots ars vals starts src place (length out) o bytes vs f J x l,
+              ap length (append-nil (encode (canon (getD (filledFact vs f .terms) x noTerm)))),
+            );
+      }

@@ -1,0 +1,163 @@
+// When two facts of nodes are the same, or two arguments of them, or an argument and a public name.
+ghost use mathlib.Core.Path.{_≡_};
+ghost use mathlib.Core.List.{List};
+ghost use Prim.Native.Nat.{ℕ, _^_, _≤_, _+_, _-_};
+ghost use lib.ListN.{length, take, drop};
+ghost use Rattle.octets.specs.Compare.{compareBytes, isEqual};
+ghost use Rattle.term.specs.Term.{encode, leaf, public};
+ghost use Rattle.protocol.specs.Protocol.{Protocol};
+ghost use Rattle.steps.specs.Nodes.{Node};
+ghost use Rattle.steps.specs.Facts.{sameFact, sameTerm};
+ghost use Rattle.steps.specs.Index.{IndexOf, Given};
+ghost use Rattle.steps.specs.Values.Filled.{ArityTable};
+ghost use Rattle.facts.specs.Writing.{factRoom, Put};
+ghost use Rattle.facts.specs.Calls.{Room, FactOf, SomeFact, WholeFact, HasFact, OneOf, HasOne, factAt, argumentAt, Compared};
+use crate::nodes;
+use crate::nodes::Place;
+use crate::writing::Wanted;
+use term::Public;
+
+// Whether the symbols of two facts are equal, and whether the canonical bytes of the arguments that are wanted are.
+pub struct Both {
+    pub symbols: bool,
+    pub bytes: bool,
+}
+
+// Whether the first m bytes are those from m on up to n.
+fn same_parts(s: &[u8], m: usize, n: usize) -> bool
+    requires { ⌜ (m ≤ n) × (n ≤ length (now s)) ⌝ }
+    ensures { λ r. ⌜ r ≡ isEqual (compareBytes (take m (now (s .entry))) (take (n - m) (drop m (now (s .entry))))) ⌝ }
+{
+    octets::same_bytes(&s[..m], &s[m..n])
+}
+
+// Two facts of nodes, written one behind the other.
+fn compare(
+    out: &mut [u8],
+    s: &[u8],
+    protocol: &[u8],
+    arities: &[u8],
+    ars: &[u8],
+    rules: &[usize],
+    nr: usize,
+    x: Place,
+    wx: Wanted,
+    y: Place,
+    wy: Wanted,
+) -> Both
+    requires { ⌜ Room (now out) factRoom × (length (now s) ≤ 2 ^ 32) × Given (now protocol) (now arities) (now rules) nr × ArityTable (now protocol) (now arities) (now rules) nr (now ars) × SomeFact (now protocol) (now arities) (now rules) nr (now s) x wx × SomeFact (now protocol) (now arities) (now rules) nr (now s) y wy ⌝ }
+    ensures { λ r. ⌜ ((p : Protocol) (m n : Node) → IndexOf (now (protocol .entry)) (now (arities .entry)) (now (rules .entry)) nr p → FactOf p (now (s .entry)) x wx m → FactOf p (now (s .entry)) y wy n → Compared wx (factAt p (x .part) (x .number) m) wy (factAt p (y .part) (y .number) n) r) ⌝ }
+{
+    let a = nodes::node_fact(out, 0, s, protocol, arities, ars, rules, nr, x, wx);
+    let b = nodes::node_fact(out, a.end, s, protocol, arities, ars, rules, nr, y, wy);
+    let same = same_parts(out, a.end, b.end);
+    Both {
+        symbols: a.symbol == b.symbol,
+        bytes: same,
+    }
+}
+
+// Whether two facts of nodes are the same. Their canonical bytes go into the output.
+pub fn same_fact(
+    out: &mut [u8],
+    s: &[u8],
+    protocol: &[u8],
+    arities: &[u8],
+    ars: &[u8],
+    rules: &[usize],
+    nr: usize,
+    x: Place,
+    y: Place,
+) -> bool
+    requires { ⌜ Room (now out) factRoom × (length (now s) ≤ 2 ^ 32) × Given (now protocol) (now arities) (now rules) nr × ArityTable (now protocol) (now arities) (now rules) nr (now ars) × HasFact (now protocol) (now arities) (now rules) nr (now s) x × HasFact (now protocol) (now arities) (now rules) nr (now s) y ⌝ }
+    ensures { λ r. ⌜ ((p : Protocol) (m n : Node) → IndexOf (now (protocol .entry)) (now (arities .entry)) (now (rules .entry)) nr p → WholeFact p (now (s .entry)) x m → WholeFact p (now (s .entry)) y n → r ≡ sameFact (factAt p (x .part) (x .number) m) (factAt p (y .part) (y .number) n)) ⌝ }
+{
+    let b = compare(
+        out,
+        s,
+        protocol,
+        arities,
+        ars,
+        rules,
+        nr,
+        x,
+        Wanted::All,
+        y,
+        Wanted::All,
+    );
+    b.symbols & b.bytes
+}
+
+// Whether argument i of a node's fact and argument j of another are the same.
+pub fn same_argument(
+    out: &mut [u8],
+    s: &[u8],
+    protocol: &[u8],
+    arities: &[u8],
+    ars: &[u8],
+    rules: &[usize],
+    nr: usize,
+    x: Place,
+    i: usize,
+    y: Place,
+    j: usize,
+) -> bool
+    requires { ⌜ Room (now out) factRoom × (length (now s) ≤ 2 ^ 32) × Given (now protocol) (now arities) (now rules) nr × ArityTable (now protocol) (now arities) (now rules) nr (now ars) × HasOne (now protocol) (now arities) (now rules) nr (now s) x i × HasOne (now protocol) (now arities) (now rules) nr (now s) y j ⌝ }
+    ensures { λ r. ⌜ ((p : Protocol) (m n : Node) → IndexOf (now (protocol .entry)) (now (arities .entry)) (now (rules .entry)) nr p → OneOf p (now (s .entry)) x i m → OneOf p (now (s .entry)) y j n → r ≡ sameTerm (argumentAt p (x .part) (x .number) i m) (argumentAt p (y .part) (y .number) j n)) ⌝ }
+{
+    let b = compare(
+        out,
+        s,
+        protocol,
+        arities,
+        ars,
+        rules,
+        nr,
+        x,
+        Wanted::One(i),
+        y,
+        Wanted::One(j),
+    );
+    b.bytes
+}
+
+// Writes the bytes of a public name from o on.
+fn put_public(out: &mut [u8], o: usize, name: Public) -> usize
+    requires { ⌜ Room (now out) o ⌝ }
+    ensures { λ r. ⌜ Put (now (out .entry)) o (now (out .exit)) r (encode (leaf public (name .0))) ⌝ }
+{
+    let e = number::write_number(out, o, 1);
+    number::write_number(out, e, name.0)
+}
+
+// Whether argument i of a node's fact is a public name.
+pub fn is_public(
+    out: &mut [u8],
+    s: &[u8],
+    protocol: &[u8],
+    arities: &[u8],
+    ars: &[u8],
+    rules: &[usize],
+    nr: usize,
+    x: Place,
+    i: usize,
+    name: Public,
+) -> bool
+    requires { ⌜ Room (now out) factRoom × (length (now s) ≤ 2 ^ 32) × Given (now protocol) (now arities) (now rules) nr × ArityTable (now protocol) (now arities) (now rules) nr (now ars) × HasOne (now protocol) (now arities) (now rules) nr (now s) x i ⌝ }
+    ensures { λ r. ⌜ ((p : Protocol) (m : Node) → IndexOf (now (protocol .entry)) (now (arities .entry)) (now (rules .entry)) nr p → OneOf p (now (s .entry)) x i m → r ≡ sameTerm (argumentAt p (x .part) (x .number) i m) (leaf public (name .0))) ⌝ }
+{
+    let a = nodes::node_fact(
+        out,
+        0,
+        s,
+        protocol,
+        arities,
+        ars,
+        rules,
+        nr,
+        x,
+        Wanted::One(i),
+    );
+    let e = put_public(out, a.end, name);
+    same_parts(out, a.end, e)
+}

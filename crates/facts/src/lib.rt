@@ -1,0 +1,5 @@
+// The facts of nodes: their canonical bytes, and when two are the same.
+
+pub mod writing; // the canonical bytes of a fact, or of one argument of it
+pub mod nodes; // of a node's fact
+pub mod compare; // two facts, two arguments, an argument and a public name

@@ -1,0 +1,103 @@
+// The canonical bytes of a fact at a place of a rule, with the values of a node filled in.
+ghost use mathlib.Core.Path.{_≡_};
+ghost use mathlib.Core.List.{List};
+ghost use Prim.Native.Nat.{ℕ, _^_, _≤_};
+ghost use lib.ListN.{length};
+ghost use Rattle.number.specs.Reading.{got, many};
+ghost use Rattle.term.specs.Term.{Term};
+ghost use Rattle.term.specs.Reader.{term};
+ghost use Rattle.protocol.specs.Index.{Placed};
+ghost use Rattle.steps.specs.Values.Parts.{noTerm};
+ghost use Rattle.facts.specs.Writing.{FactReady, FactDone, ArgumentReady, ArgumentDone, WantedReady, WantedDone};
+use term::Part;
+
+// The arguments of a fact that are written: all of them, or the one of a number, from 0.
+pub enum Wanted {
+    All,
+    One(usize),
+}
+
+// The places of k values that stand one behind the other from a place on, each into its entry.
+pub fn value_places(s: &[u8], arities: &[u8], at: usize, k: usize, starts: &mut [usize])
+    requires { ⌜ (length (now s) ≤ 2 ^ 32) × (k ≤ length (now starts)) ⌝ }
+    ensures kept { λ r. ⌜ length (now (starts .exit)) ≡ length (now (starts .entry)) ⌝ }
+    ensures told { λ r. ⌜ ((vs : List Term) (e : ℕ) → many (term (now (s .entry)) (now (arities .entry))) k at ≡ got vs e → Placed (term (now (s .entry)) (now (arities .entry))) noTerm (now (starts .exit)) vs k) ⌝ }
+{
+    let mut i = at;
+    let mut v: usize = 0;
+    while v < k {
+        match term::term_end(s, arities, i) {
+            Part::End(e, _) => {
+                starts[v] = i;
+                i = e;
+                v += 1;
+            }
+            Part::Fault => {
+                return;
+            }
+        }
+    }
+}
+
+// Writes the canonical bytes of the fact at a place of src, filled in with the values, into the part of the output that starts at o; the
+// place behind them. The value of variable i lies in `vals` from the i-th of `starts` on.
+pub fn fact_into(
+    out: &mut [u8],
+    o: usize,
+    src: &[u8],
+    place: usize,
+    arities: &[u8],
+    ars: &[u8],
+    vals: &[u8],
+    starts: &[usize],
+) -> usize
+    requires { ⌜ FactReady (now arities) (now ars) (now vals) (now starts) (now src) place (length (now out)) o ⌝ }
+    ensures { λ r. ⌜ FactDone (now (arities .entry)) (now (ars .entry)) (now (vals .entry)) (now (starts .entry)) (now (src .entry)) place (now (out .entry)) o (now (out .exit)) r ⌝ }
+{
+    let y = protocol::places::symbol_of(src, ars, place);
+    let k = ars[y] as usize;
+    let at = protocol::places::term_at(src, arities, ars, place, 0);
+    let n = canonical::canonical_into(out, o, src, at, k, arities, vals, starts);
+    n.o
+}
+
+// Writes the canonical bytes of argument x of that fact.
+pub fn argument_into(
+    out: &mut [u8],
+    o: usize,
+    src: &[u8],
+    place: usize,
+    x: usize,
+    arities: &[u8],
+    ars: &[u8],
+    vals: &[u8],
+    starts: &[usize],
+) -> usize
+    requires { ⌜ ArgumentReady (now arities) (now ars) (now vals) (now starts) (now src) place (length (now out)) o x ⌝ }
+    ensures { λ r. ⌜ ArgumentDone (now (arities .entry)) (now (ars .entry)) (now (vals .entry)) (now (starts .entry)) (now (src .entry)) place (now (out .entry)) o x (now (out .exit)) r ⌝ }
+{
+    let at = protocol::places::term_at(src, arities, ars, place, x);
+    let n = canonical::canonical_into(out, o, src, at, 1, arities, vals, starts);
+    n.o
+}
+
+// Writes the canonical bytes of the arguments that are wanted.
+pub fn wanted_into(
+    out: &mut [u8],
+    o: usize,
+    src: &[u8],
+    place: usize,
+    wanted: Wanted,
+    arities: &[u8],
+    ars: &[u8],
+    vals: &[u8],
+    starts: &[usize],
+) -> usize
+    requires { ⌜ WantedReady (now arities) (now ars) (now vals) (now starts) (now src) place (length (now out)) o wanted ⌝ }
+    ensures { λ r. ⌜ WantedDone (now (arities .entry)) (now (ars .entry)) (now (vals .entry)) (now (starts .entry)) (now (src .entry)) place (now (out .entry)) o wanted (now (out .exit)) r ⌝ }
+{
+    match wanted {
+        Wanted::All => fact_into(out, o, src, place, arities, ars, vals, starts),
+        Wanted::One(x) => argument_into(out, o, src, place, x, arities, ars, vals, starts),
+    }
+}
