@@ -16,6 +16,8 @@ use Rattle.steps.specs.Runs.{rewrittens}
 pub mod Laws
 -- what the code answers
 pub mod Code
+-- what a good answer says of the nodes
+pub mod Good
 
 -- "An item is .. 3 graph, .. 5 steps where "file" stands."
 abbrev pub stepsItem : ℕ

@@ -12,6 +12,7 @@ ghost use Rattle.steps.specs.Values.Scan.{SomeNodes};
 ghost use Rattle.steps.specs.Values.Filled.{ArityTable};
 ghost use Rattle.steps.specs.Causes.{nodeRuling, listRuling, stepsItem};
 ghost use Rattle.steps.specs.Causes.Code.{rulingOf, counted};
+ghost use Rattle.steps.specs.Causes.Good.{WhereGood};
 use crate::names;
 use crate::nodes;
 use crate::nodes::Nodes;
@@ -64,7 +65,9 @@ pub fn rule_steps(
     places: &mut [usize],
 ) -> Judged
     requires { ⌜ (length (now s) ≤ 2 ^ 32) × (512 ≤ length (now places)) × Given (now protocol) (now arities) (now rules) nr × ArityTable (now protocol) (now arities) (now rules) nr (now ars) ⌝ }
-    ensures { λ r. ⌜ ((p : Protocol) → IndexOf (now (protocol .entry)) (now (arities .entry)) (now (rules .entry)) nr p → rulingOf r ≡ counted (listRuling p stepsItem (steps p (now (s .entry))))) ⌝ }
+    ensures kept { λ r. ⌜ length (now (places .exit)) ≡ length (now (places .entry)) ⌝ }
+    ensures ruled { λ r. ⌜ ((p : Protocol) → IndexOf (now (protocol .entry)) (now (arities .entry)) (now (rules .entry)) nr p → rulingOf r ≡ counted (listRuling p stepsItem (steps p (now (s .entry))))) ⌝ }
+    ensures good { λ r. ⌜ ((p : Protocol) → IndexOf (now (protocol .entry)) (now (arities .entry)) (now (rules .entry)) nr p → WhereGood p (now (s .entry)) (now (places .exit)) r) ⌝ }
 {
     match nodes::read_steps(s, protocol, arities, rules, nr, places) {
         Nodes::End(n, _) => rule_nodes(s, protocol, arities, ars, rules, nr, places, n),
