@@ -7,7 +7,7 @@ use crate::number::{Fault, Read, Reader};
 use crate::property;
 use crate::protocol::{Fact, Protocol};
 use crate::refusal::{refuse, refuse_first, File, Judged, Refusal};
-use crate::steps::{names_made_once, nodes, read_steps, MOST_FILLED_IN_SYMBOLS};
+use crate::steps::{names_made_once, nodes, read_steps, Node, MOST_FILLED_IN_SYMBOLS};
 use crate::term::{Prefix, Term};
 use crate::writer;
 use std::fmt;
@@ -107,7 +107,7 @@ fn write_out(bytes: &[u8], output: &mut [u8]) -> Judged<Outcome> {
 }
 
 /// Causes 3 and 4.
-fn fit_protocol(bytes: &[u8]) -> Judged<Protocol> {
+pub fn fit_protocol(bytes: &[u8]) -> Judged<Protocol> {
     let protocol = File::Protocol.layout(Protocol::read(bytes))?;
     refuse_first(4, &protocol.rules, |rule| !rule.meets_conditions())?;
     Ok(protocol)
@@ -146,13 +146,19 @@ fn ruling(protocol: &Protocol, property: &property::Formula, graph: &[u8]) -> Ju
     }
 }
 
-/// "steps 3 and 6, 7, 8, 9, 14"
-fn drawn(protocol: &Protocol, steps: &[u8]) -> Judged<Vec<u8>> {
+/// "steps 3 and 6, 7, 8, 9"
+pub fn ruled_steps(protocol: &Protocol, steps: &[u8]) -> Judged<Vec<Node>> {
     let mut reader = Reader::new(steps);
     let list = read_steps(File::Steps, &mut reader, protocol)?;
     File::Steps.layout(reader.finish())?;
     let nodes = nodes(&list)?;
     names_made_once(&nodes)?;
+    Ok(nodes)
+}
+
+/// The graph; cause 14.
+fn drawn(protocol: &Protocol, steps: &[u8]) -> Judged<Vec<u8>> {
+    let nodes = ruled_steps(protocol, steps)?;
     let mut graph = steps.to_vec();
     write_edges(&writer::edges(protocol, &nodes)?, &mut graph);
     Ok(graph)

@@ -1,5 +1,5 @@
 //! Terms in words: `x3` a variable, `p3` a public name, `n3` a fresh name, `one`, `enc(..)` and so on,
-//! `f3(..)` a free function; `f3` alone where it has no argument.
+//! `f3(..)` a free function; `f3` alone where it has no argument. And bytes, with such terms among them.
 
 use crate::term::{Fresh, Public, Term, FREE, ONE};
 
@@ -66,6 +66,40 @@ fn named(name: &str, arguments: Vec<Term>) -> Term {
     }
 }
 
+/// The bytes that the words stand for, blanks between them: a byte is two capital hexadecimal digits; a
+/// term in words is its encoding; `3*( .. )` is what stands between the brackets, three times. Panics
+/// where they stand for none.
+pub fn bytes(words: &str) -> Vec<u8> {
+    let mut words = words.split_whitespace();
+    let (bytes, closed) = bytes_until_closed(&mut words);
+    assert!(!closed, "a bracket too many");
+    bytes
+}
+
+/// Reads to the end of the words, or past the bracket that closes; says which.
+fn bytes_until_closed<'a>(words: &mut impl Iterator<Item = &'a str>) -> (Vec<u8>, bool) {
+    let mut bytes = Vec::new();
+    while let Some(word) = words.next() {
+        if word == ")" {
+            return (bytes, true);
+        }
+        if let Some(times) = word.strip_suffix("*(") {
+            let (part, closed) = bytes_until_closed(words);
+            assert!(closed, "no bracket closes {word}");
+            bytes.extend(part.repeat(times.parse().expect("a decimal number")));
+        } else {
+            bytes.extend(byte(word).map_or_else(|| parse(word).encoded(), |byte| vec![byte]));
+        }
+    }
+    (bytes, false)
+}
+
+fn byte(word: &str) -> Option<u8> {
+    let capital = |digit: char| digit.is_ascii_digit() || ('A'..='F').contains(&digit);
+    let is_byte = word.len() == 2 && word.chars().all(capital);
+    is_byte.then(|| u8::from_str_radix(word, 16).expect("two hexadecimal digits"))
+}
+
 #[cfg(test)]
 mod tests {
     use super::*;
@@ -80,5 +114,16 @@ mod tests {
         ] {
             assert_eq!(show(&parse(words)), words);
         }
+    }
+    #[test]
+    fn bytes_and_terms_and_repetition() {
+        assert_eq!(bytes(""), []);
+        assert_eq!(bytes("00 7F FF"), [0, 127, 255]);
+        assert_eq!(bytes("F0 f0 n128"), [240, 13, 2, 128, 1]);
+        assert_eq!(
+            bytes("2*( 07 ) 3*( n0 ) 0*( 01 )"),
+            [7, 7, 2, 0, 2, 0, 2, 0]
+        );
+        assert_eq!(bytes("2*( 2*( 06 ) h(one) )"), [6, 6, 6, 3, 6, 6, 6, 3]);
     }
 }
