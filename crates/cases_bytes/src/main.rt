@@ -83,13 +83,13 @@ fn declare(free: &[u8]) -> [u8; 29] {
 }
 
 fn show(s: &[u8], at: usize, body: usize, end: usize)
-    requires { ⌜ (at + 4 ≤ body) × (body ≤ end) × (end ≤ length (now s)) × (length (now s) ≤ 65536) ⌝ }
+    requires { ⌜ (at + 5 ≤ body) × (body ≤ end) × (end ≤ length (now s)) × (length (now s) ≤ 65536) ⌝ }
 {
     let kind = s[at];
     if kind == 0 {
         show_number(&s[body..end]);
     } else {
-        let slots = declare(&s[at + 2..body - 2]);
+        let slots = declare(&s[at + 3..body - 2]);
         show_term(&s[body..end], &slots);
     }
 }

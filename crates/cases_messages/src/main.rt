@@ -38,12 +38,15 @@ fn show_form(free: &[u8], term: &[u8]) {
             }
         }
         Written::Refused(r) => {
-            io::write_all(1, b" refused ");
-            io::print_decimal(1, r.number as u64);
-            io::write_all(1, b" ");
-            io::print_decimal(1, r.item as u64);
+            case_file::show_refusal(r.number as u64, r.item as u64);
         }
     }
+}
+
+fn show(s: &[u8], at: usize, body: usize, end: usize)
+    requires { ⌜ (at + 5 ≤ body) × (body ≤ end) × (end ≤ length (now s)) × (length (now s) ≤ 65536) ⌝ }
+{
+    show_form(&s[at + 3..body - 2], &s[body..end]);
 }
 
 fn cases(s: &[u8])
@@ -55,7 +58,7 @@ fn cases(s: &[u8])
         match case_file::case_at(s, at) {
             Case::Bytes(body, end) => {
                 io::print_decimal(1, number);
-                show_form(&s[at + 2..body - 2], &s[body..end]);
+                show(s, at, body, end);
                 io::write_all(1, b"\n");
                 at = end;
                 number += 1;

@@ -1,16 +1,20 @@
-//! The cases under `tests/cases`, their expected text, and their bytes for a program that has them
-//! built in.
+//! The cases under `tests/cases`, their expected text, and their bytes for the test programs.
 //!
 //! A line is empty, a comment (`#` first), or a case: fields apart by ` | `.
 //!
 //! - bytes.txt: `number | LABEL | BYTES` and `term | LABEL | ARITIES | BYTES`
 //! - messages.txt: `LABEL | ARITIES | BYTES`
+//! - steps.txt: `LABEL | PROTOCOL | BYTES`
 //!
-//! ARITIES are those of the free functions, in decimal, free function 0 first; BYTES are hexadecimal.
-//! Either may be empty. A case's number is its place among the cases of its file, from 1.
+//! ARITIES are those of the free functions, in decimal, free function 0 first; PROTOCOL and BYTES are
+//! bytes as `notation::bytes` reads them. Each may be empty. A case's number is its place among the cases
+//! of its file, from 1.
 
+use crate::calls::{fit_protocol, ruled_steps, Outcome};
 use crate::canonical::canonical_form;
+use crate::notation;
 use crate::number::{Read, Reader};
+use crate::refusal::Judged;
 use crate::term::{Prefix, Signature};
 
 /// What is asked of the bytes.
@@ -19,21 +23,23 @@ pub enum Kind {
     Number,
     Term,
     Message,
+    Steps,
 }
 
 #[derive(Clone, Debug)]
 pub struct Case {
     pub kind: Kind,
     pub label: String,
-    pub signature: Signature,
+    /// What the bytes are read under: the arity of each free function, or of a step list the protocol file.
+    pub under: Vec<u8>,
     pub bytes: Vec<u8>,
 }
 
 /// The cases of bytes.txt.
 pub fn bytes_cases(text: &str) -> Vec<Case> {
     let case = |fields: &[&str]| match fields {
-        ["number", label, bytes] => case(Kind::Number, label, "", bytes),
-        ["term", label, arities, bytes] => case(Kind::Term, label, arities, bytes),
+        ["number", label, bytes] => case(Kind::Number, label, vec![], bytes),
+        ["term", label, arities, bytes] => case(Kind::Term, label, decimal(arities), bytes),
         _ => panic!("no case: {fields:?}"),
     };
     lines(text).map(|fields| case(&fields)).collect()
@@ -42,7 +48,16 @@ pub fn bytes_cases(text: &str) -> Vec<Case> {
 /// The cases of messages.txt.
 pub fn message_cases(text: &str) -> Vec<Case> {
     let case = |fields: &[&str]| match fields {
-        [label, arities, bytes] => case(Kind::Message, label, arities, bytes),
+        [label, arities, bytes] => case(Kind::Message, label, decimal(arities), bytes),
+        _ => panic!("no case: {fields:?}"),
+    };
+    lines(text).map(|fields| case(&fields)).collect()
+}
+
+/// The cases of steps.txt.
+pub fn steps_cases(text: &str) -> Vec<Case> {
+    let case = |fields: &[&str]| match fields {
+        [label, protocol, bytes] => case(Kind::Steps, label, notation::bytes(protocol), bytes),
         _ => panic!("no case: {fields:?}"),
     };
     lines(text).map(|fields| case(&fields)).collect()
@@ -55,26 +70,35 @@ fn lines(text: &str) -> impl Iterator<Item = Vec<&str>> {
     cases.map(|line| line.split('|').map(str::trim).collect())
 }
 
-fn case(kind: Kind, label: &str, arities: &str, bytes: &str) -> Case {
-    let arity = |word: &str| word.parse().expect("an arity in decimal");
-    let byte = |word: &str| u8::from_str_radix(word, 16).expect("a byte in hexadecimal");
+fn case(kind: Kind, label: &str, under: Vec<u8>, bytes: &str) -> Case {
     Case {
         kind,
         label: label.to_string(),
-        signature: Signature {
-            free: arities.split_whitespace().map(arity).collect(),
-        },
-        bytes: bytes.split_whitespace().map(byte).collect(),
+        under,
+        bytes: notation::bytes(bytes),
     }
 }
 
+fn decimal(arities: &str) -> Vec<u8> {
+    let arity = |word: &str| word.parse().expect("an arity in decimal");
+    arities.split_whitespace().map(arity).collect()
+}
+
 impl Case {
+    /// The free functions of a term or a message.
+    pub fn signature(&self) -> Signature {
+        Signature {
+            free: self.under.iter().map(|arity| *arity as usize).collect(),
+        }
+    }
+
     /// The expected outcome, without the case's number.
     pub fn outcome(&self) -> String {
         let outcome = match self.kind {
             Kind::Number => self.number(),
             Kind::Term => self.term(),
             Kind::Message => self.message(),
+            Kind::Steps => Ok(self.steps()),
         };
         outcome.unwrap_or_else(|_| "fault".to_string())
     }
@@ -87,25 +111,44 @@ impl Case {
 
     fn term(&self) -> Read<String> {
         let mut reader = Reader::new(&self.bytes);
-        let prefix = Prefix::read(&mut reader, &self.signature)?;
+        let prefix = Prefix::read(&mut reader, &self.signature())?;
         Ok(format!("end {} symbols {}", reader.at(), prefix.symbols()))
     }
 
     fn message(&self) -> Read<String> {
         let mut reader = Reader::new(&self.bytes);
-        let prefix = Prefix::read(&mut reader, &self.signature)?;
+        let prefix = Prefix::read(&mut reader, &self.signature())?;
         reader.finish()?;
         Ok(hexadecimal(&canonical_form(&prefix.tree()).encoded()))
     }
 
-    /// The case for a program that has it built in: 0 for a number and 1 for a term or a message; the count
-    /// of arities and each arity; the length of the bytes, low byte first, in two bytes; the bytes.
+    fn steps(&self) -> String {
+        match self.nodes() {
+            Ok(nodes) => format!("good {nodes}"),
+            Err(refusal) => Outcome::Refused(refusal).to_string(),
+        }
+    }
+
+    /// How many nodes there are, where no cause from 3 to 9 is there.
+    fn nodes(&self) -> Judged<usize> {
+        let protocol = fit_protocol(&self.under)?;
+        Ok(ruled_steps(&protocol, &self.bytes)?.len())
+    }
+
+    /// The case for a test program: 0 for a number, 1 for a term or a message, 2 for a step list; the
+    /// length of what it is read under, and that; the length of the bytes, and the bytes. A length is two
+    /// bytes, low byte first.
     pub fn data(&self) -> Vec<u8> {
-        let mut data = vec![u8::from(self.kind != Kind::Number)];
-        data.push(self.signature.free.len() as u8);
-        data.extend(self.signature.free.iter().map(|arity| *arity as u8));
-        data.extend((self.bytes.len() as u16).to_le_bytes());
-        data.extend(&self.bytes);
+        let mut data = vec![match self.kind {
+            Kind::Number => 0,
+            Kind::Term | Kind::Message => 1,
+            Kind::Steps => 2,
+        }];
+        for part in [&self.under, &self.bytes] {
+            let length = u16::try_from(part.len()).expect("a length of two bytes");
+            data.extend(length.to_le_bytes());
+            data.extend(part);
+        }
         data
     }
 }

@@ -1,12 +1,15 @@
 //! The case files say what their labels say.
 
-use reference::cases::{bytes_cases, message_cases, Kind};
+use reference::cases::{bytes_cases, data, message_cases, steps_cases, Case, Kind};
 use reference::notation::parse;
 use reference::number::{Reader, LARGEST};
-use reference::term::Prefix;
+use reference::protocol::Protocol;
+use reference::refusal::File;
+use reference::term::{Prefix, Term};
 
 const BYTES: &str = include_str!("../../../tests/cases/bytes.txt");
 const MESSAGES: &str = include_str!("../../../tests/cases/messages.txt");
+const STEPS: &str = include_str!("../../../tests/cases/steps.txt");
 
 #[test]
 fn a_message_is_its_label() {
@@ -14,7 +17,7 @@ fn a_message_is_its_label() {
     assert!(cases.len() > 100);
     for case in &cases {
         let mut reader = Reader::new(&case.bytes);
-        let prefix = Prefix::read(&mut reader, &case.signature).expect(&case.label);
+        let prefix = Prefix::read(&mut reader, &case.signature()).expect(&case.label);
         reader.finish().expect(&case.label);
         assert!(!prefix.has_variable(), "{}", case.label);
         if case.label.starts_with(':') {
@@ -47,4 +50,74 @@ fn a_term_that_is_said_to_be_cut_off_is_a_fault() {
     let outcomes: Vec<String> = cut_off.map(|case| case.outcome()).collect();
     assert!(outcomes.len() > 20);
     assert!(outcomes.iter().all(|outcome| outcome == "fault"));
+}
+
+/// The label of a step list is its outcome by document 01, a colon, and words.
+#[test]
+fn a_step_list_has_the_outcome_of_its_label() {
+    let cases = steps_cases(STEPS);
+    assert!(cases.len() > 300);
+    for case in &cases {
+        let (outcome, _) = case.label.split_once(": ").expect(&case.label);
+        assert_eq!(case.outcome(), outcome, "{}", case.label);
+    }
+}
+
+#[test]
+fn a_step_list_has_as_many_symbols_as_its_label_says() {
+    let mut counted = 0;
+    for case in &steps_cases(STEPS) {
+        if let Some(count) = count_of_symbols(&case.label) {
+            assert!(largest(case).contains(&count), "{}", case.label);
+            counted += 1;
+        }
+    }
+    assert!(counted > 50);
+}
+
+/// The number before the first word `symbols`.
+fn count_of_symbols(label: &str) -> Option<usize> {
+    let label = label.replace(',', "");
+    let (before, _) = label.split_once(" symbols")?;
+    before.split_whitespace().last()?.parse().ok()
+}
+
+/// The symbols of the largest value and of the largest filled-in term.
+fn largest(case: &Case) -> [usize; 2] {
+    let protocol = Protocol::read(&case.under).expect(&case.label);
+    let mut reader = Reader::new(&case.bytes);
+    let mut largest = [0, 0];
+    for _ in 0..reader.number().expect(&case.label) {
+        let number = reader.number().expect(&case.label);
+        let rule = protocol.rule(number).expect(&case.label);
+        let mut value = || Prefix::read(&mut reader, &protocol.signature).expect(&case.label);
+        let sizes: Vec<usize> = rule.variables.iter().map(|_| value().symbols()).collect();
+        let terms = rule.facts().flat_map(|fact| &fact.terms);
+        let filled_in = terms.map(|term| filled_in(term, &sizes));
+        largest[0] = sizes.iter().copied().fold(largest[0], usize::max);
+        largest[1] = filled_in.fold(largest[1], usize::max);
+    }
+    largest
+}
+
+/// The symbols of a term with values of these sizes in place of its variables.
+fn filled_in(term: &Term, sizes: &[usize]) -> usize {
+    if let Term::Variable(number) = term {
+        return sizes[*number as usize];
+    }
+    let parts = term.arguments().iter().map(|part| filled_in(part, sizes));
+    1 + parts.sum::<usize>()
+}
+
+/// A test program reads 65,536 bytes at most, and a step list's cause 2 is not its matter.
+#[test]
+fn the_cases_fit_their_programs() {
+    let steps = steps_cases(STEPS);
+    for cases in [&bytes_cases(BYTES), &message_cases(MESSAGES), &steps] {
+        assert!(data(cases).len() <= 65_536);
+    }
+    for case in &steps {
+        assert_eq!(File::Protocol.within_limit(&case.under), Ok(()));
+        assert_eq!(File::Steps.within_limit(&case.bytes), Ok(()));
+    }
 }

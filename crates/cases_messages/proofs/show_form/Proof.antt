@@ -1,15 +1,14 @@
-use lib.Seq.{length-take-le}
-use native.Mathlib.Omega.{arith}
 use mathlib.Core.Path.{sym}
+use native.Mathlib.Omega.{arith}
+use lib.Seq.{length-take-le}
 use borrow.Author.Needs.{needs}
 use Rattle.cases_messages.proofs.show_form.Statement.{statement}
 use Rattle.cases_messages.proofs.show_form.Tie as tie
 use Rattle.cases_messages.proofs.show_form.Reads as reads
 use Rattle.cases_messages.proofs.show_form.Lts as lts
+use Rattle.case_file.proofs.show_refusal.Reads as show-refusal-reads
 use Rattle.cases_messages.proofs.show_bytes.Reads as show-bytes-reads
 use Rattle.checker.proofs.canonical_form.Reads as canonical-form-reads
-use Rattle.io.proofs.print_decimal.Reads as print-decimal-reads
-use Rattle.io.proofs.write_all.Reads as write-all-reads
 use Rattle.octets.proofs.copy_into.Reads as copy-into-reads
 
 -- src/main.rt:25:9
@@ -82,37 +81,17 @@ show-bytes-requires c κs = search needs
 enum-known-r : tie.Need-enum-known-r
 enum-known-r c = search needs
 
--- src/main.rt:41:30
-slice-aggregate-write-all : tie.Need-slice-aggregate-write-all
-slice-aggregate-write-all c = search needs
+-- src/main.rt:41:37
+cast-show-refusal : tie.Need-cast-show-refusal
+cast-show-refusal c = search needs
+
+-- src/main.rt:41:54
+cast-show-refusal-2 : tie.Need-cast-show-refusal-2
+cast-show-refusal-2 c = search needs
 
 -- src/main.rt:41:13
-write-all-requires : tie.Need-write-all-requires
-write-all-requires c κs = search needs
-
--- src/main.rt:42:34
-cast-print-decimal : tie.Need-cast-print-decimal
-cast-print-decimal c = search needs
-
--- src/main.rt:42:13
-print-decimal-requires : tie.Need-print-decimal-requires
-print-decimal-requires c κs = search needs
-
--- src/main.rt:43:30
-slice-aggregate-write-all-2 : tie.Need-slice-aggregate-write-all-2
-slice-aggregate-write-all-2 c = search needs
-
--- src/main.rt:43:13
-write-all-requires-2 : tie.Need-write-all-requires-2
-write-all-requires-2 c κs = search needs
-
--- src/main.rt:44:34
-cast-print-decimal-2 : tie.Need-cast-print-decimal-2
-cast-print-decimal-2 c = search needs
-
--- src/main.rt:44:13
-print-decimal-requires-2 : tie.Need-print-decimal-requires-2
-print-decimal-requires-2 c κs = search needs
+show-refusal-requires : tie.Need-show-refusal-requires
+show-refusal-requires c κs = search needs
 
 -- src/main.rt:23:1
 returns-2 : tie.Need-returns-2
@@ -147,14 +126,9 @@ show-form-spec =
     slice-aggregate-show-bytes
     show-bytes-requires
     enum-known-r
-    slice-aggregate-write-all
-    write-all-requires
-    cast-print-decimal
-    print-decimal-requires
-    slice-aggregate-write-all-2
-    write-all-requires-2
-    cast-print-decimal-2
-    print-decimal-requires-2
+    cast-show-refusal
+    cast-show-refusal-2
+    show-refusal-requires
     returns-2
     returns-3
     returns-4)

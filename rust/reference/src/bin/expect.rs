@@ -1,25 +1,26 @@
 //! Makes the expected text of the test programs from the cases under `tests/cases`.
 
-use reference::cases::{bytes_cases, data, expected, hexadecimal, message_cases, Case};
+use reference::cases::{
+    bytes_cases, data, expected, hexadecimal, message_cases, steps_cases, Case,
+};
 use std::path::Path;
 use std::process::ExitCode;
 
 const HELP: &str = "\
-expect bytes          the expected text of cases_bytes, from tests/cases/bytes.txt
-expect messages       the expected text of cases_messages, from tests/cases/messages.txt
-expect data bytes     the bytes of those cases for a program that has them built in
-expect data messages  likewise
+expect NAME           the expected text of the program cases_NAME, from tests/cases/NAME.txt
+expect data NAME      the bytes of those cases for that program
 expect --help         this text
 
-The expected text has a line for each case: the case's number (from 1, in the file's order), a blank,
-and the outcome:
-  a number   `value V next E` (E: bytes read) or `fault`
-  a term     `end E symbols N` (E: bytes read) or `fault`
-  a message  the bytes of its canonical form, two capital hexadecimal digits each, a blank between two
+NAME is bytes, messages or steps. The expected text has a line for each case: the case's number (from 1, in
+the file's order), a blank, and the outcome:
+  a number     `value V next E` (E: bytes read) or `fault`
+  a term       `end E symbols N` (E: bytes read) or `fault`
+  a message    the bytes of its canonical form, two capital hexadecimal digits each, a blank between two
+  a step list  `good N` (N: nodes) or `refused NUMBER ITEM`, by causes 3 to 9 of document 01
 
-The data has for each case: 0 for a number or 1 for a term or message; the count of free functions and
-each arity; the length of the bytes in two bytes, low byte first; the bytes. It is printed in hexadecimal,
-a line for each case.
+The data has for each case: 0 for a number, 1 for a term or message, 2 for a step list; the length of what
+the case is read under, and that: the arity of each free function, or the protocol file; the length of the
+bytes; the bytes. A length is two bytes, low byte first. It is printed in hexadecimal, a line for each case.
 ";
 
 fn main() -> ExitCode {
@@ -48,6 +49,7 @@ fn cases(name: &str) -> Option<Vec<Case>> {
     match name {
         "bytes" => Some(bytes_cases(&text("bytes.txt"))),
         "messages" => Some(message_cases(&text("messages.txt"))),
+        "steps" => Some(steps_cases(&text("steps.txt"))),
         _ => None,
     }
 }
