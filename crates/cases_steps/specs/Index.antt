@@ -1,0 +1,33 @@
+-- What the judgement of a fit protocol leaves is what the ruling of a step list asks for.
+use Prim.Native.Nat.{ℕ, _^_, _≤_}
+use mathlib.Core.List.{List}
+use mathlib.Core.Path.{_≡_, refl, subst}
+use lib.ListN.{length, take}
+use native.Mathlib.Omega.{arith}
+use Rattle.protocol.specs.Index.{Entries}
+use Rattle.rules.specs.Fit.Laws.{Indexes}
+use Rattle.rules.specs.declared.fit.Judged.{Judged}
+use Rattle.rules.specs.declared.fit.Judged.the-variants as jd
+use Rattle.steps.specs.Index.{Given}
+use Rattle.steps.specs.Values.Filled.{ArityTable, index-arities}
+
+module _ (s arities ars flags places : List ℕ) (r : Judged) (ns nr : ℕ) (is : r ≡ jd.Sound ns nr) (index : Indexes s r arities ars flags places) where
+  entries : Entries s ns nr arities ars flags places
+  entries = subst (λ (q : Judged). Indexes s q arities ars flags places) is index
+
+  pub sound-few : ns ≤ 36
+  sound-few = entries .few-symbols
+
+  pub sound-given : length s ≤ 2 ^ 32 → length arities ≡ 29 → 64 ≤ length places → Given s arities places nr
+  sound-given short slots many =
+      let few = entries .few-rules in
+      record {
+        protocol = entries .is;
+        index = record { ns = ns; ars = ars; flags = flags; entries = entries; same = refl };
+        slots-many = slots;
+        places-many = omega arith;
+        short = short;
+      }
+
+  pub sound-arities : ArityTable s arities places nr (take ns ars)
+  sound-arities = index-arities entries

@@ -1,0 +1,2 @@
+-- the index of a fit protocol
+pub mod Index
