@@ -46,7 +46,7 @@ pub mod calls;
 
 // For tests.
 
-/// Terms in words.
+/// Terms in words, and bytes with such terms among them.
 pub mod notation;
 
 /// The cases of the test programs and their expected text.
