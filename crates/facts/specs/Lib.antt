@@ -2,5 +2,7 @@
 
 -- the canonical bytes of a fact or of one argument: what is asked, what is promised
 pub mod Writing
+-- how many facts a node has
+pub mod Counts
 -- the calls over the facts of nodes: a fact by its node, list and number
 pub mod Calls

@@ -128,24 +128,26 @@ written-short len out l h = omega (arith, length-take-le len out l)
 
 -- ── as the code finds its rule: written out, or at a place of the protocol file ──
 module _ {file table rules : List ℕ} {nr : ℕ} {ars : List ℕ} (known : ArityTable file table rules nr ars) {p : Protocol} (i : IndexOf file table rules nr p)
-    (s : List ℕ) (short : length s ≤ 2 ^ 32) (number at : ℕ) (x : Node) (e : ℕ) (from : NodeFrom p s number at x e) where
-  pub written-filling :
-      (len : ℕ) (out : List ℕ) (w : WrittenAs p number len out) → Bytes (take len out) → FillsRule table ars s (take len out) 0 at (w .its) (x .values) e
-  written-filling len out w bytes =
+    (number : ℕ) where
+  pub written-here : (len : ℕ) (out : List ℕ) (w : WrittenAs p number len out) → Bytes (take len out) → Here (rule (take len out) table ars) (w .its) 0
+  written-here len out w bytes =
       let r = written-reads p (index-within i) number len out w bytes in
-      record {
-        is = written-rule i s short number at x e from len out w bytes;
-        here = record { next = r .next; reads = ap₂ (λ (a b : List ℕ). rule (take len out) a b 0) (index-slots i) (known p i) ∙ r .reads };
-      }
+      record { next = r .next; reads = ap₂ (λ (a b : List ℕ). rule (take len out) a b 0) (index-slots i) (known p i) ∙ r .reads }
 
-  pub placed-filling :
-      (place : ℕ) (w : PlacedAs p file table (take (i .ns) (i .ars)) number place) → FillsRule table ars s file place at (w .its) (x .values) e
-  placed-filling place w = record {
-    is = placed-rule i s short number at x e from place w;
-    here =
-        subst (λ (l : List ℕ). Here (rule file table l) (w .its) place)
-        (i .entries .tabled ∙ ap (λ (q : Protocol). factArities (q .symbols)) (i .same) ∙ sym (known p i)) (w .here);
-  }
+  pub placed-here : (place : ℕ) (w : PlacedAs p file table (take (i .ns) (i .ars)) number place) → Here (rule file table ars) (w .its) place
+  placed-here place w =
+      subst (λ (l : List ℕ). Here (rule file table l) (w .its) place)
+      (i .entries .tabled ∙ ap (λ (q : Protocol). factArities (q .symbols)) (i .same) ∙ sym (known p i)) (w .here)
+
+  module _ (s : List ℕ) (short : length s ≤ 2 ^ 32) (at : ℕ) (x : Node) (e : ℕ) (from : NodeFrom p s number at x e) where
+    pub written-filling :
+        (len : ℕ) (out : List ℕ) (w : WrittenAs p number len out) → Bytes (take len out) → FillsRule table ars s (take len out) 0 at (w .its) (x .values) e
+    written-filling len out w bytes =
+        record { is = written-rule i s short number at x e from len out w bytes; here = written-here len out w bytes }
+
+    pub placed-filling :
+        (place : ℕ) (w : PlacedAs p file table (take (i .ns) (i .ars)) number place) → FillsRule table ars s file place at (w .its) (x .values) e
+    placed-filling place w = record { is = placed-rule i s short number at x e from place w; here = placed-here place w }
 
 -- the rule's test is the node's
 pub terms-test :

@@ -56,7 +56,7 @@ rule-fact-requires : tie.Need-rule-fact-requires
 rule-fact-requires c κs =
     let f = c .before .before .before .before .before .before .before .before .before .before .before .before .before .before .before .before .pre .3 in
     let w = written-at (f .index) _ _ _ (c .before .before .before .before .before .before .before .before .find-rule .ensures) _ (c .before .before .before .before .before .len .given .1) in
-    (c .before .before .own-variables .ensures .0, record { its = w .its; its-values = f .its .values; end = f .end; is = rule-fact (f .index) _ _ (λ k. c .before .before .before .before .before .before .before .before .before .before .before .before .before .before .shared-slice-known .given k .fits) _ _ _ _ _ (f .its) (f .end) (f .is) (w .its) (w .is) _ _ _ _ (c .before .before .before .before .before .before .before .before .before .before .before .before .before .before .before .before .pre .0) (c .before .before .own-variables .ensures .1) (written-short _ _ (w .holds .short) (c .before .before .before .before .before .before .before .before .find-rule .kept .1 .1 .1 .1 .0)) (written-filling (c .before .before .before .before .before .before .before .before .before .before .before .before .before .before .before .before .pre .2) (f .index) _ (f .is .short) _ _ (f .its) (f .end) (f .is .from) _ _ w (c .before .before .own-variables .ensures .1)) })
+    (c .before .before .own-variables .ensures .0, record { its = w .its; its-values = f .its .values; end = f .end; is = rule-fact (f .index) _ _ (λ k. c .before .before .before .before .before .before .before .before .before .before .before .before .before .before .shared-slice-known .given k .fits) _ _ _ _ _ (f .its) (f .end) (f .is) (w .its) (w .is) _ _ _ _ (c .before .before .before .before .before .before .before .before .before .before .before .before .before .before .before .before .pre .0) (c .before .before .own-variables .ensures .1) (written-short _ _ (w .holds .short) (c .before .before .before .before .before .before .before .before .find-rule .kept .1 .1 .1 .1 .0)) (written-filling (c .before .before .before .before .before .before .before .before .before .before .before .before .before .before .before .before .pre .2) (f .index) _ _ (f .is .short) _ (f .its) (f .end) (f .is .from) _ _ w (c .before .before .own-variables .ensures .1)) })
 
 -- src/nodes.rt:88:19
 enum-known-place : tie.Need-enum-known-place
@@ -71,9 +71,9 @@ rule-fact-requires-2 : tie.Need-rule-fact-requires-2
 rule-fact-requires-2 c κs =
     let f = c .before .before .before .before .before .before .before .before .before .before .before .before .before .before .pre .3 in
     let w = placed-at (f .index) _ _ _ (c .before .before .before .before .before .before .find-rule .ensures) _ (c .before .before .before .place .given .1) in
-    (c .before .variables-of .ensures, record { its = w .its; its-values = f .its .values; end = f .end; is = rule-fact (f .index) _ _ (λ k. c .before .before .before .before .before .before .before .before .before .before .before .before .shared-slice-known .given k .fits) _ _ _ _ _ (f .its) (f .end) (f .is) (w .its) (w .is) _ _ _ _ (c .before .before .before .before .before .before .before .before .before .before .before .before .before .before .pre .0) (λ k. c .before .before .before .before .before .before .before .before .before .before .before .shared-slice-known2 .given k .fits) (c .before .before .before .before .before .before .before .before .before .before .before .before .before .before .pre .1 .short) (placed-filling (c .before .before .before .before .before .before .before .before .before .before .before .before .before .before .pre .2) (f .index) _ (f .is .short) _ _ (f .its) (f .end) (f .is .from) _ w) })
+    (c .before .variables-of .ensures, record { its = w .its; its-values = f .its .values; end = f .end; is = rule-fact (f .index) _ _ (λ k. c .before .before .before .before .before .before .before .before .before .before .before .before .shared-slice-known .given k .fits) _ _ _ _ _ (f .its) (f .end) (f .is) (w .its) (w .is) _ _ _ _ (c .before .before .before .before .before .before .before .before .before .before .before .before .before .before .pre .0) (λ k. c .before .before .before .before .before .before .before .before .before .before .before .shared-slice-known2 .given k .fits) (c .before .before .before .before .before .before .before .before .before .before .before .before .before .before .pre .1 .short) (placed-filling (c .before .before .before .before .before .before .before .before .before .before .before .before .before .before .pre .2) (f .index) _ _ (f .is .short) _ (f .its) (f .end) (f .is .from) _ w) })
 
--- src/nodes.rt:92:27
+-- src/nodes.rt:105:27
 enum-told : tie.Need-enum-told
 enum-told c = search needs
 
@@ -86,7 +86,7 @@ returns : tie.Need-returns
 returns c =
     λ p x e i f.
     let w = written-at i _ _ _ (c .before .before .before .before .before .before .before .before .before .before .before .find-rule .ensures) _ (c .before .before .before .before .before .before .before .before .len .given .1) in
-    written-is _ _ _ _ _ _ _ (fact-is p _ _ _ _ _ _ x e f (w .its) (w .is)) (c .before .before .rule-fact .ensures (w .its) (x .values) e (rule-fact i _ _ (λ k. c .before .before .before .before .before .before .before .before .before .before .before .before .before .before .before .before .before .shared-slice-known .given k .fits) _ _ _ _ _ x e f (w .its) (w .is) _ _ _ _ (c .before .before .before .before .before .before .before .before .before .before .before .before .before .before .before .before .before .before .before .pre .0) (c .before .before .before .before .before .own-variables .ensures .1) (written-short _ _ (w .holds .short) (c .before .before .before .before .before .before .before .before .before .before .before .find-rule .kept .1 .1 .1 .1 .0)) (written-filling (c .before .before .before .before .before .before .before .before .before .before .before .before .before .before .before .before .before .before .before .pre .2) i _ (f .short) _ _ x e (f .from) _ _ w (c .before .before .before .before .before .own-variables .ensures .1))))
+    written-is _ _ _ _ _ _ _ (fact-is p _ _ _ _ _ _ x e f (w .its) (w .is)) (c .before .before .rule-fact .ensures (w .its) (x .values) e (rule-fact i _ _ (λ k. c .before .before .before .before .before .before .before .before .before .before .before .before .before .before .before .before .before .shared-slice-known .given k .fits) _ _ _ _ _ x e f (w .its) (w .is) _ _ _ _ (c .before .before .before .before .before .before .before .before .before .before .before .before .before .before .before .before .before .before .before .pre .0) (c .before .before .before .before .before .own-variables .ensures .1) (written-short _ _ (w .holds .short) (c .before .before .before .before .before .before .before .before .before .before .before .find-rule .kept .1 .1 .1 .1 .0)) (written-filling (c .before .before .before .before .before .before .before .before .before .before .before .before .before .before .before .before .before .before .before .pre .2) i _ _ (f .short) _ x e (f .from) _ _ w (c .before .before .before .before .before .own-variables .ensures .1))))
 
 -- src/nodes.rt:64:1
 same-length-2 : tie.Need-same-length-2
@@ -97,7 +97,7 @@ returns-2 : tie.Need-returns-2
 returns-2 c =
     λ p x e i f.
     let w = placed-at i _ _ _ (c .before .before .before .before .before .before .before .before .before .find-rule .ensures) _ (c .before .before .before .before .before .before .place .given .1) in
-    written-is _ _ _ _ _ _ _ (fact-is p _ _ _ _ _ _ x e f (w .its) (w .is)) (c .before .before .rule-fact2 .ensures (w .its) (x .values) e (rule-fact i _ _ (λ k. c .before .before .before .before .before .before .before .before .before .before .before .before .before .before .before .shared-slice-known .given k .fits) _ _ _ _ _ x e f (w .its) (w .is) _ _ _ _ (c .before .before .before .before .before .before .before .before .before .before .before .before .before .before .before .before .before .pre .0) (λ k. c .before .before .before .before .before .before .before .before .before .before .before .before .before .before .shared-slice-known2 .given k .fits) (c .before .before .before .before .before .before .before .before .before .before .before .before .before .before .before .before .before .pre .1 .short) (placed-filling (c .before .before .before .before .before .before .before .before .before .before .before .before .before .before .before .before .before .pre .2) i _ (f .short) _ _ x e (f .from) _ w)))
+    written-is _ _ _ _ _ _ _ (fact-is p _ _ _ _ _ _ x e f (w .its) (w .is)) (c .before .before .rule-fact2 .ensures (w .its) (x .values) e (rule-fact i _ _ (λ k. c .before .before .before .before .before .before .before .before .before .before .before .before .before .before .before .shared-slice-known .given k .fits) _ _ _ _ _ x e f (w .its) (w .is) _ _ _ _ (c .before .before .before .before .before .before .before .before .before .before .before .before .before .before .before .before .before .pre .0) (λ k. c .before .before .before .before .before .before .before .before .before .before .before .before .before .before .shared-slice-known2 .given k .fits) (c .before .before .before .before .before .before .before .before .before .before .before .before .before .before .before .before .before .pre .1 .short) (placed-filling (c .before .before .before .before .before .before .before .before .before .before .before .before .before .before .before .before .before .pre .2) i _ _ (f .short) _ x e (f .from) _ w)))
 
 -- src/nodes.rt:64:1
 returns-3 : tie.Need-returns-3

@@ -55,7 +55,7 @@ filled-small-requires : tie.Need-filled-small-requires
 filled-small-requires c κs =
     let f = c .before .before .before .before .before .before .before .before .before .before .before .before .before .before .pre .1 in
     let w = written-at (f .index) _ _ _ (c .before .before .before .before .before .before .before .find-rule .ensures) _ (c .before .before .before .before .len .given .1) in
-    (written-short _ _ (w .holds .short) (c .before .before .before .before .before .before .before .find-rule .kept .1 .1 .1 .1 .0), record { its = w .its; its-values = f .its .values; end = f .end; fills = written-filling (c .before .before .before .before .before .before .before .before .before .before .before .before .before .before .pre .2) (f .index) _ (f .short) _ _ (f .its) (f .end) (f .is) _ _ w (c .before .own-variables .ensures .1) }, c .before .own-variables .ensures .0)
+    (written-short _ _ (w .holds .short) (c .before .before .before .before .before .before .before .find-rule .kept .1 .1 .1 .1 .0), record { its = w .its; its-values = f .its .values; end = f .end; fills = written-filling (c .before .before .before .before .before .before .before .before .before .before .before .before .before .before .pre .2) (f .index) _ _ (f .short) _ (f .its) (f .end) (f .is) _ _ w (c .before .own-variables .ensures .1) }, c .before .own-variables .ensures .0)
 
 -- src/size_pass.rt:60:19
 enum-known-place : tie.Need-enum-known-place
@@ -70,7 +70,7 @@ filled-small-requires-2 : tie.Need-filled-small-requires-2
 filled-small-requires-2 c κs =
     let f = c .before .before .before .before .before .before .before .before .before .before .before .before .pre .1 in
     let w = placed-at (f .index) _ _ _ (c .before .before .before .before .before .find-rule .ensures) _ (c .before .before .place .given .1) in
-    (c .before .before .before .before .before .before .before .before .before .before .before .before .pre .0 .short, record { its = w .its; its-values = f .its .values; end = f .end; fills = placed-filling (c .before .before .before .before .before .before .before .before .before .before .before .before .pre .2) (f .index) _ (f .short) _ _ (f .its) (f .end) (f .is) _ w }, c .variables-of .ensures)
+    (c .before .before .before .before .before .before .before .before .before .before .before .before .pre .0 .short, record { its = w .its; its-values = f .its .values; end = f .end; fills = placed-filling (c .before .before .before .before .before .before .before .before .before .before .before .before .pre .2) (f .index) _ _ (f .short) _ (f .its) (f .end) (f .is) _ w }, c .variables-of .ensures)
 
 -- src/size_pass.rt:64:27
 enum-told : tie.Need-enum-told
@@ -82,7 +82,7 @@ returns c =
     λ p x e i f.
     let z = c .before .before .before .before .before .before .before .before .before .before .before .before .before .before .before .pre .1 .short in
     let w = written-at i _ _ _ (c .before .before .before .before .before .before .before .before .find-rule .ensures) _ (c .before .before .before .before .before .len .given .1) in
-    terms-test p _ _ _ x e f (w .its) (w .is) _ (c .filled-small .ensures (w .its) (x .values) e (written-filling (c .before .before .before .before .before .before .before .before .before .before .before .before .before .before .before .pre .2) i _ z _ _ x e f _ _ w (c .before .before .own-variables .ensures .1)))
+    terms-test p _ _ _ x e f (w .its) (w .is) _ (c .filled-small .ensures (w .its) (x .values) e (written-filling (c .before .before .before .before .before .before .before .before .before .before .before .before .before .before .before .pre .2) i _ _ z _ x e f _ _ w (c .before .before .own-variables .ensures .1)))
 
 -- src/size_pass.rt:41:1
 returns-2 : tie.Need-returns-2
@@ -90,7 +90,7 @@ returns-2 c =
     λ p x e i f.
     let z = c .before .before .before .before .before .before .before .before .before .before .before .before .before .pre .1 .short in
     let w = placed-at i _ _ _ (c .before .before .before .before .before .before .find-rule .ensures) _ (c .before .before .before .place .given .1) in
-    terms-test p _ _ _ x e f (w .its) (w .is) _ (c .filled-small2 .ensures (w .its) (x .values) e (placed-filling (c .before .before .before .before .before .before .before .before .before .before .before .before .before .pre .2) i _ z _ _ x e f _ w))
+    terms-test p _ _ _ x e f (w .its) (w .is) _ (c .filled-small2 .ensures (w .its) (x .values) e (placed-filling (c .before .before .before .before .before .before .before .before .before .before .before .before .before .pre .2) i _ _ z _ x e f _ w))
 
 -- src/size_pass.rt:41:1
 returns-3 : tie.Need-returns-3

@@ -1,0 +1,53 @@
+use Rattle.facts.specs.Counts.{node-count}
+use Rattle.steps.specs.Values.Loops.{no-node-from}
+use Rattle.number.specs.Reading.{asRead}
+use mathlib.Core.Path.{ap, sym, _∙_}
+use borrow.Author.Needs.{needs}
+use Rattle.facts.proofs.counts.fact_count.Statement.{statement}
+use Rattle.facts.proofs.counts.fact_count.Tie as tie
+use Rattle.facts.proofs.counts.fact_count.Reads as reads
+use Rattle.facts.proofs.counts.fact_count.Lts as lts
+use Rattle.facts.proofs.counts.count_from.Reads as count-from-reads
+use Rattle.number.proofs.read_number.Reads as read-number-reads
+
+-- src/counts.rt:61:11
+read-number-requires : tie.Need-read-number-requires
+read-number-requires c κs = search needs
+
+-- src/counts.rt:62:23
+enum-known-r : tie.Need-enum-known-r
+enum-known-r c = search needs
+
+-- src/counts.rt:62:78
+cast-count-from : tie.Need-cast-count-from
+cast-count-from c = search needs
+
+-- src/counts.rt:62:32
+count-from-requires : tie.Need-count-from-requires
+count-from-requires c κs = search needs
+
+-- src/counts.rt:63:26
+enum-told : tie.Need-enum-told
+enum-told c = search needs
+
+-- src/counts.rt:48:1
+returns : tie.Need-returns
+returns c =
+    λ p x i h. c .count-from .ensures p i ∙ node-count p _ _ _ _ _ x (sym (c .before .before .before .before .read-number .ensures) ∙ ap asRead (c .before .before .r .given .1)) h
+
+-- src/counts.rt:48:1
+returns-2 : tie.Need-returns-2
+returns-2 c =
+    λ p x i h. no-node-from p _ _ x (sym (c .before .before .read-number .ensures) ∙ ap asRead (c .enum-told .given .1)) h
+
+pub fact-count-spec : {M : Type 1} → statement M
+fact-count-spec =
+    tie.close
+    (tie.spec
+    read-number-requires
+    enum-known-r
+    cast-count-from
+    count-from-requires
+    enum-told
+    returns
+    returns-2)

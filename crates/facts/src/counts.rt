@@ -1,0 +1,65 @@
+// How many facts a list of a node has.
+ghost use mathlib.Core.Path.{_≡_};
+ghost use Prim.Native.Nat.{ℕ, _^_, _≤_, _<_};
+ghost use lib.ListN.{length};
+ghost use Rattle.octets.specs.Head.{Bytes};
+ghost use Rattle.protocol.specs.Protocol.{Rule, Protocol, part, rule};
+ghost use Rattle.protocol.specs.Places.{Here};
+ghost use Rattle.rules.specs.Numbered.{ruleOf};
+ghost use Rattle.steps.specs.Nodes.{Node, node};
+ghost use Rattle.steps.specs.Facts.{factsOf};
+ghost use Rattle.steps.specs.Index.{IndexOf, Given};
+ghost use Rattle.steps.specs.Values.Filled.{ArityTable};
+ghost use Rattle.facts.specs.Counts.{partCount};
+use number::Number;
+use rules::numbered::Found;
+
+// How many facts list w of the rule at a place has.
+fn rule_count(src: &[u8], arities: &[u8], ars: &[u8], place: usize, w: usize) -> usize
+    requires { ⌜ (length (now src) ≤ 2 ^ 32) × (w < 3) ⌝ }
+    ensures { λ r. ⌜ Bytes (now (src .entry)) × ((u : Rule) → Here (rule (now (src .entry)) (now (arities .entry)) (now (ars .entry))) u place → r ≡ length (part w u)) ⌝ }
+{
+    let list = protocol::places::list_at(src, arities, ars, place, w);
+    protocol::places::count_of(src, list)
+}
+
+// Of the rule of a number.
+fn count_from(
+    protocol: &[u8],
+    arities: &[u8],
+    ars: &[u8],
+    rules: &[usize],
+    nr: usize,
+    number: usize,
+    w: usize,
+) -> usize
+    requires { ⌜ (w < 3) × Given (now protocol) (now arities) (now rules) nr × ArityTable (now protocol) (now arities) (now rules) nr (now ars) ⌝ }
+    ensures { λ r. ⌜ ((p : Protocol) → IndexOf (now (protocol .entry)) (now (arities .entry)) (now (rules .entry)) nr p → r ≡ partCount w (ruleOf p number)) ⌝ }
+{
+    let mut own = [0u8; 30];
+    match rules::numbered::find_rule(arities, rules, nr, number, &mut own) {
+        Found::Written(len) => rule_count(&own[..len], arities, ars, 0, w),
+        Found::At(place) => rule_count(protocol, arities, ars, place, w),
+        Found::Nothing => 0,
+    }
+}
+
+// Of the node at a place: 0 premises, 1 actions, 2 conclusions.
+pub fn fact_count(
+    s: &[u8],
+    protocol: &[u8],
+    arities: &[u8],
+    ars: &[u8],
+    rules: &[usize],
+    nr: usize,
+    place: usize,
+    w: usize,
+) -> usize
+    requires { ⌜ (w < 3) × Given (now protocol) (now arities) (now rules) nr × ArityTable (now protocol) (now arities) (now rules) nr (now ars) ⌝ }
+    ensures { λ r. ⌜ ((p : Protocol) (x : Node) → IndexOf (now (protocol .entry)) (now (arities .entry)) (now (rules .entry)) nr p → Here (node p (now (s .entry))) x place → r ≡ length (factsOf p w x)) ⌝ }
+{
+    match number::read_number(s, place) {
+        Number::Value(r, _) => count_from(protocol, arities, ars, rules, nr, r as usize, w),
+        Number::Fault => 0,
+    }
+}
