@@ -28,6 +28,8 @@ use Rattle.facts.specs.Writing.{factRoom, Has, wantedBytes, FactJob, Put
 pub mod Laws
 -- facts are the same just where their symbols and canonical bytes are
 pub mod Bytes
+-- what the answers mean by the ten equations
+pub mod Meaning
 -- what is written one behind the other; a public name
 pub mod Names
 pub mod Two

@@ -84,12 +84,6 @@ module _ (p : Protocol) (f g : Fact) (a : FactFormed p f) (b : FactFormed p g) w
       ap₂ _&&_ (h .symbols) (h .bytes)
       ∙ and-test (eqb (f .symbol) (g .symbol)) _ (sameTerms (f .terms) (g .terms)) (λ e. formed-test (eqb-true (f .symbol) (g .symbol) e))
 
--- the facts of nodes are such
-pub fact-of-formed : (p : Protocol) (s : List ℕ) → Within p → Bytes s → (a : Place) (x : Node) → WholeFact p s a x → FactFormed p (factAt p (a .part) (a .number) x)
-fact-of-formed p s fit bytes a x f =
-    all-inside (FactFormed p) noFact (factsOf p (a .part) x)
-    (facts-formed p fit x (node-exact p s bytes .form x (a .node) (f .here .next) (f .here .reads) .0) (a .part)) (a .number) (f .listed)
-
 -- ── arguments ──
 one-bytes : (f : Fact) (j : ℕ) → wantedBytes (want.One j) f ≡ encode (canon (getD (f .terms) j noTerm))
 one-bytes f j = append-nil (encode (canon (getD (f .terms) j noTerm)))

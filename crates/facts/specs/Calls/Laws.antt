@@ -125,6 +125,9 @@ pub written-is : (q : Wanted) (out : List ℕ) (o : ℕ) (out′ : List ℕ) (r 
 written-is q out o out′ r f g same h = subst (Written q out o out′ r) same h
 
 -- ── a node at its place ──
+pub fact-within : (p : Protocol) (s : List ℕ) → Bytes s → (a : Place) (q : Wanted) (x : Node) → FactOf p s a q x → NodeWithin p x
+fact-within p s bytes a q x f = node-exact p s bytes .form x (a .node) (f .here .next) (f .here .reads) .0
+
 -- its rule number was read
 pub fact-read :
     (p : Protocol) (s : List ℕ) → Bytes s → length s ≤ 2 ^ 32 → (a : Place) (q : Wanted) (number at : ℕ) (x : Node)
@@ -134,7 +137,7 @@ fact-read p s bytes short a q number at x h f =
       e,
       record {
         from = g;
-        within = node-exact p s bytes .form x (a .node) (f .here .next) (f .here .reads) .0;
+        within = fact-within p s bytes a q x f;
         right = f .right;
         listed = f .listed;
         has = f .has;

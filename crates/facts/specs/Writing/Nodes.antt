@@ -17,7 +17,7 @@ use Rattle.term.specs.Reader.Exact.{Good}
 use Rattle.rewriting.specs.Lists.{_∈_}
 use Rattle.rewriting.specs.Tests.{not-split}
 use Rattle.message.specs.Canonical.{Canonical}
-use Rattle.message.specs.Substitution.{sub}
+use Rattle.message.specs.Substitution.{sub, Ground}
 use Rattle.message.specs.Canon.{canon}
 use Rattle.canonical.specs.Builtins.{Builtins, declared}
 use Rattle.canonical.specs.Contract.{mostSymbols, longest}
@@ -27,13 +27,13 @@ use Rattle.protocol.specs.Protocol.Limits.{FactWithin, OwnWithin, RuleWithin, W
 use Rattle.protocol.specs.Places.{Here}
 use Rattle.protocol.specs.Index.{Placed}
 use Rattle.rules.specs.Numbered.Limits.{rule-within}
-use Rattle.steps.specs.Lists.{all-map, all-at, map-all, none-all}
+use Rattle.steps.specs.Lists.{all-map, all-both, all-at, map-all, none-all}
 use Rattle.steps.specs.Nodes.{Node, NodeWithin}
 use Rattle.steps.specs.Facts.{valueAt}
 use Rattle.steps.specs.Facts.Formed.{part-within}
 use Rattle.facts.specs.Writing.{FactJob, factRoom}
 use Rattle.facts.specs.Writing.Ready.{fillable-job}
-use Rattle.steps.specs.Values.{NodeRight}
+use Rattle.steps.specs.Values.{ValueFits, NodeRight}
 use Rattle.steps.specs.Values.Parts.{noTerm}
 
 each-member : {A : Type 0} (P : A → Type 0) (xs : List A) → ((x : A) → x ∈ xs → P x) → All P xs
@@ -46,13 +46,12 @@ arities-few os w y =
     all-at (λ (a : ℕ). a ≤ 8) 0 (omega arith) (factArities os)
     (omega arith, (omega arith, (omega arith, (omega arith, map-all OwnWithin (λ (a : ℕ). a ≤ 8) (λ o. o .arity) (λ o q. omega (arith, q .small)) os w)))) y
 
-all-own :
-    (table : List ℕ) → Builtins table → (ss : List ℕ) (vs : List Term) → length vs ≡ length ss → All (Good table) vs
-    → ((i sort : ℕ) (v : Term) → getElem? ss i ≡ some sort → getElem? vs i ≡ some v → Canonical v) → All (λ t. canon t ≡ t) vs
-all-own table b ss [] n g h = tt
-all-own table b [] (v ∷ vs) n g h = absurd (omega arith)
-all-own table b (s ∷ ss) (v ∷ vs) n g h =
-    (own-canonical table b v (g .0 .0) .1 (h 0 s v refl refl), all-own table b ss vs (omega arith) (g .1) (λ i t u a c. h (suc i) t u a c))
+each-sorted :
+    (P : Term → Type 0) (ss : List ℕ) (vs : List Term) → length vs ≡ length ss
+    → ((i sort : ℕ) (v : Term) → getElem? ss i ≡ some sort → getElem? vs i ≡ some v → P v) → All P vs
+each-sorted P ss [] n h = tt
+each-sorted P [] (v ∷ vs) n h = absurd (omega arith)
+each-sorted P (s ∷ ss) (v ∷ vs) n h = (h 0 s v refl refl, each-sorted P ss vs (omega arith) (λ i t u a c. h (suc i) t u a c))
 
 module _ (p : Protocol) (fit : Within p) (x : Node) (b : NodeWithin p x) (r : NodeRight p x) where
   same-rule : r .is ≡ b .is
@@ -61,12 +60,21 @@ module _ (p : Protocol) (fit : Within p) (x : Node) (b : NodeWithin p x) (r : No
   lawful : RuleWithin (slots (p .functions)) (factArities (p .symbols)) (b .is)
   lawful = rule-within p fit (x .rule) (b .is) (b .known)
 
-  -- its values are their own canonical forms
+  -- what holds of a value that fits holds of all its values
+  node-fits : (P : Term → Type 0) → ((sort : ℕ) (v : Term) → ValueFits sort v → P v) → All P (x .values)
+  node-fits P h =
+      each-sorted P (b .is .sorts) (x .values) (b .takes)
+      (λ i sort v e d. h sort v (r .fits i sort v (record { sorted = ap (λ (u : Rule). getElem? (u .sorts) i) same-rule ∙ e; valued = d })))
+
+  pub node-ground : All Ground (x .values)
+  node-ground = node-fits Ground (λ sort v f. f .ground)
+
+  -- they are their own canonical forms
   node-own : All (λ t. canon t ≡ t) (x .values)
   node-own =
-      all-own (slots (p .functions)) (declared (p .functions)) (b .is .sorts) (x .values) (b .takes) (b .each)
-      (λ i sort v e d.
-      r .fits i sort v (record { sorted = ap (λ (u : Rule). getElem? (u .sorts) i) same-rule ∙ e; valued = d }) .canonical)
+      all-map (λ t. Good (slots (p .functions)) t × Canonical t) (λ t. canon t ≡ t)
+      (λ t g. own-canonical (slots (p .functions)) (declared (p .functions)) t (g .0 .0) .1 (g .1)) (x .values)
+      (all-both (Good (slots (p .functions))) Canonical (x .values) (b .each) (node-fits Canonical (λ sort v f. f .canonical)))
 
   abbrev Small : Fact → Type 0
   Small f = All (λ t. symbols (sub (valueAt (x .values)) t) ≤ mostSymbols) (f .terms)

@@ -1,5 +1,6 @@
 use Rattle.steps.specs.Nodes.Code.{index-within}
-use Rattle.facts.specs.Calls.Bytes.{same-by-bytes, fact-of-formed}
+use Rattle.facts.specs.Calls.Meaning.{fact-of-formed}
+use Rattle.facts.specs.Calls.Bytes.{same-by-bytes}
 use borrow.Author.Needs.{needs}
 use Rattle.facts.proofs.compare.same_fact.Statement.{statement}
 use Rattle.facts.proofs.compare.same_fact.Tie as tie
@@ -18,7 +19,7 @@ same-length c = search needs
 -- src/compare.rt:61:1
 returns : tie.Need-returns
 returns c =
-    λ p m n i x y. same-by-bytes p _ _ (fact-of-formed p _ (index-within i) (λ k. c .before .before .before .before .before .before .before .before .before .shared-slice-known .given k .fits) _ m x) (fact-of-formed p _ (index-within i) (λ k. c .before .before .before .before .before .before .before .before .before .shared-slice-known .given k .fits) _ n y) _ (c .before .before .before .compare .ensures p m n i x y)
+    λ p m n i x y. same-by-bytes p _ _ (fact-of-formed p _ (index-within i) (λ k. c .before .before .before .before .before .before .before .before .before .shared-slice-known .given k .fits) _ _ m x) (fact-of-formed p _ (index-within i) (λ k. c .before .before .before .before .before .before .before .before .before .shared-slice-known .given k .fits) _ _ n y) _ (c .before .before .before .compare .ensures p m n i x y)
 
 pub same-fact-spec : {M : Type 1} → statement M
 same-fact-spec = tie.close (tie.spec compare-requires same-length returns)
