@@ -6,3 +6,5 @@ pub mod Writing
 pub mod Counts
 -- the calls over the facts of nodes: a fact by its node, list and number
 pub mod Calls
+-- a mark for each fact
+pub mod Marks

@@ -56,7 +56,7 @@ module _ (slots : List ℕ) (table : Builtins slots) where
       and-both (sameTerm t u) (sameTerms ts us) (equal-bytes (encode (canon t)) (encode (canon u)) .1 (ap encode a))
       (split-bytes ts us (omega arith) (v .1) (w .1) b)
 
-join-bytes : (ts us : List Term) → sameTerms ts us ≡ true → canonBytes ts ≡ canonBytes us
+pub join-bytes : (ts us : List Term) → sameTerms ts us ≡ true → canonBytes ts ≡ canonBytes us
 join-bytes [] [] h = refl
 join-bytes [] (u ∷ us) h = true-false false h refl
 join-bytes (t ∷ ts) [] h = true-false false h refl

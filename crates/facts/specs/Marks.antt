@@ -1,0 +1,75 @@
+-- A mark of a fact, made of its symbol and its canonical bytes. Facts that are the same have the same mark; no more is handed on.
+use Prim.Native.Nat.{ℕ, suc, _+_, _*_, _%_, _≤_, _<_}
+use mathlib.Core.List.{List, [], _∷_, _++_}
+use mathlib.Core.Bool.{Bool, true, false}
+use mathlib.Core.Path.{_≡_, refl, ap, ap₂, sym, _∙_}
+use native.Mathlib.Omega.{arith}
+use lib.ListN.{length, getD, drop, drop-of-length-le, take, length-map}
+use lib.Seq.{drop-cons}
+use lib.Dec.{eqb}
+use borrow.Author.Tests.{eqb-true}
+use Rattle.rewriting.specs.Tests.{and-split}
+use Rattle.protocol.specs.Protocol.{Fact, Protocol, Own, factArities}
+use Rattle.protocol.specs.Protocol.Limits.{Within}
+use Rattle.steps.specs.Facts.{sameFact, sameTerms}
+use Rattle.steps.specs.Facts.Formed.{FactFormed}
+use Rattle.facts.specs.declared.writing.Wanted.the-variants as want
+use Rattle.facts.specs.Writing.{canonBytes, wantedBytes, factRoom, Put}
+use Rattle.facts.specs.Calls.Bytes.{join-bytes}
+
+-- the greatest prime below 2 ^ 16
+abbrev pub markLimit : ℕ
+markLimit = 65521
+
+unfoldable pub markFrom : ℕ → List ℕ → ℕ
+markFrom h [] = h
+markFrom h (b ∷ bs) = markFrom ((h * 257 + b) % markLimit) bs
+
+abbrev pub markOf : Fact → ℕ
+markOf f = markFrom (f .symbol) (canonBytes (f .terms))
+
+-- ── "marks differ → not same" ──
+same-marks : (f g : Fact) → sameFact f g ≡ true → markOf f ≡ markOf g
+same-marks f g h =
+    let (a, b) = and-split (eqb (f .symbol) (g .symbol)) (sameTerms (f .terms) (g .terms)) h in
+    ap₂ markFrom (eqb-true (f .symbol) (g .symbol) a) (join-bytes (f .terms) (g .terms) b)
+
+pub marks-differ : (f g : Fact) → (markOf f ≡ markOf g → ⊥) → sameFact f g ≡ false
+marks-differ f g n = go (sameFact f g) refl
+  where
+    go : (b : Bool) → sameFact f g ≡ b → sameFact f g ≡ false
+    go true e = absurd (n (same-marks f g e))
+    go false e = e
+
+-- ── the loop: h is the mark of what was passed ──
+module _ (from : ℕ) (s : List ℕ) where
+  abbrev pub Marked : ℕ → ℕ → Type 0
+  Marked h i = markFrom from s ≡ markFrom h (drop i s)
+
+  pub marked-none : Marked from 0
+  marked-none = refl
+
+  pub marked-more : (h i : ℕ) → i < length s → Marked h i → Marked ((h * 257 + getD s i 0) % markLimit) (i + 1)
+  unfolding markFrom
+  marked-more h i l e =
+      let o : suc i ≡ i + 1 = omega arith in
+      e ∙ ap (markFrom h) (drop-cons s i 0 l) ∙ ap (λ (j : ℕ). markFrom ((h * 257 + getD s i 0) % markLimit) (drop j s)) o
+
+  pub marked-all : (h i : ℕ) → length s ≤ i → Marked h i → h ≡ markFrom from s
+  unfolding markFrom
+  marked-all h i l e = sym (e ∙ ap (markFrom h) (drop-of-length-le s l))
+
+-- ── a fact that was written ──
+pub fact-marked :
+    (f : Fact) (out out′ : List ℕ) (e y r : ℕ) → Put out 0 out′ e (wantedBytes want.All f) → y ≡ f .symbol → r ≡ markFrom y (take e out′) → r ≡ markOf f
+fact-marked f out out′ e y r p hy h = h ∙ ap₂ markFrom hy (p .wrote .bytes)
+
+pub symbol-small : (p : Protocol) → Within p → (f : Fact) → FactFormed p f → (y : ℕ) → y ≡ f .symbol → y < markLimit
+symbol-small p fit f g y h = omega (arith, h, g .known, fit .few-symbols, length-map (p .symbols) (λ (o : Own). o .arity))
+
+pub mark-small : (n : ℕ) → n % markLimit < markLimit
+mark-small n = omega arith
+
+-- what was written lies within the output
+pub put-inside : (out out′ : List ℕ) (e : ℕ) (q : List ℕ) → Put out 0 out′ e q → factRoom ≤ length out′ → e ≤ length out′
+put-inside out out′ e q p room = omega (arith, p .wrote .ends, p .few)

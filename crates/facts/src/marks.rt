@@ -1,0 +1,45 @@
+// A mark for each fact: facts whose marks differ are not the same.
+ghost use mathlib.Core.Path.{_≡_};
+ghost use Prim.Native.Nat.{ℕ, _^_, _≤_, _<_};
+ghost use lib.ListN.{length};
+ghost use Rattle.protocol.specs.Protocol.{Protocol};
+ghost use Rattle.steps.specs.Nodes.{Node};
+ghost use Rattle.steps.specs.Index.{IndexOf, Given};
+ghost use Rattle.steps.specs.Values.Filled.{ArityTable};
+ghost use Rattle.facts.specs.Calls.{Room, HasFact, WholeFact, factAt};
+ghost use Rattle.facts.specs.Marks.{markLimit, markFrom, markOf};
+use crate::nodes;
+use crate::nodes::Place;
+use crate::writing::Wanted;
+
+// The mark of some bytes, from a number on.
+fn mark_bytes(s: &[u8], from: u32) -> u32
+    requires { ⌜ from < markLimit ⌝ }
+    ensures { λ r. ⌜ r ≡ markFrom from (now (s .entry)) ⌝ }
+{
+    let mut h = from;
+    let mut i = 0;
+    while i < s.len() {
+        h = (h * 257 + s[i] as u32) % 65521;
+        i += 1;
+    }
+    h
+}
+
+// The mark of a node's fact, of its symbol and canonical bytes.
+pub fn fact_mark(
+    out: &mut [u8],
+    s: &[u8],
+    protocol: &[u8],
+    arities: &[u8],
+    ars: &[u8],
+    rules: &[usize],
+    nr: usize,
+    x: Place,
+) -> u32
+    requires { ⌜ Room (now out) 0 × (length (now s) ≤ 2 ^ 32) × Given (now protocol) (now arities) (now rules) nr × ArityTable (now protocol) (now arities) (now rules) nr (now ars) × HasFact (now protocol) (now arities) (now rules) nr (now s) x ⌝ }
+    ensures { λ r. ⌜ ((p : Protocol) (m : Node) → IndexOf (now (protocol .entry)) (now (arities .entry)) (now (rules .entry)) nr p → WholeFact p (now (s .entry)) x m → r ≡ markOf (factAt p (x .part) (x .number) m)) ⌝ }
+{
+    let a = nodes::node_fact(out, 0, s, protocol, arities, ars, rules, nr, x, Wanted::All);
+    mark_bytes(&out[..a.end], a.symbol as u32)
+}
