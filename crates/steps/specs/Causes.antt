@@ -10,7 +10,8 @@ use Rattle.rewriting.specs.Causes.{NameTwice}
 use Rattle.rewriting.specs.Writer.{firstNameTwice}
 use Rattle.protocol.specs.Protocol.{Rule, Protocol}
 use Rattle.steps.specs.Nodes.{Node, Reading, read, broken, no-rule}
-use Rattle.steps.specs.Values.{WrongValue, TermLong, nodeValuesOk, nodeTermsOk, valueRows}
+use Rattle.steps.specs.Values.{WrongValue, TermLong, valueRows}
+use Rattle.steps.specs.Values.Tests.{nodeValuesOk, nodeTermsOk}
 use Rattle.steps.specs.Runs.{rewrittens}
 -- the ruling is what the rows say
 pub mod Laws

@@ -12,7 +12,7 @@ ghost use Rattle.rewriting.specs.Lists.{firstBad};
 ghost use Rattle.steps.specs.Index.{IndexOf, Given};
 ghost use Rattle.steps.specs.Nodes.{Node, node};
 ghost use Rattle.steps.specs.Nodes.Code.{noNode};
-ghost use Rattle.steps.specs.Values.{ruleOk, nodeTermsOk};
+ghost use Rattle.steps.specs.Values.Tests.{ruleOk, nodeTermsOk};
 ghost use Rattle.steps.specs.Values.Loops.{NodeFrom, SomeFrom, SomeNode};
 ghost use Rattle.steps.specs.Values.Scan.{asFound, SomeNodes};
 ghost use Rattle.steps.specs.Values.Filled.{ArityTable, FillsRule, SomeFilling};

@@ -15,7 +15,7 @@ ghost use Rattle.rewriting.specs.Lists.{firstBad};
 ghost use Rattle.steps.specs.Index.{IndexOf, Given};
 ghost use Rattle.steps.specs.Nodes.{Node, node};
 ghost use Rattle.steps.specs.Nodes.Code.{noNode};
-ghost use Rattle.steps.specs.Values.{valueOk, valuesOk, nodeValuesOk};
+ghost use Rattle.steps.specs.Values.Tests.{valueOk, valuesOk, nodeValuesOk};
 ghost use Rattle.steps.specs.Values.Loops.{behindOf, RuleHere, SomeRule, NodeFrom, SomeFrom, SomeNode};
 ghost use Rattle.steps.specs.Values.Scan.{asFound, SomeNodes};
 ghost use Rattle.steps.specs.Values.Code.{NameIs, ofName, ValueThere, SomeValue};

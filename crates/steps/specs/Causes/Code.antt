@@ -14,7 +14,7 @@ use Rattle.steps.specs.Nodes.{Node, Reading, broken, no-rule, read, node
 use Rattle.steps.specs.Nodes.Code.{noNode, NodesAre, Told}
 use Rattle.steps.specs.Nodes.Exact.{steps-form}
 use Rattle.steps.specs.Index.{IndexOf}
-use Rattle.steps.specs.Values.{nodeValuesOk, nodeTermsOk}
+use Rattle.steps.specs.Values.Tests.{nodeValuesOk, nodeTermsOk}
 use Rattle.steps.specs.Values.Scan.{asFound, SomeNodes}
 use Rattle.steps.specs.Runs.{rewrittens}
 use Rattle.steps.specs.Causes.{stepsItem, nodeRuling, listRuling}

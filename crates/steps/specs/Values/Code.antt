@@ -32,7 +32,7 @@ use Rattle.canonical.specs.Contract.{MessageAt, IsCanonical}
 use Rattle.steps.specs.declared.values.Name.{Name}
 use Rattle.steps.specs.declared.values.Name.the-variants as nm
 use Rattle.steps.specs.Facts.{freshNumber}
-use Rattle.steps.specs.Values.{isFresh, isPublic, ofSort, isCanonical, valueOk}
+use Rattle.steps.specs.Values.Tests.{isFresh, isPublic, ofSort, isCanonical, valueOk}
 use Rattle.message.specs.Substitution.Decided.{none-ground}
 use Rattle.steps.specs.Values.Laws.{canon-decides}
 

@@ -27,7 +27,7 @@ use Rattle.steps.specs.Index.{IndexOf}
 use Rattle.steps.specs.Nodes.{Node}
 use Rattle.steps.specs.Nodes.Code.{index-within, index-slots}
 use Rattle.steps.specs.Facts.{valueAt}
-use Rattle.steps.specs.Values.{ruleOk, ofRule, nodeTermsOk}
+use Rattle.steps.specs.Values.Tests.{ruleOk, ofRule, nodeTermsOk}
 use Rattle.steps.specs.Values.Weights.{sizeIn}
 use Rattle.steps.specs.Values.Parts.{noTerm, ruleSmall, rule-weighed}
 use Rattle.steps.specs.Values.Loops.{RuleHere, count-here, NodeFrom, written-rule, placed-rule}

@@ -24,7 +24,8 @@ use Rattle.message.specs.Canon.{canon}
 use Rattle.message.specs.Theorems.{canonical-canon, canonical-bytes}
 use Rattle.protocol.specs.Protocol.{Rule}
 use Rattle.steps.specs.Facts.Laws.{equal-bytes}
-use Rattle.steps.specs.Values.{OfSort, mostFilledIn, ValueFits, TermOf, filledSymbols, isFresh, isPublic, ofSort, isCanonical, valueOk, valuesOk, termOk, factOk, ruleOk}
+use Rattle.steps.specs.Values.{OfSort, mostFilledIn, ValueFits, TermOf, filledSymbols}
+use Rattle.steps.specs.Values.Tests.{isFresh, isPublic, ofSort, isCanonical, valueOk, valuesOk, termOk, factOk, ruleOk}
 
 -- ── sorts ──
 fresh-is : (v : Term) → isFresh v ≡ true → (n : ℕ) × (v ≡ leaf fresh n)

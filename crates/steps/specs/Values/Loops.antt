@@ -31,7 +31,7 @@ use Rattle.rules.specs.Numbered.Found.{WrittenAs, PlacedAs, written-reads}
 use Rattle.steps.specs.Index.{IndexOf}
 use Rattle.steps.specs.Nodes.{Node, node-of, values, node}
 use Rattle.steps.specs.Nodes.Code.{index-within, index-slots}
-use Rattle.steps.specs.Values.{valueOk, valuesOk, ofRule, nodeValuesOk}
+use Rattle.steps.specs.Values.Tests.{valueOk, valuesOk, ofRule, nodeValuesOk}
 use Rattle.steps.specs.Values.Code.{ValueThere, SomeValue}
 
 -- ── the place behind a value ──

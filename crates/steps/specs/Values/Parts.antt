@@ -20,7 +20,7 @@ use Rattle.protocol.specs.Places.{Here, listPlace, factPlace, termPlace, valueO
 use Rattle.protocol.specs.Places.Laws.{rule-layout, rule-parts, list-law, count-law, fact-law, symbol-law, terms-law, term-law, fact-fields}
 use Rattle.rewriting.specs.Lists.{allBy}
 use Rattle.steps.specs.Facts.{valueAt}
-use Rattle.steps.specs.Values.{termOk, factOk, ruleOk}
+use Rattle.steps.specs.Values.Tests.{termOk, factOk, ruleOk}
 use Rattle.steps.specs.Values.Weights.{weigh, weighs, weigh-filled}
 
 -- ── all of a list ──

@@ -21,7 +21,8 @@ use Rattle.protocol.specs.Protocol.{Rule, Protocol}
 use Rattle.rules.specs.Numbered.{ruleOf}
 use Rattle.steps.specs.Lists.{all-nth, nth-all}
 use Rattle.steps.specs.Nodes.{Node, NodeWithin}
-use Rattle.steps.specs.Values.{ValueFits, ValueAt, TermOf, mostFilledIn, filledSymbols, NodeRight, WrongValue, TermLong, valueOk, valuesOk, ruleOk, ofRule, nodeValuesOk, nodeTermsOk, valueRows}
+use Rattle.steps.specs.Values.{ValueFits, ValueAt, TermOf, mostFilledIn, filledSymbols, NodeRight, WrongValue, TermLong, valueRows}
+use Rattle.steps.specs.Values.Tests.{valueOk, valuesOk, ruleOk, ofRule, nodeValuesOk, nodeTermsOk}
 use Rattle.steps.specs.Values.Laws.{value-decides, BadValue, values-fail, fail-values, BadTerm, terms-fail, fail-terms}
 
 -- of the rule, where there is one

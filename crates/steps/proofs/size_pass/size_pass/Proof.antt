@@ -1,6 +1,6 @@
 use borrow.Author.Needs.{needs}
 use Rattle.steps.specs.Values.Scan.{Rest, rest-all, rest-more, rest-bad, rest-none}
-use Rattle.steps.specs.Values.{nodeTermsOk}
+use Rattle.steps.specs.Values.Tests.{nodeTermsOk}
 use Rattle.steps.specs.Index.{IndexOf}
 use Rattle.steps.specs.Nodes.{Node, node}
 use Rattle.steps.specs.Nodes.Code.{noNode}

@@ -9,7 +9,7 @@ use Rattle.protocol.specs.Protocol.{Protocol}
 use Rattle.steps.specs.Nodes.Code.{noNode}
 use Rattle.steps.specs.Nodes.{Node, node}
 use Rattle.steps.specs.Index.{IndexOf}
-use Rattle.steps.specs.Values.{nodeValuesOk}
+use Rattle.steps.specs.Values.Tests.{nodeValuesOk}
 use Rattle.steps.specs.Values.Scan.{Rest, rest-all, rest-more, rest-bad, rest-none}
 use Rattle.steps.proofs.values.value_pass.Statement.{statement}
 use Rattle.steps.proofs.values.value_pass.Tie as tie

@@ -7,7 +7,7 @@ use mathlib.Core.List.{List}
 use Prim.Native.Nat.{ℕ, _+_, _-_, _≤_, _<_}
 use Rattle.term.specs.Term.{Term}
 use Rattle.protocol.specs.Protocol.{Rule}
-use Rattle.steps.specs.Values.{valueOk}
+use Rattle.steps.specs.Values.Tests.{valueOk}
 use Rattle.steps.specs.Values.Loops.{RuleHere, Left, Turn, turn, left-all, left-bad, left-more, left-none, sort-here, count-here}
 use Rattle.steps.proofs.values.values_fit.Statement.{statement}
 use Rattle.steps.proofs.values.values_fit.Tie as tie
