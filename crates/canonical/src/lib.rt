@@ -1,6 +1,6 @@
 // The canonical form of terms at a place, filled in with canonical values; is a term canonical; are two messages the same.
 ghost use mathlib.Core.Path.{_≡_};
-ghost use mathlib.Core.Bool.{Bool, true, false};
+ghost use mathlib.Core.Bool.{true, false};
 ghost use Prim.Native.Nat.{_+_, _≤_, _<_};
 ghost use lib.ListN.{length};
 ghost use Rattle.octets.specs.Splice.Prefix.{Wrote};

@@ -1,11 +1,11 @@
 -- How many facts a list of a node has: as many as the list of its rule.
 use Prim.Native.Nat.{ℕ, _<_}
-use mathlib.Core.List.{List, [], map}
+use mathlib.Core.List.{List}
 use mathlib.Core.Option.{Option, none, some}
 use mathlib.Core.Path.{_≡_, refl, ap, sym, _∙_}
 use lib.ListN.{length, length-map}
 use Rattle.number.specs.Reading.{got, readNumber, below}
-use Rattle.protocol.specs.Protocol.{Fact, Rule, Protocol, part, rule}
+use Rattle.protocol.specs.Protocol.{Rule, Protocol, part, rule}
 use Rattle.protocol.specs.Places.{Here, listPlace, valueOf}
 use Rattle.rules.specs.Numbered.{ruleOf}
 use Rattle.steps.specs.Nodes.{Node, node}

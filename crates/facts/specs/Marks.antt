@@ -1,6 +1,6 @@
 -- A mark of a fact, made of its symbol and its canonical bytes. Facts that are the same have the same mark; no more is handed on.
 use Prim.Native.Nat.{ℕ, suc, _+_, _*_, _%_, _≤_, _<_}
-use mathlib.Core.List.{List, [], _∷_, _++_}
+use mathlib.Core.List.{List, [], _∷_}
 use mathlib.Core.Bool.{Bool, true, false}
 use mathlib.Core.Path.{_≡_, refl, ap, ap₂, sym, _∙_}
 use native.Mathlib.Omega.{arith}
@@ -9,7 +9,7 @@ use lib.Seq.{drop-cons}
 use lib.Dec.{eqb}
 use borrow.Author.Tests.{eqb-true}
 use Rattle.rewriting.specs.Tests.{and-split}
-use Rattle.protocol.specs.Protocol.{Fact, Protocol, Own, factArities}
+use Rattle.protocol.specs.Protocol.{Fact, Protocol, Own}
 use Rattle.protocol.specs.Protocol.Limits.{Within}
 use Rattle.steps.specs.Facts.{sameFact, sameTerms}
 use Rattle.steps.specs.Facts.Formed.{FactFormed}

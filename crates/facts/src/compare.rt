@@ -1,7 +1,6 @@
 // When two facts of nodes are the same, or two arguments of them, or an argument and a public name.
 ghost use mathlib.Core.Path.{_≡_};
-ghost use mathlib.Core.List.{List};
-ghost use Prim.Native.Nat.{ℕ, _^_, _≤_, _+_, _-_};
+ghost use Prim.Native.Nat.{_^_, _≤_, _-_};
 ghost use lib.ListN.{length, take, drop};
 ghost use Rattle.octets.specs.Compare.{compareBytes, isEqual};
 ghost use Rattle.term.specs.Term.{encode, leaf, public};

@@ -1,6 +1,6 @@
 // How many facts a list of a node has.
 ghost use mathlib.Core.Path.{_≡_};
-ghost use Prim.Native.Nat.{ℕ, _^_, _≤_, _<_};
+ghost use Prim.Native.Nat.{_^_, _≤_, _<_};
 ghost use lib.ListN.{length};
 ghost use Rattle.octets.specs.Head.{Bytes};
 ghost use Rattle.protocol.specs.Protocol.{Rule, Protocol, part, rule};

@@ -2,15 +2,14 @@
 -- (item 5) and for the nodes of a graph (item 3).
 use Prim.Native.Nat.{ℕ}
 use mathlib.Core.List.{List, [], _∷_, _++_}
-use mathlib.Core.Option.{Option}
 use mathlib.Core.Path.{_≡_}
 use Rattle.rewriting.specs.Lists.{firstBad}
 use Rattle.rewriting.specs.Table.{Ruling, passed, refused, Row, row, fixedRow, orRefuse, andThen, rowsAfter}
 use Rattle.rewriting.specs.Causes.{NameTwice}
 use Rattle.rewriting.specs.Writer.{firstNameTwice}
-use Rattle.protocol.specs.Protocol.{Rule, Protocol}
+use Rattle.protocol.specs.Protocol.{Protocol}
 use Rattle.steps.specs.Nodes.{Node, Reading, read, broken, no-rule}
-use Rattle.steps.specs.Values.{WrongValue, TermLong, valueRows}
+use Rattle.steps.specs.Values.{valueRows}
 use Rattle.steps.specs.Values.Tests.{nodeValuesOk, nodeTermsOk}
 use Rattle.steps.specs.Runs.{rewrittens}
 -- the ruling is what the rows say

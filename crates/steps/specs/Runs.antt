@@ -1,14 +1,10 @@
 -- The rewriting of crate rewriting at the facts of a protocol: runs, accepted graphs, what is drawn and refused. The nodes are those of a
 -- step list or graph; no parameter is left but the protocol.
-use Prim.Native.Nat.{ℕ}
 use mathlib.Core.List.{List, map}
-use mathlib.Core.Logic.{_⊎_, _↔_}
-use mathlib.Core.Option.{Option}
-use mathlib.Core.Path.{_≡_}
 use Rattle.rewriting.specs.Facts.{Facts}
 use Rattle.rewriting.specs.Graph as graph
 use Rattle.rewriting.specs.Machine as machine
-use Rattle.protocol.specs.Protocol.{Fact, Rule, Protocol}
+use Rattle.protocol.specs.Protocol.{Fact, Protocol}
 use Rattle.steps.specs.Nodes.{Node}
 use Rattle.steps.specs.Facts.{factsOf, makes, sameFact, isLinear}
 use Rattle.steps.specs.Facts.Laws.{fact-refl, fact-sym, fact-trans, fact-linear}

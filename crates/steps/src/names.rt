@@ -1,18 +1,18 @@
 // The names that nodes of rule 0 make (9).
 ghost use mathlib.Core.Path.{_≡_};
 ghost use mathlib.Core.List.{List};
-ghost use Prim.Native.Nat.{ℕ, _^_, _≤_, _<_, _+_};
+ghost use Prim.Native.Nat.{ℕ, _≤_, _<_, _+_};
 ghost use lib.ListN.{length, getD, take};
 ghost use Rattle.protocol.specs.Protocol.{Protocol};
 ghost use Rattle.protocol.specs.Index.{Placed};
 ghost use Rattle.protocol.specs.Places.{Here};
 ghost use Rattle.rewriting.specs.Writer.{firstNameTwice};
-ghost use Rattle.steps.specs.Index.{IndexOf, Given};
+ghost use Rattle.steps.specs.Index.{IndexOf};
 ghost use Rattle.steps.specs.Nodes.{Node, node};
 ghost use Rattle.steps.specs.Nodes.Code.{noNode};
 ghost use Rattle.steps.specs.Facts.{makes};
 ghost use Rattle.steps.specs.Runs.{rewrittens};
-ghost use Rattle.steps.specs.Values.Scan.{asFound, SomeNodes};
+ghost use Rattle.steps.specs.Values.Scan.{asFound};
 ghost use Rattle.steps.specs.Names.{isMade, againIn, MadeIs, sameMade};
 ghost use Rattle.steps.specs.Names.Code.{NumberIs};
 ghost use Rattle.term.specs.Reader.{symbolAt};

@@ -1,7 +1,6 @@
 // The nodes of a step list or graph, read front to back for 3 and 6.
 ghost use mathlib.Core.Path.{_≡_};
-ghost use mathlib.Core.List.{List};
-ghost use Prim.Native.Nat.{ℕ, _^_, _≤_, _<_, _+_};
+ghost use Prim.Native.Nat.{_^_, _≤_, _<_, _+_};
 ghost use lib.ListN.{length};
 ghost use Rattle.number.specs.Reading.{many};
 ghost use Rattle.term.specs.Reader.{term};

@@ -1,8 +1,7 @@
 // The values of a node: what fits a variable (7).
 ghost use mathlib.Core.Path.{_≡_};
-ghost use mathlib.Core.Bool.{Bool, true};
+ghost use mathlib.Core.Bool.{true};
 ghost use mathlib.Core.List.{List};
-ghost use mathlib.Core.Logic.{_↔_};
 ghost use Prim.Native.Nat.{ℕ, _^_, _≤_, _<_, _+_};
 ghost use lib.ListN.{length};
 ghost use Rattle.term.specs.Term.{Term};

@@ -8,7 +8,6 @@ use borrow.Author.Tests.{eqb-true}
 use lib.ListN.{length, getD}
 use lib.Dec.{eqb}
 use Rattle.octets.specs.Compare.{compareBytes, isEqual}
-use Rattle.octets.specs.Head.{Bytes}
 use Rattle.number.specs.Layout.{All}
 use Rattle.term.specs.Term.{public, Term, leaf, encode, Formed}
 use Rattle.term.specs.Term.Laws.{encode-prefix}
@@ -18,23 +17,17 @@ use Rattle.rewriting.specs.Tests.{and-split, and-both, true-false}
 use Rattle.message.specs.Canon.{canon}
 use Rattle.message.specs.Theorems.{canon-is-formed}
 use Rattle.canonical.specs.Builtins.{Builtins, group, declared}
-use Rattle.protocol.specs.Protocol.{Fact, Protocol, factArities, noFact}
-use Rattle.protocol.specs.Protocol.Limits.{Within}
-use Rattle.steps.specs.Nodes.{Node, NodeWithin}
-use Rattle.steps.specs.Nodes.Exact.{node-exact}
-use Rattle.steps.specs.Nodes.Code.{index-within}
-use Rattle.steps.specs.Index.{IndexOf}
-use Rattle.steps.specs.Lists.{all-inside}
-use Rattle.steps.specs.Facts.{sameTerm, sameTerms, sameFact, factsOf}
-use Rattle.steps.specs.Facts.Formed.{FactFormed, facts-formed}
+use Rattle.protocol.specs.Protocol.{Fact, Protocol, factArities}
+use Rattle.steps.specs.Nodes.{Node}
+use Rattle.steps.specs.Facts.{sameTerm, sameTerms, sameFact}
+use Rattle.steps.specs.Facts.Formed.{FactFormed}
 use Rattle.steps.specs.Facts.Laws.{equal-bytes}
 use Rattle.steps.specs.Values.Parts.{noTerm}
-use Rattle.facts.specs.declared.writing.Wanted.{Wanted}
 use Rattle.facts.specs.declared.writing.Wanted.the-variants as want
 use Rattle.facts.specs.declared.nodes.Place.{Place}
 use Rattle.facts.specs.declared.compare.Both.{Both}
 use Rattle.facts.specs.Writing.{canonBytes, wantedBytes}
-use Rattle.facts.specs.Calls.{factAt, argumentAt, FactOf, WholeFact, OneOf, Compared}
+use Rattle.facts.specs.Calls.{factAt, argumentAt, Compared}
 
 same-test : (a b : Bool) → (a ≡ true → b ≡ true) → (b ≡ true → a ≡ true) → a ≡ b
 same-test true b h k = sym (h refl)

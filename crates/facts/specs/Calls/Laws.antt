@@ -1,18 +1,16 @@
 -- A node's fact is its rule's with the values filled in, and who finds the rule can write it.
-use Prim.Native.Nat.{ℕ, zero, suc, _+_, _^_, _≤_, _<_}
-use mathlib.Core.List.{List, [], _∷_, map}
-use mathlib.Core.Option.{Option, some, Option·some-injective}
-use mathlib.Core.Path.{_≡_, refl, ap, sym, _∙_, subst}
+use Prim.Native.Nat.{ℕ, _^_, _≤_, _<_}
+use mathlib.Core.List.{List, [], map}
+use mathlib.Core.Option.{some, Option·some-injective}
+use mathlib.Core.Path.{_≡_, ap, sym, _∙_, subst}
 use native.Mathlib.Omega.{arith}
-use lib.ListN.{length, getD, take, length-map, List·getD-eq-default}
+use lib.ListN.{length, getD, length-map, List·getD-eq-default}
 use Rattle.octets.specs.Choice.{by-size}
 use Rattle.octets.specs.Head.{Bytes}
 use Rattle.number.specs.Reading.{got, readNumber, many, below}
 use Rattle.term.specs.Term.{Term}
-use Rattle.term.specs.Arity.{slots}
 use Rattle.term.specs.Reader.{term}
 use Rattle.message.specs.Substitution.{sub}
-use Rattle.canonical.specs.Contract.{longest}
 use Rattle.protocol.specs.Protocol.{Fact, Rule, Protocol, part, noFact, fact}
 use Rattle.protocol.specs.Protocol.Walks.{sortsAt}
 use Rattle.protocol.specs.Places.{Here, listPlace, factPlace, valueOf}

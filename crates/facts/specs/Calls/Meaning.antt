@@ -4,7 +4,6 @@ use mathlib.Core.List.{List}
 use mathlib.Core.Bool.{true}
 use mathlib.Core.Logic.{_↔_}
 use mathlib.Core.Path.{_≡_}
-use lib.ListN.{length}
 use Rattle.octets.specs.Head.{Bytes}
 use Rattle.number.specs.Layout.{All}
 use Rattle.term.specs.Term.{public, leaf, Formed}

@@ -1,13 +1,13 @@
 -- Two runs of bytes that were written one behind the other: each stands there, and the test of the two parts is theirs.
 use Prim.Native.Nat.{ℕ, _+_, _-_, _≤_}
-use mathlib.Core.List.{List, [], _++_}
+use mathlib.Core.List.{List, _++_}
 use mathlib.Core.Bool.{Bool}
-use mathlib.Core.Path.{_≡_, refl, ap, ap₂, sym, _∙_}
+use mathlib.Core.Path.{_≡_, ap, ap₂, sym, _∙_}
 use native.Mathlib.Omega.{arith}
 use lib.ListN.{length, take, drop}
 use lib.Seq.{take-take, take-append-le, take-all}
 use Rattle.octets.specs.Compare.{compareBytes, isEqual}
-use Rattle.octets.specs.Splice.Prefix.{Wrote, wrote-there}
+use Rattle.octets.specs.Splice.Prefix.{wrote-there}
 use Rattle.facts.specs.Writing.{factRoom, Put}
 use Rattle.facts.specs.Calls.{Room}
 

@@ -2,12 +2,12 @@
 use Prim.Native.Nat.{ℕ, zero, suc, _+_, _≤_, _<_}
 use mathlib.Core.List.{List, [], _∷_, _++_, map, append-nil}
 use mathlib.Core.Logic.{⊎-elim, inl, inr}
-use mathlib.Core.Path.{_≡_, refl, ap, ap₂, sym, _∙_, subst}
+use mathlib.Core.Path.{_≡_, refl, ap, sym, _∙_, subst}
 use native.Mathlib.Omega.{arith}
 use lib.ListN.{length, getD, drop, length-append, length-map}
 use Rattle.octets.specs.Head.{Bytes}
 use Rattle.octets.specs.Splice.Prefix.{Wrote, widen}
-use Rattle.number.specs.Layout.{flat, All}
+use Rattle.number.specs.Layout.{flat}
 use Rattle.term.specs.Term.{Term, nil, _&_, encode, encodes, symbols, Formed}
 use Rattle.term.specs.Arity.{arity}
 use Rattle.term.specs.Reader.{terms}
@@ -23,7 +23,7 @@ use Rattle.protocol.specs.Places.{termPlace}
 use Rattle.steps.specs.Lists.{all-inside, map-at}
 use Rattle.steps.specs.Facts.{valueAt, filledFact}
 use Rattle.steps.specs.Values.Parts.{noTerm, term-there}
-use Rattle.facts.specs.Writing.{canonBytes, factRoom, FactJob, ArgumentReady, ArgumentDone}
+use Rattle.facts.specs.Writing.{factRoom, FactJob, ArgumentReady, ArgumentDone}
 use Rattle.facts.specs.Writing.Whole.{job-formed}
 
 -- ── a term of a list ──

@@ -30,7 +30,7 @@ use Rattle.protocol.specs.Places.Laws.{fact-fields}
 use Rattle.steps.specs.Facts.{valueAt, filledFact}
 use Rattle.steps.specs.Values.Parts.{terms-many}
 use Rattle.facts.specs.declared.writing.Wanted.{Wanted}
-use Rattle.facts.specs.Writing.{plainBytes, canonBytes, factRoom, FactJob, Put, WantedReady, WantedDone, FactReady, FactDone}
+use Rattle.facts.specs.Writing.{canonBytes, factRoom, FactJob, WantedReady, WantedDone, FactReady, FactDone}
 
 -- ── the two kinds of lists of terms ──
 filled-bytes : (θ : ℕ → Term) (ts : List Term) → encodes (subs θ (terms ts)) ≡ flat encode (map (sub θ) ts)

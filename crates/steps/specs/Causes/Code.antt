@@ -10,7 +10,7 @@ use Rattle.rewriting.specs.Writer.{firstNameTwice}
 use Rattle.octets.specs.Head.{Bytes}
 use Rattle.protocol.specs.Protocol.{Protocol}
 use Rattle.protocol.specs.Index.{Placed}
-use Rattle.steps.specs.Nodes.{Node, Reading, broken, no-rule, read, node, steps}
+use Rattle.steps.specs.Nodes.{Node, Reading, node, steps}
 use Rattle.steps.specs.Nodes.Code.{noNode, NodesAre, Told}
 use Rattle.steps.specs.Nodes.Exact.{steps-form}
 use Rattle.steps.specs.Index.{IndexOf}

@@ -9,7 +9,7 @@ use Rattle.rewriting.specs.Table.{Ruling, passed, refused, Ruled}
 use Rattle.rewriting.specs.Table.Laws.{refused-passed, passed-inj, passed-good}
 use Rattle.protocol.specs.Protocol.{Protocol}
 use Rattle.protocol.specs.Index.{Placed}
-use Rattle.steps.specs.Nodes.{Node, Reading, read, NodeWithin, node, steps}
+use Rattle.steps.specs.Nodes.{Node, read, NodeWithin, node, steps}
 use Rattle.steps.specs.Nodes.Code.{noNode, NodesAre}
 use Rattle.steps.specs.Nodes.Exact.{steps-form}
 use Rattle.steps.specs.Causes.{nodeRows, nodeRuling}

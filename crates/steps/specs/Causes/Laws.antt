@@ -1,19 +1,18 @@
 -- The ruling of a list of nodes is what the rows say, and the nodes that pass are right.
 use Prim.Native.Nat.{ℕ}
 use mathlib.Core.List.{List, [], _∷_, _++_}
-use mathlib.Core.Logic.{inl, inr, _↔_}
-use mathlib.Core.Option.{Option}
+use mathlib.Core.Logic.{inl, inr}
 use mathlib.Core.Path.{_≡_, refl, ap, sym, _∙_}
 use native.Mathlib.Omega.{arith}
 use Rattle.octets.specs.Choice.{clash}
 use Rattle.octets.specs.Head.{Bytes}
 use Rattle.number.specs.Layout.{All}
-use Rattle.rewriting.specs.Table.{Ruling, passed, Row, row, Absent, Ruled, Pass}
+use Rattle.rewriting.specs.Table.{Ruling, Row, row, Ruled}
 use Rattle.rewriting.specs.Table.Laws.{ruled, ruled-then, ruled-and-then}
 use Rattle.rewriting.specs.Causes.{NameTwice}
 use Rattle.rewriting.specs.Names.{namePass, absent-none, names-once}
-use Rattle.protocol.specs.Protocol.{Rule, Protocol}
-use Rattle.steps.specs.Nodes.{Node, Reading, read, broken, no-rule, NodeWithin, NodesWithin, nodes, steps}
+use Rattle.protocol.specs.Protocol.{Protocol}
+use Rattle.steps.specs.Nodes.{Node, Reading, read, broken, no-rule, NodeWithin, steps}
 use Rattle.steps.specs.Nodes.Exact.{steps-form}
 use Rattle.steps.specs.Values.{NodeRight, valueRows}
 use Rattle.steps.specs.Values.Passes.{termPass, valuePass, absent-right}

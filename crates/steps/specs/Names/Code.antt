@@ -1,18 +1,17 @@
 -- The name of a node, as the code reads it.
-use Prim.Native.Nat.{ℕ, zero, suc, _+_, _<_, _≤_}
+use Prim.Native.Nat.{ℕ}
 use mathlib.Core.List.{List, [], _∷_}
-use mathlib.Core.Bool.{Bool, true, false}
+use mathlib.Core.Bool.{Bool}
 use mathlib.Core.Option.{Option, none, some}
-use mathlib.Core.Path.{_≡_, refl, ap, ap₂, sym, _∙_, subst}
+use mathlib.Core.Path.{_≡_, ap, sym, _∙_, subst}
 use native.Mathlib.Omega.{arith}
-use lib.Dec.{eqb}
-use lib.ListN.{length, getD}
+use lib.ListN.{length}
 use borrow.Author.Tests.{eq-eqb, ne-eqb}
-use Rattle.octets.specs.Choice.{pick, clash}
+use Rattle.octets.specs.Choice.{pick}
 use Rattle.octets.specs.Head.{Bytes}
-use Rattle.number.specs.Reading.{Read, got, fault, andThen, readNumber, many}
+use Rattle.number.specs.Reading.{got, andThen, many}
 use Rattle.number.specs.Reading.Laws.{cut-got}
-use Rattle.term.specs.Term.{variable, public, fresh, Term, leaf, app}
+use Rattle.term.specs.Term.{Term}
 use Rattle.term.specs.Arity.{slots}
 use Rattle.term.specs.Reader.{symbolAt, term}
 use Rattle.term.specs.declared.Fresh.{Fresh}
@@ -20,7 +19,6 @@ use Rattle.term.specs.declared.Public.{Public}
 use Rattle.term.specs.declared.Symbol.{Symbol}
 use Rattle.term.specs.declared.Symbol.the-variants as sy
 use Rattle.protocol.specs.Protocol.{Rule, Protocol}
-use Rattle.protocol.specs.Places.{Here}
 use Rattle.rules.specs.Numbered.{ruleOf, fixed}
 use Rattle.rules.specs.Numbered.Found.{of-fixed}
 use Rattle.steps.specs.declared.values.Name.{Name}
@@ -28,7 +26,7 @@ use Rattle.steps.specs.declared.values.Name.the-variants as nm
 use Rattle.steps.specs.declared.names.Made.{Made}
 use Rattle.steps.specs.declared.names.Made.the-variants as md
 use Rattle.steps.specs.Index.{IndexOf}
-use Rattle.steps.specs.Nodes.{Node, node-of, values, node}
+use Rattle.steps.specs.Nodes.{Node, node-of, values}
 use Rattle.steps.specs.Nodes.Code.{index-slots}
 use Rattle.steps.specs.Facts.{valueAt, freshNumber}
 use Rattle.steps.specs.Facts as facts

@@ -1,6 +1,6 @@
 -- The pass over the names by the nodes is crate rewriting's pass of cause 9.
-use Prim.Native.Nat.{ℕ, zero, suc, _+_, _<_, _≤_}
-use mathlib.Core.List.{List, [], _∷_, _++_, append-assoc, append-nil, map}
+use Prim.Native.Nat.{ℕ, suc, _+_, _<_, _≤_}
+use mathlib.Core.List.{List, [], _∷_, _++_, append-assoc, append-nil}
 use mathlib.Core.Bool.{Bool, true, false, cond, _||_}
 use mathlib.Core.Option.{Option, none, some}
 use mathlib.Core.Path.{_≡_, refl, ap, ap₂, sym, _∙_}
@@ -11,15 +11,15 @@ use lib.ListN.{length, getD, take, drop, drop-of-length-le}
 use lib.Seq.{drop-cons, take-suc}
 use Rattle.rewriting.specs.Lists.{countBy}
 use Rattle.rewriting.specs.Lists.Laws.{count-append}
-use Rattle.rewriting.specs.Tests.{leb-sum, leb-gt, le-leb, eqb-self}
-use Rattle.rewriting.specs.Graph.{nameOf, namesOf}
+use Rattle.rewriting.specs.Tests.{leb-sum}
+use Rattle.rewriting.specs.Graph.{nameOf}
 use Rattle.rewriting.specs.Machine.{madeAlready}
 use Rattle.rewriting.specs.Writer.{nameTwiceFrom, firstNameTwice}
 use Rattle.term.specs.declared.Fresh.{Fresh}
 use Rattle.protocol.specs.Protocol.{Protocol}
 use Rattle.steps.specs.Nodes.{Node}
 use Rattle.steps.specs.Facts.{makes}
-use Rattle.steps.specs.Runs.{rewritten, rewrittens}
+use Rattle.steps.specs.Runs.{rewrittens}
 use Rattle.steps.specs.Values.Scan.{asFound}
 use Rattle.steps.specs.declared.names.Made.{Made}
 use Rattle.steps.specs.declared.names.Made.the-variants as md

@@ -1,6 +1,6 @@
 -- Cause 9 in plain words: node k makes a name that an earlier node makes. And a node of rule 0 whose values fit makes a name.
 use Prim.Native.Nat.{ℕ, zero, suc, _<_}
-use mathlib.Core.List.{List, [], _∷_, _++_, map, List·Memᴰ·not-nil, List·Memᴰ·eq-of-singleton, List·Memᴰ·append-cases, Memᴰ·append-left, Memᴰ·append-right, List·Memᴰ·head}
+use mathlib.Core.List.{List, [], _∷_, List·Memᴰ·not-nil, List·Memᴰ·eq-of-singleton, List·Memᴰ·append-cases, Memᴰ·append-left, Memᴰ·append-right, List·Memᴰ·head}
 use mathlib.Core.Bool.{Bool}
 use mathlib.Core.Logic.{_↔_, ⊎-elim}
 use mathlib.Core.Option.{Option, none, some, Option·none-ne-some, Option·some-injective}
@@ -10,14 +10,14 @@ use borrow.Author.Tests.{eq-eqb}
 use lib.ListN.{length, getElem?, take}
 use Rattle.octets.specs.Choice.{pick}
 use Rattle.term.specs.Term.{fresh, Term, leaf}
-use Rattle.rewriting.specs.Lists.{_∈_, nth, before}
+use Rattle.rewriting.specs.Lists.{_∈_, nth}
 use Rattle.rewriting.specs.Graph.{nameOf, namesOf}
 use Rattle.rewriting.specs.Graph as graph
 use Rattle.rewriting.specs.Causes.{NameTwice}
 use Rattle.protocol.specs.Protocol.{Fact, Rule, Protocol}
 use Rattle.steps.specs.Nodes.{Node, NodeWithin}
 use Rattle.steps.specs.Facts.{freshNumber, valueAt, makes}
-use Rattle.steps.specs.Values.{ValueAt, NodeRight}
+use Rattle.steps.specs.Values.{NodeRight}
 use Rattle.steps.specs.Runs.{rewritten, rewrittens}
 use Rattle.steps.specs.Names.Code.{zero-sorts}
 

@@ -1,16 +1,15 @@
 -- What code answers of nodes: the place behind one, how many variables its rule has; and the steps of the loop over a list.
-use Prim.Native.Nat.{ℕ, zero, suc, _+_, _≤_, _<_}
-use mathlib.Core.List.{List, [], _∷_}
+use Prim.Native.Nat.{ℕ, suc, _+_, _≤_, _<_}
+use mathlib.Core.List.{List, []}
 use mathlib.Core.Bool.{Bool, true, false}
 use mathlib.Core.Option.{Option, none, some}
 use mathlib.Core.Path.{_≡_, refl, ap, ap₂, sym, _∙_, subst}
 use native.Mathlib.Omega.{arith}
 use lib.ListN.{length, getD, take, set}
 use borrow.Author.Tests.{eq-eqb, ne-eqb}
-use Rattle.octets.specs.Choice.{pick, cut, clash}
+use Rattle.octets.specs.Choice.{pick, clash}
 use Rattle.octets.specs.Head.{Bytes}
 use Rattle.number.specs.Reading.{Read, got, fault, andThen, readNumber, below, many}
-use Rattle.number.specs.Reading.Laws.{cut-got, then-got}
 use Rattle.number.specs.Reading.Many.{Came, came-none, came-more}
 use Rattle.term.specs.Term.{Term}
 use Rattle.term.specs.Arity.{slots}
@@ -37,7 +36,7 @@ use Rattle.steps.specs.declared.nodes.NodeEnd.{NodeEnd}
 use Rattle.steps.specs.declared.nodes.NodeEnd.the-variants as end
 use Rattle.steps.specs.declared.nodes.Nodes.{Nodes}
 use Rattle.steps.specs.declared.nodes.Nodes.the-variants as all
-use Rattle.steps.specs.Nodes.{Node, node-of, mostNodes, Reading, read, broken, no-rule, onward, plainly, absent, unknown, values, node, nodesFrom, nodes, allOf, steps}
+use Rattle.steps.specs.Nodes.{Node, node-of, mostNodes, Reading, read, broken, no-rule, plainly, absent, unknown, values, node, nodesFrom, nodes, allOf, steps}
 use Rattle.steps.specs.Nodes.Exact.{many-from}
 use Rattle.steps.specs.Nodes.Unknown.{stops-unknown, stops-broken}
 

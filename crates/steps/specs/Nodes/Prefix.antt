@@ -2,8 +2,7 @@
 -- nodes and the same end.
 use Prim.Native.Nat.{ℕ, _+_, _≤_, _<_}
 use mathlib.Core.List.{List, _++_}
-use mathlib.Core.Option.{Option}
-use mathlib.Core.Path.{_≡_, ap, ap₂, sym, _∙_}
+use mathlib.Core.Path.{_≡_, ap, sym, _∙_}
 use native.Mathlib.Omega.{arith}
 use lib.ListN.{length, take, drop, length-append, length-drop, take-append-drop}
 use lib.Seq.{length-take-le, drop-append-le, take-at}
@@ -11,7 +10,7 @@ use Rattle.octets.specs.Head.{Bytes, Stands, stands-within}
 use Rattle.number.specs.Groups.{groups}
 use Rattle.number.specs.Groups.Laws.{groups-some}
 use Rattle.number.specs.Layout.{flat}
-use Rattle.protocol.specs.Protocol.{Rule, Protocol}
+use Rattle.protocol.specs.Protocol.{Protocol}
 use Rattle.steps.specs.Nodes.{Node, encodeNode, encodeNodes, read, nodes}
 use Rattle.steps.specs.Nodes.Exact.{nodes-back, nodes-form}
 

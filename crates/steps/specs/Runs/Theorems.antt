@@ -2,7 +2,6 @@
 use Prim.Native.Nat.{ℕ}
 use mathlib.Core.List.{List}
 use mathlib.Core.Logic.{_⊎_, _↔_}
-use mathlib.Core.Option.{Option}
 use mathlib.Core.Path.{_≡_}
 use lib.ListN.{length}
 use Rattle.rewriting.specs.Graph.{Edge}
@@ -17,7 +16,7 @@ use Rattle.rewriting.specs.Acceptance as acceptance
 use Rattle.rewriting.specs.Whole as whole
 use Rattle.rewriting.specs.Marks as marks
 use Rattle.rewriting.specs.Size as size
-use Rattle.protocol.specs.Protocol.{Fact, Rule, Protocol}
+use Rattle.protocol.specs.Protocol.{Protocol}
 use Rattle.steps.specs.Nodes.{Node}
 use Rattle.steps.specs.Runs.{protocolFacts, rewrittens, IsRun, Accepted, NamesOnce}
 

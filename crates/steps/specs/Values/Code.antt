@@ -1,8 +1,7 @@
 -- What code answers of a value.
-use Prim.Native.Nat.{ℕ, zero, suc, _+_, _^_, _≤_, _<_}
+use Prim.Native.Nat.{ℕ, zero, suc, _^_, _≤_, _<_}
 use mathlib.Core.List.{List}
 use mathlib.Core.Bool.{Bool, true, false, not, _&&_, and-false}
-use mathlib.Core.Logic.{_↔_}
 use mathlib.Core.Option.{none}
 use mathlib.Core.Path.{_≡_, refl, ap, ap₂, sym, _∙_}
 use native.Mathlib.Omega.{arith}
@@ -12,9 +11,9 @@ use borrow.Author.Tests.{lt-ltb, le-ltb, eq-eqb, ne-eqb}
 use Rattle.octets.specs.Choice.{pick, clash}
 use Rattle.octets.specs.Head.{Bytes}
 use Rattle.number.specs.Groups.{numberLimit}
-use Rattle.number.specs.Reading.{Read, got, fault, andThen, many}
+use Rattle.number.specs.Reading.{got, many}
 use Rattle.number.specs.Reading.Laws.{cut-got}
-use Rattle.term.specs.Term.{variable, public, fresh, Term, leaf, app, symbols}
+use Rattle.term.specs.Term.{public, fresh, Term, leaf, app, symbols}
 use Rattle.term.specs.Reader.{terms, kindOf, symbolAt, build, term}
 use Rattle.term.specs.Reader.Laws.{leaf-at, term-build}
 use Rattle.term.specs.Reader.Exact.{term-form}
@@ -26,7 +25,6 @@ use Rattle.term.specs.declared.Symbol.the-variants as sy
 use Rattle.term.specs.declared.Walk.{Walk}
 use Rattle.term.specs.declared.Walk.the-variants as wk
 use Rattle.rewriting.specs.Tests.{by-bool, true-false, not-true}
-use Rattle.message.specs.Canon.{canon}
 use Rattle.canonical.specs.Builtins.{Builtins, group}
 use Rattle.canonical.specs.Contract.{MessageAt, IsCanonical}
 use Rattle.steps.specs.declared.values.Name.{Name}

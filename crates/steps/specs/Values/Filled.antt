@@ -17,7 +17,7 @@ use Rattle.term.specs.Term.{variable, Term, leaf, symbols}
 use Rattle.term.specs.Term.Laws.{symbols-bytes, encode-some}
 use Rattle.term.specs.Reader.{term}
 use Rattle.term.specs.Reader.Exact.{term-form}
-use Rattle.protocol.specs.Protocol.{Rule, Protocol, factArities, rule, protocol}
+use Rattle.protocol.specs.Protocol.{Rule, Protocol, factArities, rule}
 use Rattle.protocol.specs.Index.{Entries}
 use Rattle.protocol.specs.Places.{Here, valueOf}
 use Rattle.protocol.specs.Protocol.Walks.{sortsAt}

@@ -1,11 +1,10 @@
 -- The loops over a node's values and over the nodes: what is asked, and what is left to do at each turn.
 use Prim.Native.Nat.{ℕ, zero, suc, _+_, _-_, _^_, _≤_, _<_}
-use mathlib.Core.List.{List, [], _∷_}
-use mathlib.Core.Bool.{Bool, true, false, not, _&&_, cond}
+use mathlib.Core.List.{List, _∷_}
+use mathlib.Core.Bool.{Bool, true, false, _&&_}
 use mathlib.Core.Option.{Option, none, some}
 use mathlib.Core.Path.{_≡_, refl, ap, ap₂, sym, _∙_, subst}
 use native.Mathlib.Omega.{arith}
-use native.Mathlib.Numerals.{add-one}
 use lib.ListN.{length, getD, take, drop, drop-of-length-le}
 use lib.Seq.{drop-cons}
 use Rattle.octets.specs.Choice.{clash}
@@ -19,7 +18,6 @@ use Rattle.term.specs.Reader.{term}
 use Rattle.term.specs.Walk.{ended}
 use Rattle.term.specs.declared.Part.{Part}
 use Rattle.term.specs.declared.Part.the-variants as part
-use Rattle.rewriting.specs.Lists.{firstBad}
 use Rattle.canonical.specs.Builtins.{Builtins, declared}
 use Rattle.protocol.specs.Protocol.{Rule, Protocol, factArities, rule}
 use Rattle.protocol.specs.Places.{valueOf, Here, sortOf}
@@ -32,7 +30,7 @@ use Rattle.steps.specs.Index.{IndexOf}
 use Rattle.steps.specs.Nodes.{Node, node-of, values, node}
 use Rattle.steps.specs.Nodes.Code.{index-within, index-slots}
 use Rattle.steps.specs.Values.Tests.{valueOk, valuesOk, ofRule, nodeValuesOk}
-use Rattle.steps.specs.Values.Code.{ValueThere, SomeValue}
+use Rattle.steps.specs.Values.Code.{ValueThere}
 
 -- ── the place behind a value ──
 abbrev pub behindOf : ℕ → Read Term → ℕ

@@ -1,5 +1,5 @@
 -- The terms of a fact, the facts of a list and the lists of a rule, one after the other: a test of all of them.
-use Prim.Native.Nat.{ℕ, zero, suc, _+_, _≤_, _<_}
+use Prim.Native.Nat.{ℕ, suc, _+_, _≤_, _<_}
 use mathlib.Core.List.{List, [], _∷_}
 use mathlib.Core.Bool.{Bool, true, false, _&&_}
 use mathlib.Core.Path.{_≡_, refl, ap, ap₂, sym, _∙_}
@@ -7,7 +7,7 @@ use native.Mathlib.Omega.{arith}
 use lib.ListN.{length, getD, drop, drop-of-length-le}
 use lib.Seq.{drop-cons}
 use lib.Dec.{ltb}
-use Rattle.octets.specs.Choice.{pick, cut, clash}
+use Rattle.octets.specs.Choice.{cut, clash}
 use Rattle.octets.specs.Head.{Bytes}
 use Rattle.number.specs.Reading.{got, below}
 use Rattle.number.specs.Reading.Laws.{cut-got}

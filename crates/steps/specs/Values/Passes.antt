@@ -1,9 +1,9 @@
 -- The passes of causes 7 and 8: each finds the least node that has the cause; and neither finds one just where every node is right.
-use Prim.Native.Nat.{ℕ, zero, suc, _≤_, _<_}
-use mathlib.Core.List.{List, [], _∷_}
+use Prim.Native.Nat.{ℕ, suc}
+use mathlib.Core.List.{List}
 use mathlib.Core.Bool.{Bool, true, false}
 use mathlib.Core.Logic.{_↔_}
-use mathlib.Core.Option.{Option, none, some, Option·none-ne-some, Option·some-injective}
+use mathlib.Core.Option.{Option, none, some, Option·some-injective}
 use mathlib.Core.Path.{_≡_, refl, ap, sym, _∙_, subst}
 use native.Mathlib.Omega.{arith}
 use lib.ListN.{getElem?}
@@ -21,9 +21,9 @@ use Rattle.protocol.specs.Protocol.{Rule, Protocol}
 use Rattle.rules.specs.Numbered.{ruleOf}
 use Rattle.steps.specs.Lists.{all-nth, nth-all}
 use Rattle.steps.specs.Nodes.{Node, NodeWithin}
-use Rattle.steps.specs.Values.{ValueFits, ValueAt, TermOf, mostFilledIn, filledSymbols, NodeRight, WrongValue, TermLong, valueRows}
+use Rattle.steps.specs.Values.{ValueAt, TermOf, mostFilledIn, filledSymbols, NodeRight, WrongValue, TermLong, valueRows}
 use Rattle.steps.specs.Values.Tests.{valueOk, valuesOk, ruleOk, ofRule, nodeValuesOk, nodeTermsOk}
-use Rattle.steps.specs.Values.Laws.{value-decides, BadValue, values-fail, fail-values, BadTerm, terms-fail, fail-terms}
+use Rattle.steps.specs.Values.Laws.{value-decides, values-fail, fail-values, terms-fail, fail-terms}
 
 -- of the rule, where there is one
 cut-rule : {C : Type 0} (q : Rule → Bool) (o : Option Rule) → ofRule q o ≡ false → ((u : Rule) → o ≡ some u → q u ≡ false → C) → C

@@ -1,6 +1,6 @@
 -- A pass over the nodes by their places: the least node that fails a test, 0 where none does.
 use Prim.Native.Nat.{ℕ, zero, suc, _+_, _≤_, _<_}
-use mathlib.Core.List.{List, [], _∷_}
+use mathlib.Core.List.{List}
 use mathlib.Core.Bool.{Bool, true, false, not, cond}
 use mathlib.Core.Option.{Option, none, some}
 use mathlib.Core.Path.{_≡_, refl, ap, ap₂, sym, _∙_}
@@ -10,7 +10,6 @@ use lib.ListN.{length, getD, drop, drop-of-length-le}
 use lib.Seq.{drop-cons}
 use Rattle.protocol.specs.Protocol.{Protocol}
 use Rattle.protocol.specs.Index.{Placed}
-use Rattle.protocol.specs.Places.{Here}
 use Rattle.rewriting.specs.Lists.{firstBad}
 use Rattle.steps.specs.Index.{IndexOf}
 use Rattle.steps.specs.Nodes.{Node, node}

@@ -1,12 +1,12 @@
 -- The sizes of a node's values, filled into a table while they are read.
-use Prim.Native.Nat.{ℕ, zero, suc, _+_, _-_, _≤_, _<_}
-use mathlib.Core.List.{List, [], _∷_}
+use Prim.Native.Nat.{ℕ, zero, suc, _+_, _-_, _<_}
+use mathlib.Core.List.{List, _∷_}
 use mathlib.Core.Path.{_≡_, refl, ap, ap₂, sym, _∙_}
 use native.Mathlib.Omega.{arith}
 use lib.ListN.{length, getD, drop, set}
 use lib.Seq.{drop-cons, getD-set-same, getD-set-other}
 use Rattle.octets.specs.Choice.{clash, by-size}
-use Rattle.number.specs.Reading.{Read, got, fault, many}
+use Rattle.number.specs.Reading.{got, many}
 use Rattle.number.specs.Reading.Laws.{cut-got}
 use Rattle.number.specs.Reading.Many.{many-length}
 use Rattle.term.specs.Term.{Term, symbols}

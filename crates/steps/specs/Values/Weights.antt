@@ -1,7 +1,7 @@
 -- The symbols of a term with the values filled in, added up symbol by symbol: a variable weighs as much as its value, everything else one.
-use Prim.Native.Nat.{ℕ, zero, suc, _+_, _-_, _*_, _^_, _≤_, _<_}
+use Prim.Native.Nat.{ℕ, zero, suc, _+_, _-_, _≤_, _<_}
 use mathlib.Core.List.{List, [], _∷_, _++_}
-use mathlib.Core.Bool.{Bool, true, false}
+use mathlib.Core.Bool.{false}
 use mathlib.Core.Path.{_≡_, refl, ap, ap₂, sym, _∙_}
 use native.Mathlib.Omega.{arith}
 use lib.ListN.{length, getD, List·getD-eq-default}
@@ -9,7 +9,7 @@ use lib.Dec.{ltb}
 use borrow.Author.Tests.{le-ltb}
 use Rattle.octets.specs.Choice.{clash}
 use Rattle.octets.specs.Head.{Bytes}
-use Rattle.number.specs.Reading.{Read, got, fault, andThen, many}
+use Rattle.number.specs.Reading.{got, fault, many}
 use Rattle.number.specs.Reading.Laws.{cut-got, then-got}
 use Rattle.number.specs.Reading.Many.{many-split}
 use Rattle.term.specs.Term.{Kind, variable, public, fresh, Term, leaf, app, Terms, nil, _&_, symbols, symbolss}
