@@ -1,15 +1,17 @@
 -- Cause 9 by the nodes of a step list or graph, and what code answers of the names that they make.
-use Prim.Native.Nat.{ℕ, _+_}
+use Prim.Native.Nat.{ℕ, suc, _<_}
 use mathlib.Core.List.{List, [], _∷_, _++_}
 use mathlib.Core.Bool.{Bool, false}
 use mathlib.Core.Option.{Option, none, some}
 use mathlib.Core.Path.{_≡_}
+use lib.ListN.{getD}
 use lib.Dec.{eqb, leb}
 use Rattle.rewriting.specs.Lists.{countBy}
 use Rattle.rewriting.specs.Graph.{nameOf}
 use Rattle.steps.specs.declared.names.Made.{Made}
 use Rattle.steps.specs.declared.names.Made.the-variants as md
 use Rattle.steps.specs.Nodes.{Node}
+use Rattle.steps.specs.Nodes.Code.{noNode}
 use Rattle.steps.specs.Facts.{makes}
 -- the pass over the names is crate rewriting's
 pub mod Laws
@@ -37,7 +39,14 @@ abbrev pub MadeIs : Option ℕ → Made → Type 0
 MadeIs o (md.Of f) = o ≡ some (f .0)
 MadeIs o md.Nothing = o ≡ none
 
--- whether it is the name of a number
-abbrev pub sameMade : ℕ → Made → Bool
-sameMade m (md.Of f) = eqb m (f .0)
-sameMade m md.Nothing = false
+-- ── a table of them, an entry a node ──
+abbrev pub nameEntry : Option ℕ → ℕ
+nameEntry none = 0
+nameEntry (some m) = suc m
+
+abbrev pub entryOf : Made → ℕ
+entryOf (md.Of f) = suc (f .0)
+entryOf md.Nothing = 0
+
+pub record Entered (names : List ℕ) (xs : List Node) (n : ℕ) : Type 0 where
+  pub each : (k : ℕ) → k < n → getD names k 0 ≡ nameEntry (makes (getD xs k noNode))

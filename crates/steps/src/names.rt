@@ -1,7 +1,7 @@
 // The names that nodes of rule 0 make (9).
 ghost use mathlib.Core.Path.{_≡_};
 ghost use mathlib.Core.List.{List};
-ghost use Prim.Native.Nat.{ℕ, _≤_, _<_, _+_};
+ghost use Prim.Native.Nat.{ℕ, suc, _≤_, _<_, _+_};
 ghost use lib.ListN.{length, getD, take};
 ghost use Rattle.protocol.specs.Protocol.{Protocol};
 ghost use Rattle.protocol.specs.Index.{Placed};
@@ -13,7 +13,7 @@ ghost use Rattle.steps.specs.Nodes.Code.{noNode};
 ghost use Rattle.steps.specs.Facts.{makes};
 ghost use Rattle.steps.specs.Runs.{rewrittens};
 ghost use Rattle.steps.specs.Values.Scan.{asFound};
-ghost use Rattle.steps.specs.Names.{isMade, againIn, MadeIs, sameMade};
+ghost use Rattle.steps.specs.Names.{isMade, againIn, MadeIs, entryOf, Entered};
 ghost use Rattle.steps.specs.Names.Code.{NumberIs};
 ghost use Rattle.term.specs.Reader.{symbolAt};
 use crate::values::Name;
@@ -59,60 +59,80 @@ pub fn made_at(
     }
 }
 
-// Whether it is the name of a number.
-fn is_of(made: Made, number: u32) -> bool
-    ensures { λ r. ⌜ r ≡ sameMade number made ⌝ }
+// The name as an entry of a table: its number and one, or 0 where there is none.
+fn entry_of(made: Made) -> usize
+    ensures { λ r. ⌜ r ≡ entryOf made ⌝ }
 {
     match made {
-        Made::Of(f) => number == f.0,
-        Made::Nothing => false,
+        Made::Of(f) => f.0 as usize + 1,
+        Made::Nothing => 0,
     }
 }
 
-// Whether one of the first j nodes makes a name.
-fn made_before(
+// The names that the nodes make, an entry a node.
+fn enter_names(
     s: &[u8],
     protocol: &[u8],
     arities: &[u8],
     rules: &[usize],
     nr: usize,
     places: &[usize],
-    j: usize,
-    name: Fresh,
-) -> bool
-    requires { ⌜ j ≤ length (now places) ⌝ }
-    ensures { λ r. ⌜ ((p : Protocol) (xs : List Node) (n : ℕ) → IndexOf (now (protocol .entry)) (now (arities .entry)) (now (rules .entry)) nr p → Placed (node p (now (s .entry))) noNode (now (places .entry)) xs n → j ≤ n → r ≡ isMade (name .0) (take j xs)) ⌝ }
+    n: usize,
+    names: &mut [usize],
+)
+    requires { ⌜ (n ≤ length (now places)) × (n ≤ length (now names)) ⌝ }
+    ensures kept { λ r. ⌜ length (now (names .exit)) ≡ length (now (names .entry)) ⌝ }
+    ensures told { λ r. ⌜ ((p : Protocol) (xs : List Node) → IndexOf (now (protocol .entry)) (now (arities .entry)) (now (rules .entry)) nr p → Placed (node p (now (s .entry))) noNode (now (places .entry)) xs n → Entered (now (names .exit)) xs n) ⌝ }
 {
-    let number = name.0;
+    let mut j: usize = 0;
+    while j < n {
+        names[j] = entry_of(made_at(s, protocol, arities, rules, nr, places[j]));
+        j += 1;
+    }
+}
+
+// Whether one of the first j nodes makes the name of an entry.
+fn made_before(names: &[usize], j: usize, entry: usize) -> bool
+    requires { ⌜ j ≤ length (now names) ⌝ }
+    ensures { λ r. ⌜ ((xs : List Node) (n m : ℕ) → Entered (now (names .entry)) xs n → j ≤ n → n ≤ length xs → entry ≡ suc m → r ≡ isMade m (take j xs)) ⌝ }
+{
     let mut found = false;
     let mut i: usize = 0;
     while i < j {
-        found = found | is_of(made_at(s, protocol, arities, rules, nr, places[i]), number);
+        found = found | (entry == names[i]);
         i += 1;
     }
     found
 }
 
 // Whether node j, from 0, makes a name that a node before it makes.
-fn again_at(
-    s: &[u8],
-    protocol: &[u8],
-    arities: &[u8],
-    rules: &[usize],
-    nr: usize,
-    places: &[usize],
-    j: usize,
-) -> bool
-    requires { ⌜ j < length (now places) ⌝ }
-    ensures { λ r. ⌜ ((p : Protocol) (xs : List Node) (n : ℕ) → IndexOf (now (protocol .entry)) (now (arities .entry)) (now (rules .entry)) nr p → Placed (node p (now (s .entry))) noNode (now (places .entry)) xs n → j < n → r ≡ againIn (take j xs) (makes (getD xs j noNode))) ⌝ }
+fn again_at(names: &[usize], j: usize) -> bool
+    requires { ⌜ j < length (now names) ⌝ }
+    ensures { λ r. ⌜ ((xs : List Node) (n : ℕ) → Entered (now (names .entry)) xs n → j < n → n ≤ length xs → r ≡ againIn (take j xs) (makes (getD xs j noNode))) ⌝ }
 {
-    match made_at(s, protocol, arities, rules, nr, places[j]) {
-        Made::Of(f) => made_before(s, protocol, arities, rules, nr, places, j, f),
-        Made::Nothing => false,
+    let entry = names[j];
+    if entry == 0 {
+        return false;
     }
+    made_before(names, j, entry)
 }
 
-// 9: the least node that makes a name that an earlier one makes; 0 where there is none.
+// The least node that makes a name that an earlier one makes; 0 where there is none.
+fn least_again(names: &[usize], n: usize) -> usize
+    requires { ⌜ (n ≤ 512) × (n ≤ length (now names)) ⌝ }
+    ensures { λ r. ⌜ ((p : Protocol) (xs : List Node) → Entered (now (names .entry)) xs n → length xs ≡ n → asFound r ≡ firstNameTwice (rewrittens p xs)) ⌝ }
+{
+    let mut j: usize = 0;
+    while j < n {
+        if again_at(names, j) {
+            return j + 1;
+        }
+        j += 1;
+    }
+    0
+}
+
+// 9: the names are read once, then compared.
 pub fn name_pass(
     s: &[u8],
     protocol: &[u8],
@@ -125,12 +145,7 @@ pub fn name_pass(
     requires { ⌜ (n ≤ 512) × (n ≤ length (now places)) ⌝ }
     ensures { λ r. ⌜ ((p : Protocol) (xs : List Node) → IndexOf (now (protocol .entry)) (now (arities .entry)) (now (rules .entry)) nr p → Placed (node p (now (s .entry))) noNode (now (places .entry)) xs n → asFound r ≡ firstNameTwice (rewrittens p xs)) ⌝ }
 {
-    let mut j: usize = 0;
-    while j < n {
-        if again_at(s, protocol, arities, rules, nr, places, j) {
-            return j + 1;
-        }
-        j += 1;
-    }
-    0
+    let mut names = [0usize; 512];
+    enter_names(s, protocol, arities, rules, nr, places, n, &mut names);
+    least_again(&names, n)
 }

@@ -3,19 +3,20 @@ use Prim.Native.Nat.{ℕ, suc, _+_, _<_, _≤_}
 use mathlib.Core.List.{List, [], _∷_, _++_, append-assoc, append-nil}
 use mathlib.Core.Bool.{Bool, true, false, cond, _||_}
 use mathlib.Core.Option.{Option, none, some}
-use mathlib.Core.Path.{_≡_, refl, ap, ap₂, sym, _∙_}
+use mathlib.Core.Path.{_≡_, refl, ap, ap₂, sym, _∙_, subst}
 use native.Mathlib.Omega.{arith}
 use native.Mathlib.Numerals.{add-one}
 use lib.Dec.{eqb, leb}
-use lib.ListN.{length, getD, take, drop, drop-of-length-le}
-use lib.Seq.{drop-cons, take-suc}
+use lib.ListN.{length, getD, take, drop, set, drop-of-length-le}
+use lib.Seq.{drop-cons, take-suc, getD-set-same, getD-set-other}
+use borrow.Author.Tests.{eqb-true, eqb-false, eq-eqb, ne-eqb}
+use Rattle.octets.specs.Choice.{by-order}
 use Rattle.rewriting.specs.Lists.{countBy}
 use Rattle.rewriting.specs.Lists.Laws.{count-append}
 use Rattle.rewriting.specs.Tests.{leb-sum}
 use Rattle.rewriting.specs.Graph.{nameOf}
 use Rattle.rewriting.specs.Machine.{madeAlready}
 use Rattle.rewriting.specs.Writer.{nameTwiceFrom, firstNameTwice}
-use Rattle.term.specs.declared.Fresh.{Fresh}
 use Rattle.protocol.specs.Protocol.{Protocol}
 use Rattle.steps.specs.Nodes.{Node}
 use Rattle.steps.specs.Facts.{makes}
@@ -23,7 +24,8 @@ use Rattle.steps.specs.Runs.{rewrittens}
 use Rattle.steps.specs.Values.Scan.{asFound}
 use Rattle.steps.specs.declared.names.Made.{Made}
 use Rattle.steps.specs.declared.names.Made.the-variants as md
-use Rattle.steps.specs.Names.{madeBy, isMade, againIn, MadeIs, sameMade}
+use Rattle.steps.specs.Nodes.Code.{noNode}
+use Rattle.steps.specs.Names.{madeBy, isMade, againIn, MadeIs, nameEntry, entryOf, Entered}
 
 made-append : (xs ys : List Node) → madeBy (xs ++ ys) ≡ madeBy xs ++ madeBy ys
 made-append [] ys = refl
@@ -58,28 +60,65 @@ module _ (m : ℕ) (xs : List Node) (d : Node) (j : ℕ) (l : j < length xs) whe
       (ap (countBy (eqb m)) (made-more xs j d l) ∙ count-append (eqb m) (madeBy (take j xs)) (nameOf (makes (getD xs j d))))
       ∙ ap (λ (b : Bool). isMade m (take j xs) || b) (one-more (makes (getD xs j d)))
 
--- by what the code has of the node
-pub made-turn :
-    (m : ℕ) (xs : List Node) (d : Node) (j : ℕ) → j < length xs → (b : Bool) (a : Made) → b ≡ isMade m (take j xs) → MadeIs (makes (getD xs j d)) a
-    → (b || sameMade m a) ≡ isMade m (take (j + 1) xs)
-made-turn m xs d j l b a h k =
-    ap₂ _||_ h (same-as a k) ∙ sym (made-step m xs d j l)
+-- ── by the table ──
+pub entry-made : (o : Option ℕ) (a : Made) → MadeIs o a → entryOf a ≡ nameEntry o
+entry-made o (md.Of f) h = sym (ap nameEntry h)
+entry-made o md.Nothing h = sym (ap nameEntry h)
+
+same-suc : (m n : ℕ) → eqb (suc m) (suc n) ≡ eqb m n
+same-suc m n = go (eqb m n) refl
   where
-    same-as : (a : Made) → MadeIs (makes (getD xs j d)) a → sameMade m a ≡ sameAs m (makes (getD xs j d))
-    same-as (md.Of f) k = sym (ap (sameAs m) k)
-    same-as md.Nothing k = sym (ap (sameAs m) k)
+    go : (b : Bool) → eqb m n ≡ b → eqb (suc m) (suc n) ≡ eqb m n
+    go true h = eq-eqb (suc m) (suc n) (ap suc (eqb-true m n h)) ∙ sym h
+    go false h = ne-eqb (suc m) (suc n) (λ e. eqb-false m n h (omega arith)) ∙ sym h
+
+same-entry : (m : ℕ) (o : Option ℕ) → eqb (suc m) (nameEntry o) ≡ sameAs m o
+same-entry m none = ne-eqb (suc m) 0 (λ e. omega arith)
+same-entry m (some n) = same-suc m n
+
+pub entered-none : (names : List ℕ) (xs : List Node) → Entered names xs 0
+entered-none names xs = record { each = λ k l. absurd (omega arith) }
+
+-- one entry more
+pub entered-more :
+    (names : List ℕ) (xs : List Node) (j e : ℕ) → Entered names xs j → j < length names → e ≡ nameEntry (makes (getD xs j noNode))
+    → Entered (set names j e) xs (j + 1)
+entered-more names xs j e h l q = record {
+  each = λ k m.
+      by-order k j
+      (λ a. getD-set-other names j k e 0 (λ z. omega arith) ∙ h .each k a)
+      (λ a.
+      subst (λ (i : ℕ). getD (set names j e) i 0 ≡ nameEntry (makes (getD xs i noNode))) (sym a) (getD-set-same names j e 0 l ∙ q))
+      (λ a. absurd (omega arith));
+}
+
+module _ (names : List ℕ) (xs : List Node) (n : ℕ) (h : Entered names xs n) (few : n ≤ length xs) where
+  pub made-turn :
+      (m entry j : ℕ) → entry ≡ suc m → j < n → (b : Bool) → b ≡ isMade m (take j xs)
+      → (b || eqb entry (getD names j 0)) ≡ isMade m (take (j + 1) xs)
+  made-turn m entry j e l b k =
+      ap₂ _||_ k (ap₂ eqb e (h .each j l) ∙ same-entry m (makes (getD xs j noNode))) ∙ sym (made-step m xs noNode j (omega arith))
+
+  -- the node's name is made by the nodes before it
+  pub again-of : (j : ℕ) → j < n → (entry : ℕ) → entry ≡ getD names j 0 → (entry ≡ 0 → ⊥) → (b : Bool)
+      → ((m : ℕ) → entry ≡ suc m → b ≡ isMade m (take j xs)) → b ≡ againIn (take j xs) (makes (getD xs j noNode))
+  again-of j l entry e z b k = go (makes (getD xs j noNode)) (e ∙ h .each j l)
+    where
+      go : (o : Option ℕ) → entry ≡ nameEntry o → b ≡ againIn (take j xs) o
+      go none q = absurd (z q)
+      go (some m) q = k m q
+
+  pub again-none : (j : ℕ) → j < n → (entry : ℕ) → entry ≡ getD names j 0 → entry ≡ 0 → false ≡ againIn (take j xs) (makes (getD xs j noNode))
+  again-none j l entry e z = go (makes (getD xs j noNode)) (sym z ∙ e ∙ h .each j l)
+    where
+      go : (o : Option ℕ) → 0 ≡ nameEntry o → false ≡ againIn (take j xs) o
+      go none q = refl
+      go (some m) q = absurd (omega arith)
 
 -- ── the pass ──
 again-already : (ys : List Node) (o : Option ℕ) → madeAlready (madeBy ys) o ≡ againIn ys o
 again-already ys none = refl
 again-already ys (some m) = refl
-
--- the node's name, as the code has it, is made by the nodes before it
-pub again-of : (ys : List Node) (o : Option ℕ) (f : Fresh) (b : Bool) → o ≡ some (f .0) → b ≡ isMade (f .0) ys → b ≡ againIn ys o
-again-of ys o f b h k = k ∙ sym (ap (againIn ys) h)
-
-pub again-none : (ys : List Node) (o : Option ℕ) → o ≡ none → false ≡ againIn ys o
-again-none ys o h = sym (ap (againIn ys) h)
 
 module _ (p : Protocol) (d : Node) (xs : List Node) where
   -- what is left is what there was
