@@ -2,8 +2,8 @@
 
 -- the canonical bytes of a fact or of one argument: what is asked, what is promised
 pub mod Writing
--- how many facts a node has
-pub mod Counts
+-- the facts of a rule: how many a list has, their places and symbols
+pub mod Rules
 -- the calls over the facts of nodes: a fact by its node, list and number
 pub mod Calls
 -- a mark for each fact

@@ -10,7 +10,7 @@ ghost use Rattle.steps.specs.Nodes.{Node, node};
 ghost use Rattle.steps.specs.Facts.{factsOf};
 ghost use Rattle.steps.specs.Index.{IndexOf, Given};
 ghost use Rattle.steps.specs.Values.Filled.{ArityTable};
-ghost use Rattle.facts.specs.Counts.{partCount};
+ghost use Rattle.facts.specs.Rules.{partCount};
 use number::Number;
 use rules::numbered::Found;
 

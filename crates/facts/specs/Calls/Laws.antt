@@ -1,11 +1,10 @@
 -- A node's fact is its rule's with the values filled in, and who finds the rule can write it.
 use Prim.Native.Nat.{ℕ, _^_, _≤_, _<_}
-use mathlib.Core.List.{List, [], map}
+use mathlib.Core.List.{List, map}
 use mathlib.Core.Option.{some, Option·some-injective}
 use mathlib.Core.Path.{_≡_, ap, sym, _∙_, subst}
 use native.Mathlib.Omega.{arith}
-use lib.ListN.{length, getD, length-map, List·getD-eq-default}
-use Rattle.octets.specs.Choice.{by-size}
+use lib.ListN.{length, getD, length-map}
 use Rattle.octets.specs.Head.{Bytes}
 use Rattle.number.specs.Reading.{got, readNumber, many, below}
 use Rattle.term.specs.Term.{Term}
@@ -23,7 +22,7 @@ use Rattle.steps.specs.Nodes.Code.{index-within, index-slots}
 use Rattle.steps.specs.Index.{IndexOf}
 use Rattle.steps.specs.Lists.{map-at}
 use Rattle.steps.specs.Facts.{valueAt, filledFact, filledPart, factsOf}
-use Rattle.steps.specs.Values.Parts.{noTerm, list-there, fact-there, lists-many}
+use Rattle.steps.specs.Values.Parts.{noTerm}
 use Rattle.steps.specs.Values.Loops.{count-here, node-from}
 use Rattle.steps.specs.Values.Filled.{FillsRule}
 use Rattle.facts.specs.declared.writing.Wanted.{Wanted}
@@ -32,6 +31,7 @@ use Rattle.facts.specs.Writing.{Has, FactJob, WantedReady}
 use Rattle.facts.specs.Writing.Nodes.{node-job}
 use Rattle.facts.specs.declared.nodes.Place.{Place}
 use Rattle.facts.specs.declared.nodes.Form.{Form}
+use Rattle.facts.specs.Rules.{part-fact}
 use Rattle.facts.specs.Calls.{factAt, ruleFact, Room, FactOf, FactFrom, RuleFact, Written}
 
 -- ── filled in one by one ──
@@ -83,11 +83,6 @@ module _ {file table rules : List ℕ} {nr : ℕ} {p : Protocol} (index : IndexO
   }
 
 -- ── a rule at a place, and the places of a node's values ──
-part-inside : (u : Rule) (w i : ℕ) → i < length (part w u) → w < length (u .parts)
-part-inside u w i l =
-    by-size w (length (u .parts)) (λ h. h)
-    (λ h. absurd (omega (arith, ap length (List·getD-eq-default (u .parts) [] h))))
-
 module _ {table ars s src : List ℕ} {place at n o w i : ℕ} {q : Wanted} {u : Rule} {vs : List Term} {e : ℕ}
     (r : RuleFact table ars s src place at n o w i q u vs e) where
   -- the values have places enough
@@ -96,9 +91,7 @@ module _ {table ars s src : List ℕ} {place at n o w i : ℕ} {q : Wanted} {u :
 
   module _ (list f : ℕ) (hl : list ≡ listPlace src table ars place w) (hf : f ≡ factPlace src table ars list i) where
     fact-here : Here (fact src table ars) (getD (part w u) i noFact) f
-    fact-here =
-        let m : w < 3 = omega (arith, part-inside u w i (r .inside), lists-many src table ars place u (r .fills .here)) in
-        fact-there src table ars list (part w u) (list-there src table ars place u (r .fills .here) w list m hl) i f (r .inside) hf
+    fact-here = part-fact src table ars place u (r .fills .here) w i list f (r .inside) hl hf
 
     module _ (k : ℕ) (counted : k ≡ valueOf (sortsAt src place)) (starts : List ℕ)
         (told : (vs : List Term) (d : ℕ) → many (term s table) k at ≡ got vs d → Placed (term s table) noTerm starts vs k)

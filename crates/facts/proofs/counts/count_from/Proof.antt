@@ -1,6 +1,6 @@
 use lib.Seq.{length-take-le}
 use mathlib.Core.Path.{sym, ap, _∙_}
-use Rattle.facts.specs.Counts.{partCount}
+use Rattle.facts.specs.Rules.{partCount}
 use Rattle.steps.specs.Values.Filled.{written-here, placed-here, written-short}
 use Rattle.steps.specs.Nodes.Code.{written-at, placed-at, nothing-at}
 use borrow.Author.Needs.{needs}

@@ -1,4 +1,4 @@
-use Rattle.facts.specs.Counts.{node-count}
+use Rattle.facts.specs.Rules.{node-count}
 use Rattle.steps.specs.Values.Loops.{no-node-from}
 use Rattle.number.specs.Reading.{asRead}
 use mathlib.Core.Path.{ap, sym, _∙_}
@@ -33,7 +33,7 @@ enum-told c = search needs
 -- src/counts.rt:48:1
 returns : tie.Need-returns
 returns c =
-    λ p x i h. c .count-from .ensures p i ∙ node-count p _ _ _ _ _ x (sym (c .before .before .before .before .read-number .ensures) ∙ ap asRead (c .before .before .r .given .1)) h
+    λ p x i h. c .count-from .ensures p i ∙ node-count p _ _ _ _ x (sym (c .before .before .before .before .read-number .ensures) ∙ ap asRead (c .before .before .r .given .1)) h _
 
 -- src/counts.rt:48:1
 returns-2 : tie.Need-returns-2

@@ -1,4 +1,4 @@
-use Rattle.facts.specs.Counts.{rule-counted}
+use Rattle.facts.specs.Rules.{rule-counted}
 use borrow.Author.Needs.{needs}
 use Rattle.facts.proofs.counts.rule_count.Statement.{statement}
 use Rattle.facts.proofs.counts.rule_count.Tie as tie
@@ -18,7 +18,7 @@ count-of-requires c κs = search needs
 -- src/counts.rt:18:1
 returns : tie.Need-returns
 returns c =
-    ((λ k. c .before .before .before .before .shared-slice-known .given k .fits), λ u h. rule-counted _ _ _ _ _ _ _ (c .before .before .before .before .before .pre .1) (c .before .list-at .ensures) (c .count-of .ensures) u h)
+    ((λ k. c .before .before .before .before .shared-slice-known .given k .fits), λ u h. rule-counted _ _ _ _ u h _ _ _ (c .before .before .before .before .before .pre .1) (c .before .list-at .ensures) (c .count-of .ensures))
 
 pub rule-count-spec : {M : Type 1} → statement M
 rule-count-spec = tie.close (tie.spec list-at-requires count-of-requires returns)

@@ -1,0 +1,55 @@
+use Rattle.facts.specs.Rules.{node-symbol, node-inside}
+use Rattle.steps.specs.Values.Loops.{no-node-from}
+use Rattle.number.specs.Reading.{asRead}
+use mathlib.Core.Path.{ap, sym, _∙_}
+use borrow.Author.Needs.{needs}
+use Rattle.facts.proofs.symbols.fact_symbol.Statement.{statement}
+use Rattle.facts.proofs.symbols.fact_symbol.Tie as tie
+use Rattle.facts.proofs.symbols.fact_symbol.Reads as reads
+use Rattle.facts.proofs.symbols.fact_symbol.Lts as lts
+use Rattle.facts.proofs.symbols.symbol_from.Reads as symbol-from-reads
+use Rattle.number.proofs.read_number.Reads as read-number-reads
+
+-- src/symbols.rt:71:11
+read-number-requires : tie.Need-read-number-requires
+read-number-requires c κs = search needs
+
+-- src/symbols.rt:72:23
+enum-known-r : tie.Need-enum-known-r
+enum-known-r c = search needs
+
+-- src/symbols.rt:78:13
+cast-symbol-from : tie.Need-cast-symbol-from
+cast-symbol-from c = search needs
+
+-- src/symbols.rt:72:32
+symbol-from-requires : tie.Need-symbol-from-requires
+symbol-from-requires c κs = search needs
+
+-- src/symbols.rt:82:26
+enum-told : tie.Need-enum-told
+enum-told c = search needs
+
+-- src/symbols.rt:59:1
+returns : tie.Need-returns
+returns c =
+    λ p x i h l.
+    let r = sym (c .before .before .before .before .read-number .ensures) ∙ ap asRead (c .before .before .r .given .1) in
+    c .symbol-from .ensures p i (node-inside p _ _ _ _ x r h _ _ l) ∙ node-symbol p _ _ _ _ x r h _ _ l
+
+-- src/symbols.rt:59:1
+returns-2 : tie.Need-returns-2
+returns-2 c =
+    λ p x i h l. no-node-from p _ _ x (sym (c .before .before .read-number .ensures) ∙ ap asRead (c .enum-told .given .1)) h
+
+pub fact-symbol-spec : {M : Type 1} → statement M
+fact-symbol-spec =
+    tie.close
+    (tie.spec
+    read-number-requires
+    enum-known-r
+    cast-symbol-from
+    symbol-from-requires
+    enum-told
+    returns
+    returns-2)

@@ -1,0 +1,77 @@
+// The symbol of a node's fact.
+ghost use mathlib.Core.Path.{_≡_};
+ghost use Prim.Native.Nat.{_^_, _≤_, _<_};
+ghost use lib.ListN.{length, getD};
+ghost use Rattle.octets.specs.Head.{Bytes};
+ghost use Rattle.protocol.specs.Protocol.{Rule, Protocol, part, noFact, rule};
+ghost use Rattle.protocol.specs.Places.{Here};
+ghost use Rattle.rules.specs.Numbered.{ruleOf};
+ghost use Rattle.steps.specs.Nodes.{Node, node};
+ghost use Rattle.steps.specs.Facts.{factsOf};
+ghost use Rattle.steps.specs.Index.{IndexOf, Given};
+ghost use Rattle.steps.specs.Values.Filled.{ArityTable};
+ghost use Rattle.facts.specs.Calls.{factAt};
+ghost use Rattle.facts.specs.Rules.{partCount, partSymbol};
+use crate::nodes::Place;
+use number::Number;
+use rules::numbered::Found;
+
+// The symbol of fact i of list w of the rule at a place.
+fn rule_symbol(src: &[u8], arities: &[u8], ars: &[u8], place: usize, w: usize, i: usize) -> usize
+    requires { ⌜ length (now src) ≤ 2 ^ 32 ⌝ }
+    ensures { λ r. ⌜ Bytes (now (src .entry)) × ((u : Rule) → Here (rule (now (src .entry)) (now (arities .entry)) (now (ars .entry))) u place → i < length (part w u) → r ≡ getD (part w u) i noFact .symbol) ⌝ }
+{
+    let list = protocol::places::list_at(src, arities, ars, place, w);
+    let fact = protocol::places::fact_at(src, arities, ars, list, i);
+    protocol::places::symbol_of(src, ars, fact)
+}
+
+// Of the rule of a number.
+fn symbol_from(
+    protocol: &[u8],
+    arities: &[u8],
+    ars: &[u8],
+    rules: &[usize],
+    nr: usize,
+    number: usize,
+    w: usize,
+    i: usize,
+) -> usize
+    requires { ⌜ Given (now protocol) (now arities) (now rules) nr × ArityTable (now protocol) (now arities) (now rules) nr (now ars) ⌝ }
+    ensures { λ r. ⌜ ((p : Protocol) → IndexOf (now (protocol .entry)) (now (arities .entry)) (now (rules .entry)) nr p → i < partCount w (ruleOf p number) → r ≡ partSymbol w i (ruleOf p number)) ⌝ }
+{
+    let mut own = [0u8; 30];
+    match rules::numbered::find_rule(arities, rules, nr, number, &mut own) {
+        Found::Written(len) => rule_symbol(&own[..len], arities, ars, 0, w, i),
+        Found::At(place) => rule_symbol(protocol, arities, ars, place, w, i),
+        Found::Nothing => 0,
+    }
+}
+
+// Of a node's fact.
+pub fn fact_symbol(
+    s: &[u8],
+    protocol: &[u8],
+    arities: &[u8],
+    ars: &[u8],
+    rules: &[usize],
+    nr: usize,
+    place: Place,
+) -> usize
+    requires { ⌜ Given (now protocol) (now arities) (now rules) nr × ArityTable (now protocol) (now arities) (now rules) nr (now ars) ⌝ }
+    ensures { λ r. ⌜ ((p : Protocol) (x : Node) → IndexOf (now (protocol .entry)) (now (arities .entry)) (now (rules .entry)) nr p → Here (node p (now (s .entry))) x (place .node) → place .number < length (factsOf p (place .part) x) → r ≡ factAt p (place .part) (place .number) x .symbol) ⌝ }
+{
+    match number::read_number(s, place.node) {
+        Number::Value(r, _) => symbol_from(
+            protocol,
+            arities,
+            ars,
+            rules,
+            nr,
+            r as usize,
+            place.part,
+            place.number,
+        ),
+        Number::Fault => 0,
+    }
+}
