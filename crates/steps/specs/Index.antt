@@ -5,6 +5,8 @@ use mathlib.Core.Path.{_≡_}
 use lib.ListN.{length}
 use Rattle.protocol.specs.Protocol.{Protocol}
 use Rattle.protocol.specs.Index.{Entries}
+-- that of a fit protocol
+pub mod Sound
 
 -- the index is of protocol p
 pub record IndexOf (s arities places : List ℕ) (nr : ℕ) (p : Protocol) : Type 0 where

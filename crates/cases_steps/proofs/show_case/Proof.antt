@@ -1,4 +1,4 @@
-use Rattle.cases_steps.specs.Index.{sound-few, sound-given, sound-arities}
+use Rattle.steps.specs.Index.Sound.{sound-few, sound-given, sound-arities}
 use native.Mathlib.Omega.{arith}
 use mathlib.Core.Path.{sym}
 use lib.Seq.{length-take-le}

@@ -1,4 +1,4 @@
--- What the judgement of a fit protocol leaves is what the ruling of a step list asks for.
+-- What the judgement of a fit protocol leaves is what the code over nodes asks for.
 use Prim.Native.Nat.{ℕ, _^_, _≤_}
 use mathlib.Core.List.{List}
 use mathlib.Core.Path.{_≡_, refl, subst}

@@ -1,2 +1,0 @@
--- the index of a fit protocol
-pub mod Index
