@@ -4,7 +4,7 @@
 //!
 //! - bytes.txt: `number | LABEL | BYTES` and `term | LABEL | ARITIES | BYTES`
 //! - messages.txt: `LABEL | ARITIES | BYTES`
-//! - steps.txt: `LABEL | PROTOCOL | BYTES`
+//! - steps.txt and facts.txt: `LABEL | PROTOCOL | BYTES`
 //!
 //! ARITIES are those of the free functions, in decimal, free function 0 first; PROTOCOL and BYTES are
 //! bytes as `notation::bytes` reads them. Each may be empty. A case's number is its place among the cases
@@ -14,8 +14,10 @@ use crate::calls::{fit_protocol, ruled_steps, Outcome};
 use crate::canonical::canonical_form;
 use crate::notation;
 use crate::number::{Read, Reader};
+use crate::protocol::Fact;
 use crate::refusal::Judged;
-use crate::term::{Prefix, Signature};
+use crate::steps::Node;
+use crate::term::{Prefix, Public, Signature, Term};
 
 /// What is asked of the bytes.
 #[derive(Clone, Copy, Debug, PartialEq, Eq)]
@@ -24,6 +26,7 @@ pub enum Kind {
     Term,
     Message,
     Steps,
+    Facts,
 }
 
 #[derive(Clone, Debug)]
@@ -56,8 +59,18 @@ pub fn message_cases(text: &str) -> Vec<Case> {
 
 /// The cases of steps.txt.
 pub fn steps_cases(text: &str) -> Vec<Case> {
+    under_protocols(Kind::Steps, text)
+}
+
+/// The cases of facts.txt.
+pub fn facts_cases(text: &str) -> Vec<Case> {
+    under_protocols(Kind::Facts, text)
+}
+
+/// Step lists, each under its protocol.
+fn under_protocols(kind: Kind, text: &str) -> Vec<Case> {
     let case = |fields: &[&str]| match fields {
-        [label, protocol, bytes] => case(Kind::Steps, label, notation::bytes(protocol), bytes),
+        [label, protocol, bytes] => case(kind, label, notation::bytes(protocol), bytes),
         _ => panic!("no case: {fields:?}"),
     };
     lines(text).map(|fields| case(&fields)).collect()
@@ -98,7 +111,8 @@ impl Case {
             Kind::Number => self.number(),
             Kind::Term => self.term(),
             Kind::Message => self.message(),
-            Kind::Steps => Ok(self.steps()),
+            Kind::Steps => Ok(self.ruled(|nodes| format!("good {}", nodes.len()))),
+            Kind::Facts => Ok(self.ruled(same_facts)),
         };
         outcome.unwrap_or_else(|_| "fault".to_string())
     }
@@ -122,17 +136,17 @@ impl Case {
         Ok(hexadecimal(&canonical_form(&prefix.tree()).encoded()))
     }
 
-    fn steps(&self) -> String {
+    /// What is said of the nodes where no cause from 3 to 9 is there; the refusal otherwise.
+    fn ruled(&self, say: impl Fn(&[Node]) -> String) -> String {
         match self.nodes() {
-            Ok(nodes) => format!("good {nodes}"),
+            Ok(nodes) => say(&nodes),
             Err(refusal) => Outcome::Refused(refusal).to_string(),
         }
     }
 
-    /// How many nodes there are, where no cause from 3 to 9 is there.
-    fn nodes(&self) -> Judged<usize> {
-        let protocol = fit_protocol(&self.under)?;
-        Ok(ruled_steps(&protocol, &self.bytes)?.len())
+    /// The nodes of a step list.
+    pub fn nodes(&self) -> Judged<Vec<Node>> {
+        ruled_steps(&fit_protocol(&self.under)?, &self.bytes)
     }
 
     /// The case for a test program: 0 for a number, 1 for a term or a message, 2 for a step list; the
@@ -142,7 +156,7 @@ impl Case {
         let mut data = vec![match self.kind {
             Kind::Number => 0,
             Kind::Term | Kind::Message => 1,
-            Kind::Steps => 2,
+            Kind::Steps | Kind::Facts => 2,
         }];
         for part in [&self.under, &self.bytes] {
             let length = u16::try_from(part.len()).expect("a length of two bytes");
@@ -151,6 +165,47 @@ impl Case {
         }
         data
     }
+}
+
+/// The facts of all nodes: node by node, premises, actions, conclusions, each list in its order.
+pub fn facts(nodes: &[Node]) -> Vec<&Fact> {
+    let lists = nodes
+        .iter()
+        .flat_map(|node| [&node.premises, &node.actions, &node.conclusions]);
+    lists.flatten().collect()
+}
+
+/// For each fact the number of the first one that is the same; a bar; for each argument of these facts the
+/// number of the first one that is the same message; a bar; for each argument which public name it is.
+fn same_facts(nodes: &[Node]) -> String {
+    let facts = facts(nodes);
+    let arguments: Vec<&Term> = facts.iter().flat_map(|fact| &fact.terms).collect();
+    let bar = || vec!["|".to_string()];
+    let names = arguments.iter().map(|term| public_name(term).to_string());
+    let words = [
+        firsts(&facts),
+        bar(),
+        firsts(&arguments),
+        bar(),
+        names.collect(),
+    ];
+    words.concat().join(" ")
+}
+
+/// For each item the number, from 1, of the first one that equals it.
+fn firsts<T: PartialEq>(items: &[T]) -> Vec<String> {
+    let first = |item| items.iter().position(|other| other == item);
+    let numbers = items.iter().map(|item| first(item).expect("itself") + 1);
+    numbers.map(|number| number.to_string()).collect()
+}
+
+/// Which of the public names 0, 128 and 16,384 a message is, from 1; 0 for any other message.
+fn public_name(message: &Term) -> usize {
+    let names = [0, 128, 16_384].map(|number| Term::Public(Public(number)));
+    names
+        .iter()
+        .position(|name| name == message)
+        .map_or(0, |place| place + 1)
 }
 
 /// The expected text: a line for each case, its number and its outcome.

@@ -1,6 +1,8 @@
 //! The case files say what their labels say.
 
-use reference::cases::{bytes_cases, data, message_cases, steps_cases, Case, Kind};
+use reference::cases::{
+    bytes_cases, data, facts, facts_cases, message_cases, steps_cases, Case, Kind,
+};
 use reference::notation::parse;
 use reference::number::{Reader, LARGEST};
 use reference::protocol::Protocol;
@@ -10,6 +12,7 @@ use reference::term::{Prefix, Term};
 const BYTES: &str = include_str!("../../../tests/cases/bytes.txt");
 const MESSAGES: &str = include_str!("../../../tests/cases/messages.txt");
 const STEPS: &str = include_str!("../../../tests/cases/steps.txt");
+const FACTS: &str = include_str!("../../../tests/cases/facts.txt");
 
 #[test]
 fn a_message_is_its_label() {
@@ -63,10 +66,36 @@ fn a_step_list_has_the_outcome_of_its_label() {
     }
 }
 
+/// The label of facts is their outcome by document 01, or the first of its lists, with a slash for each bar;
+/// a colon, and words.
+#[test]
+fn facts_are_the_same_where_their_label_says_so() {
+    let cases = facts_cases(FACTS);
+    assert!(cases.len() > 100);
+    for case in &cases {
+        let (said, _) = case.label.split_once(':').expect(&case.label);
+        let said: Vec<&str> = said.split('/').map(str::trim).collect();
+        let outcome = case.outcome();
+        let lists: Vec<&str> = outcome.split('|').map(str::trim).collect();
+        assert!(lists.starts_with(&said), "{}\n{outcome}", case.label);
+    }
+}
+
+#[test]
+fn facts_and_arguments_fit_their_program() {
+    for case in &facts_cases(FACTS) {
+        let nodes = case.nodes().unwrap_or_default();
+        let facts = facts(&nodes);
+        assert!(facts.len() <= 64, "{}", case.label);
+        let arguments = facts.iter().map(|fact| fact.terms.len());
+        assert!(arguments.sum::<usize>() <= 256, "{}", case.label);
+    }
+}
+
 #[test]
 fn a_step_list_has_as_many_symbols_as_its_label_says() {
     let mut counted = 0;
-    for case in &steps_cases(STEPS) {
+    for case in steps_cases(STEPS).iter().chain(&facts_cases(FACTS)) {
         if let Some(count) = count_of_symbols(&case.label) {
             assert!(largest(case).contains(&count), "{}", case.label);
             counted += 1;
@@ -112,11 +141,16 @@ fn filled_in(term: &Term, sizes: &[usize]) -> usize {
 /// A test program reads 65,536 bytes at most, and a step list's cause 2 is not its matter.
 #[test]
 fn the_cases_fit_their_programs() {
-    let steps = steps_cases(STEPS);
-    for cases in [&bytes_cases(BYTES), &message_cases(MESSAGES), &steps] {
+    let (steps, facts) = (steps_cases(STEPS), facts_cases(FACTS));
+    for cases in [
+        &bytes_cases(BYTES),
+        &message_cases(MESSAGES),
+        &steps,
+        &facts,
+    ] {
         assert!(data(cases).len() <= 65_536);
     }
-    for case in &steps {
+    for case in steps.iter().chain(&facts) {
         assert_eq!(File::Protocol.within_limit(&case.under), Ok(()));
         assert_eq!(File::Steps.within_limit(&case.bytes), Ok(()));
     }
