@@ -1,0 +1,2 @@
+-- the facts of the nodes of a step list, in a table
+pub mod Table

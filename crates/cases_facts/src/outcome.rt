@@ -1,0 +1,188 @@
+// What the calls of crate facts say of the facts and the arguments of a table.
+ghost use Prim.Native.Nat.{_^_, _≤_, _<_};
+ghost use lib.ListN.{length};
+ghost use Rattle.steps.specs.Index.{Given};
+ghost use Rattle.steps.specs.Values.Filled.{ArityTable};
+ghost use Rattle.facts.specs.Writing.{factRoom};
+ghost use Rattle.facts.specs.Calls.{Room, HasOne};
+ghost use Rattle.cases_facts.specs.Table.{FactsListed, ArgumentsListed};
+use crate::table::Argument;
+use crate::table::Arguments;
+use crate::table::Facts;
+use facts::compare;
+use term::Public;
+
+fn show_number(n: usize) {
+    io::write_all(1, b" ");
+    io::print_decimal(1, n as u64);
+}
+
+// The number, from 1, of the first fact that is the same as fact k; 0 if none is.
+fn first_fact(
+    facts: Facts,
+    k: usize,
+    out: &mut [u8],
+    s: &[u8],
+    protocol: &[u8],
+    arities: &[u8],
+    ars: &[u8],
+    rules: &[usize],
+    nr: usize,
+) -> usize
+    requires { ⌜ (k < facts .n) × Room (now out) factRoom × (length (now s) ≤ 2 ^ 32) × Given (now protocol) (now arities) (now rules) nr × ArityTable (now protocol) (now arities) (now rules) nr (now ars) × FactsListed (now protocol) (now arities) (now rules) nr (now s) facts ⌝ }
+{
+    let places = facts.places;
+    let n = facts.n;
+    let x = places[k];
+    let mut i: usize = 0;
+    while i < n {
+        let y = places[i];
+        if compare::same_fact(out, s, protocol, arities, ars, rules, nr, y, x) {
+            return i + 1;
+        }
+        i += 1;
+    }
+    0
+}
+
+// Of each fact.
+pub fn show_facts(
+    facts: Facts,
+    out: &mut [u8],
+    s: &[u8],
+    protocol: &[u8],
+    arities: &[u8],
+    ars: &[u8],
+    rules: &[usize],
+    nr: usize,
+)
+    requires { ⌜ Room (now out) factRoom × (length (now s) ≤ 2 ^ 32) × Given (now protocol) (now arities) (now rules) nr × ArityTable (now protocol) (now arities) (now rules) nr (now ars) × FactsListed (now protocol) (now arities) (now rules) nr (now s) facts ⌝ }
+{
+    let n = facts.n;
+    let mut k: usize = 0;
+    while k < n {
+        show_number(first_fact(facts, k, out, s, protocol, arities, ars, rules, nr));
+        k += 1;
+    }
+}
+
+// The number, from 1, of the first argument that is the same message as argument k; 0 if none is.
+fn first_argument(
+    arguments: Arguments,
+    k: usize,
+    out: &mut [u8],
+    s: &[u8],
+    protocol: &[u8],
+    arities: &[u8],
+    ars: &[u8],
+    rules: &[usize],
+    nr: usize,
+) -> usize
+    requires { ⌜ (k < arguments .n) × Room (now out) factRoom × (length (now s) ≤ 2 ^ 32) × Given (now protocol) (now arities) (now rules) nr × ArityTable (now protocol) (now arities) (now rules) nr (now ars) × ArgumentsListed (now protocol) (now arities) (now rules) nr (now s) arguments ⌝ }
+{
+    let each = arguments.each;
+    let n = arguments.n;
+    let x = each[k];
+    let mut i: usize = 0;
+    while i < n {
+        let y = each[i];
+        if compare::same_argument(
+            out,
+            s,
+            protocol,
+            arities,
+            ars,
+            rules,
+            nr,
+            y.place,
+            y.number,
+            x.place,
+            x.number,
+        ) {
+            return i + 1;
+        }
+        i += 1;
+    }
+    0
+}
+
+// Of each argument.
+pub fn show_arguments(
+    arguments: Arguments,
+    out: &mut [u8],
+    s: &[u8],
+    protocol: &[u8],
+    arities: &[u8],
+    ars: &[u8],
+    rules: &[usize],
+    nr: usize,
+)
+    requires { ⌜ Room (now out) factRoom × (length (now s) ≤ 2 ^ 32) × Given (now protocol) (now arities) (now rules) nr × ArityTable (now protocol) (now arities) (now rules) nr (now ars) × ArgumentsListed (now protocol) (now arities) (now rules) nr (now s) arguments ⌝ }
+{
+    let n = arguments.n;
+    let mut k: usize = 0;
+    while k < n {
+        show_number(first_argument(arguments, k, out, s, protocol, arities, ars, rules, nr));
+        k += 1;
+    }
+}
+
+// Which of the public names 0, 128 and 16384 an argument is, from 1; 0 if it is none of them. Their numbers take one, two and three groups.
+fn public_name(
+    a: Argument,
+    out: &mut [u8],
+    s: &[u8],
+    protocol: &[u8],
+    arities: &[u8],
+    ars: &[u8],
+    rules: &[usize],
+    nr: usize,
+) -> usize
+    requires { ⌜ Room (now out) factRoom × (length (now s) ≤ 2 ^ 32) × Given (now protocol) (now arities) (now rules) nr × ArityTable (now protocol) (now arities) (now rules) nr (now ars) × HasOne (now protocol) (now arities) (now rules) nr (now s) (a .place) (a .number) ⌝ }
+{
+    let x = a.place;
+    let i = a.number;
+    if compare::is_public(out, s, protocol, arities, ars, rules, nr, x, i, Public(0)) {
+        return 1;
+    }
+    if compare::is_public(out, s, protocol, arities, ars, rules, nr, x, i, Public(128)) {
+        return 2;
+    }
+    if compare::is_public(
+        out,
+        s,
+        protocol,
+        arities,
+        ars,
+        rules,
+        nr,
+        x,
+        i,
+        Public(16384),
+    ) {
+        return 3;
+    }
+    0
+}
+
+// Of each argument.
+pub fn show_names(
+    arguments: Arguments,
+    out: &mut [u8],
+    s: &[u8],
+    protocol: &[u8],
+    arities: &[u8],
+    ars: &[u8],
+    rules: &[usize],
+    nr: usize,
+)
+    requires { ⌜ Room (now out) factRoom × (length (now s) ≤ 2 ^ 32) × Given (now protocol) (now arities) (now rules) nr × ArityTable (now protocol) (now arities) (now rules) nr (now ars) × ArgumentsListed (now protocol) (now arities) (now rules) nr (now s) arguments ⌝ }
+{
+    let each = arguments.each;
+    let n = arguments.n;
+    let mut k: usize = 0;
+    while k < n {
+        show_number(public_name(each[k], out, s, protocol, arities, ars, rules, nr));
+        k += 1;
+    }
+}

@@ -1,0 +1,262 @@
+// The facts of all nodes of a step list, node by node, premises, actions, conclusions, and the arguments of these facts.
+ghost use mathlib.Core.Path.{_≡_};
+ghost use Prim.Native.Nat.{_^_, _≤_, _<_};
+ghost use lib.ListN.{length};
+ghost use Rattle.protocol.specs.Protocol.{Protocol};
+ghost use Rattle.steps.specs.Nodes.{Node};
+ghost use Rattle.steps.specs.Index.{IndexOf, Given};
+ghost use Rattle.steps.specs.Values.Filled.{ArityTable};
+ghost use Rattle.facts.specs.Writing.{factRoom};
+ghost use Rattle.facts.specs.Calls.{Room, HasFact, HasOne, WholeFact, factAt};
+ghost use Rattle.cases_facts.specs.Table.{RightNode, RightNodes, FactsListed, ArgumentsListed};
+use facts::counts;
+use facts::nodes;
+use facts::nodes::Place;
+use facts::writing::Wanted;
+
+// The places of the first n facts, 64 at most.
+pub struct Facts {
+    pub places: [Place; 64],
+    pub n: usize,
+}
+
+// One more, where there is room.
+fn with_fact(
+    facts: Facts,
+    x: Place,
+    s: &[u8],
+    protocol: &[u8],
+    arities: &[u8],
+    rules: &[usize],
+    nr: usize,
+) -> Facts
+    requires { ⌜ FactsListed (now protocol) (now arities) (now rules) nr (now s) facts × HasFact (now protocol) (now arities) (now rules) nr (now s) x ⌝ }
+    ensures { λ r. ⌜ FactsListed (now (protocol .entry)) (now (arities .entry)) (now (rules .entry)) nr (now (s .entry)) r ⌝ }
+{
+    let mut places = facts.places;
+    let n = facts.n;
+    if n >= 64 {
+        return facts;
+    }
+    places[n] = x;
+    Facts {
+        places: places,
+        n: n + 1,
+    }
+}
+
+// And those of list w of the node at a place.
+fn with_list(
+    before: Facts,
+    s: &[u8],
+    protocol: &[u8],
+    arities: &[u8],
+    ars: &[u8],
+    rules: &[usize],
+    nr: usize,
+    node: usize,
+    w: usize,
+) -> Facts
+    requires { ⌜ (w < 3) × Given (now protocol) (now arities) (now rules) nr × ArityTable (now protocol) (now arities) (now rules) nr (now ars) × RightNode (now protocol) (now arities) (now rules) nr (now s) node × FactsListed (now protocol) (now arities) (now rules) nr (now s) before ⌝ }
+    ensures { λ r. ⌜ FactsListed (now (protocol .entry)) (now (arities .entry)) (now (rules .entry)) nr (now (s .entry)) r ⌝ }
+{
+    let count = counts::fact_count(s, protocol, arities, ars, rules, nr, node, w);
+    let mut facts = before;
+    let mut i: usize = 0;
+    while i < count {
+        let x = Place {
+            node: node,
+            part: w,
+            number: i,
+        };
+        facts = with_fact(facts, x, s, protocol, arities, rules, nr);
+        i += 1;
+    }
+    facts
+}
+
+// And those of all lists of the node.
+fn with_node(
+    before: Facts,
+    s: &[u8],
+    protocol: &[u8],
+    arities: &[u8],
+    ars: &[u8],
+    rules: &[usize],
+    nr: usize,
+    node: usize,
+) -> Facts
+    requires { ⌜ Given (now protocol) (now arities) (now rules) nr × ArityTable (now protocol) (now arities) (now rules) nr (now ars) × RightNode (now protocol) (now arities) (now rules) nr (now s) node × FactsListed (now protocol) (now arities) (now rules) nr (now s) before ⌝ }
+    ensures { λ r. ⌜ FactsListed (now (protocol .entry)) (now (arities .entry)) (now (rules .entry)) nr (now (s .entry)) r ⌝ }
+{
+    let mut facts = before;
+    let mut w: usize = 0;
+    while w < 3 {
+        facts = with_list(facts, s, protocol, arities, ars, rules, nr, node, w);
+        w += 1;
+    }
+    facts
+}
+
+// The facts of the n nodes at their places.
+pub fn facts_of(
+    s: &[u8],
+    protocol: &[u8],
+    arities: &[u8],
+    ars: &[u8],
+    rules: &[usize],
+    nr: usize,
+    nodes: &[usize],
+    n: usize,
+) -> Facts
+    requires { ⌜ (n ≤ length (now nodes)) × Given (now protocol) (now arities) (now rules) nr × ArityTable (now protocol) (now arities) (now rules) nr (now ars) × RightNodes (now protocol) (now arities) (now rules) nr (now s) (now nodes) n ⌝ }
+    ensures { λ r. ⌜ FactsListed (now (protocol .entry)) (now (arities .entry)) (now (rules .entry)) nr (now (s .entry)) r ⌝ }
+{
+    let none = Place {
+        node: 0,
+        part: 0,
+        number: 0,
+    };
+    let mut facts = Facts {
+        places: [none; 64],
+        n: 0,
+    };
+    let mut k: usize = 0;
+    while k < n {
+        facts = with_node(facts, s, protocol, arities, ars, rules, nr, nodes[k]);
+        k += 1;
+    }
+    facts
+}
+
+// How many arguments a fact has: the arity of its symbol. Its canonical bytes go into the output.
+fn argument_count(
+    out: &mut [u8],
+    s: &[u8],
+    protocol: &[u8],
+    arities: &[u8],
+    ars: &[u8],
+    rules: &[usize],
+    nr: usize,
+    x: Place,
+) -> usize
+    requires { ⌜ Room (now out) factRoom × (length (now s) ≤ 2 ^ 32) × Given (now protocol) (now arities) (now rules) nr × ArityTable (now protocol) (now arities) (now rules) nr (now ars) × HasFact (now protocol) (now arities) (now rules) nr (now s) x ⌝ }
+    ensures { λ r. ⌜ ((p : Protocol) (m : Node) → IndexOf (now (protocol .entry)) (now (arities .entry)) (now (rules .entry)) nr p → WholeFact p (now (s .entry)) x m → r ≡ length (factAt p (x .part) (x .number) m .terms)) ⌝ }
+{
+    let a = nodes::node_fact(out, 0, s, protocol, arities, ars, rules, nr, x, Wanted::All);
+    let y = a.symbol;
+    ars[y] as usize
+}
+
+// An argument of a fact, by its number from 0.
+pub struct Argument {
+    pub place: Place,
+    pub number: usize,
+}
+
+// The first n arguments, 256 at most.
+pub struct Arguments {
+    pub each: [Argument; 256],
+    pub n: usize,
+}
+
+// One more, where there is room.
+fn with_argument(
+    arguments: Arguments,
+    a: Argument,
+    s: &[u8],
+    protocol: &[u8],
+    arities: &[u8],
+    rules: &[usize],
+    nr: usize,
+) -> Arguments
+    requires { ⌜ ArgumentsListed (now protocol) (now arities) (now rules) nr (now s) arguments × HasOne (now protocol) (now arities) (now rules) nr (now s) (a .place) (a .number) ⌝ }
+    ensures { λ r. ⌜ ArgumentsListed (now (protocol .entry)) (now (arities .entry)) (now (rules .entry)) nr (now (s .entry)) r ⌝ }
+{
+    let mut each = arguments.each;
+    let n = arguments.n;
+    if n >= 256 {
+        return arguments;
+    }
+    each[n] = a;
+    Arguments {
+        each: each,
+        n: n + 1,
+    }
+}
+
+// And those of a fact.
+fn with_arguments(
+    before: Arguments,
+    out: &mut [u8],
+    s: &[u8],
+    protocol: &[u8],
+    arities: &[u8],
+    ars: &[u8],
+    rules: &[usize],
+    nr: usize,
+    x: Place,
+) -> Arguments
+    requires { ⌜ Room (now out) factRoom × (length (now s) ≤ 2 ^ 32) × Given (now protocol) (now arities) (now rules) nr × ArityTable (now protocol) (now arities) (now rules) nr (now ars) × HasFact (now protocol) (now arities) (now rules) nr (now s) x × ArgumentsListed (now protocol) (now arities) (now rules) nr (now s) before ⌝ }
+    ensures { λ r. ⌜ ArgumentsListed (now (protocol .entry)) (now (arities .entry)) (now (rules .entry)) nr (now (s .entry)) r ⌝ }
+{
+    let count = argument_count(out, s, protocol, arities, ars, rules, nr, x);
+    let mut arguments = before;
+    let mut i: usize = 0;
+    while i < count {
+        let a = Argument {
+            place: x,
+            number: i,
+        };
+        arguments = with_argument(arguments, a, s, protocol, arities, rules, nr);
+        i += 1;
+    }
+    arguments
+}
+
+// The arguments of the facts of a table.
+pub fn arguments_of(
+    facts: Facts,
+    out: &mut [u8],
+    s: &[u8],
+    protocol: &[u8],
+    arities: &[u8],
+    ars: &[u8],
+    rules: &[usize],
+    nr: usize,
+) -> Arguments
+    requires { ⌜ Room (now out) factRoom × (length (now s) ≤ 2 ^ 32) × Given (now protocol) (now arities) (now rules) nr × ArityTable (now protocol) (now arities) (now rules) nr (now ars) × FactsListed (now protocol) (now arities) (now rules) nr (now s) facts ⌝ }
+    ensures { λ r. ⌜ ArgumentsListed (now (protocol .entry)) (now (arities .entry)) (now (rules .entry)) nr (now (s .entry)) r ⌝ }
+{
+    let none = Place {
+        node: 0,
+        part: 0,
+        number: 0,
+    };
+    let nothing = Argument {
+        place: none,
+        number: 0,
+    };
+    let mut arguments = Arguments {
+        each: [nothing; 256],
+        n: 0,
+    };
+    let places = facts.places;
+    let n = facts.n;
+    let mut k: usize = 0;
+    while k < n {
+        arguments = with_arguments(
+            arguments,
+            out,
+            s,
+            protocol,
+            arities,
+            ars,
+            rules,
+            nr,
+            places[k],
+        );
+        k += 1;
+    }
+    arguments
+}
