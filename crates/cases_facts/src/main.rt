@@ -5,7 +5,7 @@ ghost use Prim.Native.Nat.{_^_, _≤_, _+_};
 ghost use lib.ListN.{length};
 ghost use Rattle.steps.specs.Index.{Given};
 ghost use Rattle.steps.specs.Values.Filled.{ArityTable};
-ghost use Rattle.cases_facts.specs.Table.{RightNodes};
+ghost use Rattle.facts.specs.Owed.{RightNodes};
 use case_file::Case;
 use rules::fit;
 use steps::ruling;
@@ -30,7 +30,7 @@ fn show_nodes(
     let facts = table::facts_of(list, protocol, arities, ars, rules, nr, nodes, n);
     outcome::show_facts(facts, &mut out, list, protocol, arities, ars, rules, nr);
     io::write_all(1, b" |");
-    let arguments = table::arguments_of(facts, &mut out, list, protocol, arities, ars, rules, nr);
+    let arguments = table::arguments_of(facts, list, protocol, arities, ars, rules, nr);
     outcome::show_arguments(arguments, &mut out, list, protocol, arities, ars, rules, nr);
     io::write_all(1, b" |");
     outcome::show_names(arguments, &mut out, list, protocol, arities, ars, rules, nr);

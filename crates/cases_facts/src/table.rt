@@ -1,18 +1,14 @@
 // The facts of all nodes of a step list, node by node, premises, actions, conclusions, and the arguments of these facts.
-ghost use mathlib.Core.Path.{_≡_};
-ghost use Prim.Native.Nat.{_^_, _≤_, _<_};
+ghost use Prim.Native.Nat.{_≤_, _<_};
 ghost use lib.ListN.{length};
-ghost use Rattle.protocol.specs.Protocol.{Protocol};
-ghost use Rattle.steps.specs.Nodes.{Node};
-ghost use Rattle.steps.specs.Index.{IndexOf, Given};
+ghost use Rattle.steps.specs.Index.{Given};
 ghost use Rattle.steps.specs.Values.Filled.{ArityTable};
-ghost use Rattle.facts.specs.Writing.{factRoom};
-ghost use Rattle.facts.specs.Calls.{Room, HasFact, HasOne, WholeFact, factAt};
-ghost use Rattle.cases_facts.specs.Table.{RightNode, RightNodes, FactsListed, ArgumentsListed};
+ghost use Rattle.facts.specs.Calls.{HasFact, HasOne};
+ghost use Rattle.facts.specs.Owed.{RightNode, RightNodes};
+ghost use Rattle.cases_facts.specs.Table.{FactsListed, ArgumentsListed};
 use facts::counts;
-use facts::nodes;
 use facts::nodes::Place;
-use facts::writing::Wanted;
+use facts::symbols;
 
 // The places of the first n facts, 64 at most.
 pub struct Facts {
@@ -129,25 +125,6 @@ pub fn facts_of(
     facts
 }
 
-// How many arguments a fact has: the arity of its symbol. Its canonical bytes go into the output.
-fn argument_count(
-    out: &mut [u8],
-    s: &[u8],
-    protocol: &[u8],
-    arities: &[u8],
-    ars: &[u8],
-    rules: &[usize],
-    nr: usize,
-    x: Place,
-) -> usize
-    requires { ⌜ Room (now out) factRoom × (length (now s) ≤ 2 ^ 32) × Given (now protocol) (now arities) (now rules) nr × ArityTable (now protocol) (now arities) (now rules) nr (now ars) × HasFact (now protocol) (now arities) (now rules) nr (now s) x ⌝ }
-    ensures { λ r. ⌜ ((p : Protocol) (m : Node) → IndexOf (now (protocol .entry)) (now (arities .entry)) (now (rules .entry)) nr p → WholeFact p (now (s .entry)) x m → r ≡ length (factAt p (x .part) (x .number) m .terms)) ⌝ }
-{
-    let a = nodes::node_fact(out, 0, s, protocol, arities, ars, rules, nr, x, Wanted::All);
-    let y = a.symbol;
-    ars[y] as usize
-}
-
 // An argument of a fact, by its number from 0.
 pub struct Argument {
     pub place: Place,
@@ -188,7 +165,6 @@ fn with_argument(
 // And those of a fact.
 fn with_arguments(
     before: Arguments,
-    out: &mut [u8],
     s: &[u8],
     protocol: &[u8],
     arities: &[u8],
@@ -197,10 +173,10 @@ fn with_arguments(
     nr: usize,
     x: Place,
 ) -> Arguments
-    requires { ⌜ Room (now out) factRoom × (length (now s) ≤ 2 ^ 32) × Given (now protocol) (now arities) (now rules) nr × ArityTable (now protocol) (now arities) (now rules) nr (now ars) × HasFact (now protocol) (now arities) (now rules) nr (now s) x × ArgumentsListed (now protocol) (now arities) (now rules) nr (now s) before ⌝ }
+    requires { ⌜ Given (now protocol) (now arities) (now rules) nr × ArityTable (now protocol) (now arities) (now rules) nr (now ars) × HasFact (now protocol) (now arities) (now rules) nr (now s) x × ArgumentsListed (now protocol) (now arities) (now rules) nr (now s) before ⌝ }
     ensures { λ r. ⌜ ArgumentsListed (now (protocol .entry)) (now (arities .entry)) (now (rules .entry)) nr (now (s .entry)) r ⌝ }
 {
-    let count = argument_count(out, s, protocol, arities, ars, rules, nr, x);
+    let count = symbols::argument_count(s, protocol, arities, ars, rules, nr, x);
     let mut arguments = before;
     let mut i: usize = 0;
     while i < count {
@@ -217,7 +193,6 @@ fn with_arguments(
 // The arguments of the facts of a table.
 pub fn arguments_of(
     facts: Facts,
-    out: &mut [u8],
     s: &[u8],
     protocol: &[u8],
     arities: &[u8],
@@ -225,7 +200,7 @@ pub fn arguments_of(
     rules: &[usize],
     nr: usize,
 ) -> Arguments
-    requires { ⌜ Room (now out) factRoom × (length (now s) ≤ 2 ^ 32) × Given (now protocol) (now arities) (now rules) nr × ArityTable (now protocol) (now arities) (now rules) nr (now ars) × FactsListed (now protocol) (now arities) (now rules) nr (now s) facts ⌝ }
+    requires { ⌜ Given (now protocol) (now arities) (now rules) nr × ArityTable (now protocol) (now arities) (now rules) nr (now ars) × FactsListed (now protocol) (now arities) (now rules) nr (now s) facts ⌝ }
     ensures { λ r. ⌜ ArgumentsListed (now (protocol .entry)) (now (arities .entry)) (now (rules .entry)) nr (now (s .entry)) r ⌝ }
 {
     let none = Place {
@@ -245,17 +220,7 @@ pub fn arguments_of(
     let n = facts.n;
     let mut k: usize = 0;
     while k < n {
-        arguments = with_arguments(
-            arguments,
-            out,
-            s,
-            protocol,
-            arities,
-            ars,
-            rules,
-            nr,
-            places[k],
-        );
+        arguments = with_arguments(arguments, s, protocol, arities, ars, rules, nr, places[k]);
         k += 1;
     }
     arguments

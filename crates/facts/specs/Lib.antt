@@ -8,3 +8,5 @@ pub mod Rules
 pub mod Calls
 -- a mark for each fact
 pub mod Marks
+-- what callers owe
+pub mod Owed

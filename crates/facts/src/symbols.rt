@@ -1,4 +1,4 @@
-// The symbol of a node's fact.
+// The symbol of a node's fact, and how many arguments it has.
 ghost use mathlib.Core.Path.{_≡_};
 ghost use Prim.Native.Nat.{_^_, _≤_, _<_};
 ghost use lib.ListN.{length, getD};
@@ -10,7 +10,7 @@ ghost use Rattle.steps.specs.Nodes.{Node, node};
 ghost use Rattle.steps.specs.Facts.{factsOf};
 ghost use Rattle.steps.specs.Index.{IndexOf, Given};
 ghost use Rattle.steps.specs.Values.Filled.{ArityTable};
-ghost use Rattle.facts.specs.Calls.{factAt};
+ghost use Rattle.facts.specs.Calls.{HasFact, WholeFact, factAt};
 ghost use Rattle.facts.specs.Rules.{partCount, partSymbol};
 use crate::nodes::Place;
 use number::Number;
@@ -74,4 +74,21 @@ pub fn fact_symbol(
         ),
         Number::Fault => 0,
     }
+}
+
+// How many arguments it has: the arity of its symbol.
+pub fn argument_count(
+    s: &[u8],
+    protocol: &[u8],
+    arities: &[u8],
+    ars: &[u8],
+    rules: &[usize],
+    nr: usize,
+    place: Place,
+) -> usize
+    requires { ⌜ Given (now protocol) (now arities) (now rules) nr × ArityTable (now protocol) (now arities) (now rules) nr (now ars) × HasFact (now protocol) (now arities) (now rules) nr (now s) place ⌝ }
+    ensures { λ r. ⌜ ((p : Protocol) (x : Node) → IndexOf (now (protocol .entry)) (now (arities .entry)) (now (rules .entry)) nr p → WholeFact p (now (s .entry)) place x → r ≡ length (factAt p (place .part) (place .number) x .terms)) ⌝ }
+{
+    let y = fact_symbol(s, protocol, arities, ars, rules, nr, place);
+    ars[y] as usize
 }

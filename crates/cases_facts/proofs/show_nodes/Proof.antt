@@ -1,5 +1,4 @@
 use native.Mathlib.Omega.{arith}
-use Rattle.cases_facts.specs.Table.{nodes-few}
 use borrow.Author.Needs.{needs}
 use Rattle.cases_facts.proofs.show_nodes.Statement.{statement}
 use Rattle.cases_facts.proofs.show_nodes.Tie as tie
@@ -15,7 +14,7 @@ use Rattle.io.proofs.write_all.Reads as write-all-reads
 -- src/main.rt:30:9
 facts-of-requires : tie.Need-facts-of-requires
 facts-of-requires c κs =
-    (omega (arith, nodes-few _ _ _ _ _ (λ k. c .before .before .before .before .before .shared-slice-known .given k .fits) _ _ (c .before .before .before .before .before .before .pre .4), c .before .before .before .before .before .before .pre .1), c .before .before .before .before .before .before .pre .2, c .before .before .before .before .before .before .pre .3, c .before .before .before .before .before .before .pre .4)
+    (omega (arith, c .before .before .before .before .before .before .pre .4 .good .few, c .before .before .before .before .before .before .pre .1), c .before .before .before .before .before .before .pre .2, c .before .before .before .before .before .before .pre .3, c .before .before .before .before .before .before .pre .4)
 
 -- src/main.rt:31:32
 slice-aggregate-show-facts : tie.Need-slice-aggregate-show-facts
@@ -33,10 +32,6 @@ slice-aggregate-write-all c = search needs
 write-all-requires : tie.Need-write-all-requires
 write-all-requires c κs = search needs
 
--- src/main.rt:33:48
-slice-aggregate-arguments-of : tie.Need-slice-aggregate-arguments-of
-slice-aggregate-arguments-of c = search needs
-
 -- src/main.rt:33:9
 arguments-of-requires : tie.Need-arguments-of-requires
 arguments-of-requires c κs = search needs
@@ -48,7 +43,7 @@ slice-aggregate-show-arguments c = search needs
 -- src/main.rt:34:5
 show-arguments-requires : tie.Need-show-arguments-requires
 show-arguments-requires c κs =
-    (search needs, c .before .before .before .before .before .before .before .before .before .before .before .before .before .before .before .before .pre .0, c .before .before .before .before .before .before .before .before .before .before .before .before .before .before .before .before .pre .2, c .before .before .before .before .before .before .before .before .before .before .before .before .before .before .before .before .pre .3, c .before .before .arguments-of .ensures)
+    (search needs, c .before .before .before .before .before .before .before .before .before .before .before .before .before .before .pre .0, c .before .before .before .before .before .before .before .before .before .before .before .before .before .before .pre .2, c .before .before .before .before .before .before .before .before .before .before .before .before .before .before .pre .3, c .before .arguments-of .ensures)
 
 -- src/main.rt:35:22
 slice-aggregate-write-all-2 : tie.Need-slice-aggregate-write-all-2
@@ -65,7 +60,7 @@ slice-aggregate-show-names c = search needs
 -- src/main.rt:36:5
 show-names-requires : tie.Need-show-names-requires
 show-names-requires c κs =
-    (search needs, c .before .before .before .before .before .before .before .before .before .before .before .before .before .before .before .before .before .before .before .before .before .pre .0, c .before .before .before .before .before .before .before .before .before .before .before .before .before .before .before .before .before .before .before .before .before .pre .2, c .before .before .before .before .before .before .before .before .before .before .before .before .before .before .before .before .before .before .before .before .before .pre .3, c .before .before .before .before .before .before .before .arguments-of .ensures)
+    (search needs, c .before .before .before .before .before .before .before .before .before .before .before .before .before .before .before .before .before .before .before .pre .0, c .before .before .before .before .before .before .before .before .before .before .before .before .before .before .before .before .before .before .before .pre .2, c .before .before .before .before .before .before .before .before .before .before .before .before .before .before .before .before .before .before .before .pre .3, c .before .before .before .before .before .before .arguments-of .ensures)
 
 -- src/main.rt:17:1
 returns : tie.Need-returns
@@ -80,7 +75,6 @@ show-nodes-spec =
     show-facts-requires
     slice-aggregate-write-all
     write-all-requires
-    slice-aggregate-arguments-of
     arguments-of-requires
     slice-aggregate-show-arguments
     show-arguments-requires

@@ -1,5 +1,5 @@
 use native.Mathlib.Omega.{arith}
-use Rattle.cases_facts.specs.Table.{right-nodes}
+use Rattle.facts.specs.Owed.{right-nodes}
 use borrow.Author.Needs.{needs}
 use Rattle.cases_facts.proofs.show_steps.Statement.{statement}
 use Rattle.cases_facts.proofs.show_steps.Tie as tie

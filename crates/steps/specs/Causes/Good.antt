@@ -1,5 +1,5 @@
 -- What a good answer says of the nodes: each stands at its place, they are right, and no name is made twice.
-use Prim.Native.Nat.{ℕ}
+use Prim.Native.Nat.{ℕ, _≤_}
 use mathlib.Core.List.{List}
 use mathlib.Core.Path.{_≡_, refl, ap, sym, _∙_, subst}
 use lib.ListN.{length}
@@ -9,7 +9,7 @@ use Rattle.rewriting.specs.Table.{Ruling, passed, refused, Ruled}
 use Rattle.rewriting.specs.Table.Laws.{refused-passed, passed-inj, passed-good}
 use Rattle.protocol.specs.Protocol.{Protocol}
 use Rattle.protocol.specs.Index.{Placed}
-use Rattle.steps.specs.Nodes.{Node, read, NodeWithin, node, steps}
+use Rattle.steps.specs.Nodes.{Node, mostNodes, read, NodeWithin, node, steps}
 use Rattle.steps.specs.Nodes.Code.{noNode, NodesAre}
 use Rattle.steps.specs.Nodes.Exact.{steps-form}
 use Rattle.steps.specs.Causes.{nodeRows, nodeRuling}
@@ -23,6 +23,7 @@ pub record GoodSteps (p : Protocol) (s places : List ℕ) (n : ℕ) : Type 0 whe
   pub items : List Node
   pub there : steps p s ≡ read items (length s)
   pub placed : Placed (node p s) noNode places items n
+  pub few : n ≤ mostNodes
   pub passing : Passing p items
 
 abbrev pub WhereGood : Protocol → List ℕ → List ℕ → Judged → Type 0
@@ -53,6 +54,7 @@ where-good p s places bytes n e t (jd.Good m) h =
       items = t .items;
       there = t .there ∙ ap (read (t .items)) (f .2);
       placed = subst (Placed (node p s) noNode places (t .items)) (sym (t .placed .count) ∙ sym (g .0)) (t .placed);
+      few = subst (λ (k : ℕ). k ≤ mostNodes) (sym (g .0)) (f .0 .few);
       passing = g .1;
     }
 where-good p s places bytes n e t (jd.Refused m k) h = tt

@@ -3,7 +3,7 @@ use native.Mathlib.Omega.{arith}
 use Prim.Native.Nat.{_-_, _≤_}
 use mathlib.Core.Path.{_≡_}
 use lib.ListN.{length}
-use Rattle.cases_facts.specs.Table.{room-kept}
+use Rattle.facts.specs.Owed.{room-kept}
 use Rattle.cases_facts.proofs.outcome.show_arguments.Statement.{statement}
 use Rattle.cases_facts.proofs.outcome.show_arguments.Tie as tie
 use Rattle.cases_facts.proofs.outcome.show_arguments.Reads as reads

@@ -2,7 +2,8 @@ use borrow.Author.Needs.{needs}
 use native.Mathlib.Omega.{arith}
 use Prim.Native.Nat.{_-_, _≤_}
 use Rattle.facts.specs.Calls.{HasFact}
-use Rattle.cases_facts.specs.Table.{FactsListed, noPlace, filled-none, right-node}
+use Rattle.cases_facts.specs.Table.{FactsListed, noPlace, filled-none}
+use Rattle.facts.specs.Owed.{right-node}
 use Rattle.cases_facts.proofs.table.facts_of.Statement.{statement}
 use Rattle.cases_facts.proofs.table.facts_of.Tie as tie
 use Rattle.cases_facts.proofs.table.facts_of.Reads as reads

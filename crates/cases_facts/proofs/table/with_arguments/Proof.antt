@@ -1,54 +1,51 @@
 use borrow.Author.Needs.{needs}
-use native.Mathlib.Omega.{arith}
+use Rattle.facts.specs.Owed.{has-one}
+use Rattle.cases_facts.specs.Table.{ArgumentsListed}
 use Prim.Native.Nat.{_-_, _≤_}
-use Rattle.cases_facts.specs.Table.{ArgumentsListed, has-one}
+use native.Mathlib.Omega.{arith}
 use Rattle.cases_facts.proofs.table.with_arguments.Statement.{statement}
 use Rattle.cases_facts.proofs.table.with_arguments.Tie as tie
 use Rattle.cases_facts.proofs.table.with_arguments.Reads as reads
 use Rattle.cases_facts.proofs.table.with_arguments.Lts as lts
-use Rattle.cases_facts.proofs.table.argument_count.Reads as argument-count-reads
 use Rattle.cases_facts.proofs.table.with_argument.Reads as with-argument-reads
+use Rattle.facts.proofs.symbols.argument_count.Reads as argument-count-reads
 
 abbrev Inv-loop : tie.InvT-loop
-Inv-loop out s protocol arities ars rules nr x count arguments₀ i₀ arguments i =
+Inv-loop s protocol arities ars rules nr x count arguments₀ i₀ arguments i =
     (i ≤ count) × ArgumentsListed protocol arities rules nr s arguments
 
 abbrev μ-loop : tie.MeasureT-loop
-μ-loop out s protocol arities ars rules nr x count arguments₀ i₀ arguments i =
+μ-loop s protocol arities ars rules nr x count arguments₀ i₀ arguments i =
     count - i
 
--- src/table.rt:204:9
+-- src/table.rt:179:9
 argument-count-requires : tie.Need-argument-count-requires Inv-loop μ-loop
 argument-count-requires c κs = search needs
 
--- src/table.rt:207:5
+-- src/table.rt:182:5
 loop-holds : tie.Need-loop-holds Inv-loop μ-loop
 loop-holds c =
-    (omega arith, c .before .before .before .before .before .before .before .before .before .before .pre .5)
+    (omega arith, c .before .before .before .before .before .before .pre .3)
 
--- src/table.rt:212:9
+-- src/table.rt:187:9
 with-argument-requires : tie.Need-with-argument-requires Inv-loop μ-loop
 with-argument-requires c κs =
-    (c .before .loop .inv .1, has-one _ _ _ _ _ _ _ (c .before .before .before .before .before .before .before .before .before .before .before .before .pre .4) (c .before .before .before .before .argument-count .ensures) _ (omega arith))
+    (c .before .loop .inv .1, has-one _ _ _ _ _ _ _ (c .before .before .before .before .before .before .before .before .pre .2) (c .before .before .argument-count .ensures) _ (omega arith))
 
--- src/table.rt:213:9
+-- src/table.rt:188:9
 add-i : tie.Need-add-i Inv-loop μ-loop
 add-i c = search needs
 
--- src/table.rt:207:5
+-- src/table.rt:182:5
 loop-less : tie.Need-loop-less Inv-loop μ-loop
 loop-less c = search needs
 
--- src/table.rt:207:5
+-- src/table.rt:182:5
 loop-again : tie.Need-loop-again Inv-loop μ-loop
 loop-again c =
     (omega arith, c .with-argument .ensures)
 
--- src/table.rt:190:1
-same-length : tie.Need-same-length Inv-loop μ-loop
-same-length c = search needs
-
--- src/table.rt:190:1
+-- src/table.rt:166:1
 returns : tie.Need-returns Inv-loop μ-loop
 returns c = search needs
 
@@ -64,5 +61,4 @@ with-arguments-spec =
     add-i
     loop-less
     loop-again
-    same-length
     returns)

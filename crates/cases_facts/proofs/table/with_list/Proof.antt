@@ -1,7 +1,8 @@
 use borrow.Author.Needs.{needs}
 use native.Mathlib.Omega.{arith}
 use Prim.Native.Nat.{_-_, _≤_}
-use Rattle.cases_facts.specs.Table.{FactsListed, has-fact}
+use Rattle.cases_facts.specs.Table.{FactsListed}
+use Rattle.facts.specs.Owed.{has-fact}
 use Rattle.cases_facts.proofs.table.with_list.Statement.{statement}
 use Rattle.cases_facts.proofs.table.with_list.Tie as tie
 use Rattle.cases_facts.proofs.table.with_list.Reads as reads
