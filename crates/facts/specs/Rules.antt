@@ -1,8 +1,8 @@
 -- The facts of a rule as the code finds them: how many a list has, where each stands, its symbol.
 use Prim.Native.Nat.{ℕ, _<_}
-use mathlib.Core.List.{List, []}
-use mathlib.Core.Option.{Option, none, some}
-use mathlib.Core.Path.{_≡_, refl, ap, sym, _∙_, subst}
+use mathlib.Core.List.{List, [], map}
+use mathlib.Core.Option.{some}
+use mathlib.Core.Path.{_≡_, ap, _∙_}
 use native.Mathlib.Omega.{arith}
 use lib.ListN.{length, getD, length-map, List·getD-eq-default}
 use Rattle.octets.specs.Choice.{by-size}
@@ -14,17 +14,8 @@ use Rattle.rules.specs.Numbered.{ruleOf}
 use Rattle.steps.specs.Nodes.{Node, node}
 use Rattle.steps.specs.Lists.{map-at}
 use Rattle.steps.specs.Facts.{filledFact, filledPart, factsOf}
-use Rattle.steps.specs.Values.Loops.{node-from}
+use Rattle.steps.specs.Values.Loops.{node-from, from-rule}
 use Rattle.steps.specs.Values.Parts.{list-there, facts-many, fact-there, lists-many}
-
-abbrev pub partCount : ℕ → Option Rule → ℕ
-partCount w none = 0
-partCount w (some u) = length (part w u)
-
--- the symbol of fact i of list w
-abbrev pub partSymbol : ℕ → ℕ → Option Rule → ℕ
-partSymbol w i none = 0
-partSymbol w i (some u) = getD (part w u) i noFact .symbol
 
 -- ── a rule at a place ──
 part-inside : (u : Rule) (w i : ℕ) → i < length (part w u) → w < length (u .parts)
@@ -45,31 +36,23 @@ module _ (src table ars : List ℕ) (place : ℕ) (u : Rule) (h : Here (rule src
     pub rule-symbol : (y : ℕ) → y ≡ valueOf (below src (length ars) f) → y ≡ getD (part w u) i noFact .symbol
     rule-symbol y hy = hy ∙ symbol-law src table ars f (getD (part w u) i noFact) part-fact
 
-pub part-some : (w i : ℕ) (o : Option Rule) (u : Rule) → o ≡ some u → i < partCount w o → i < length (part w u)
-part-some w i o u e l = subst (λ (q : Option Rule). i < partCount w q) e l
+-- ── a node's facts are its rule's, filled in ──
+module _ (p : Protocol) (x : Node) (u : Rule) (known : ruleOf p (x .rule) ≡ some u) (w : ℕ) where
+  facts-are : factsOf p w x ≡ map (filledFact (x .values)) (part w u)
+  facts-are = ap (filledPart w (x .values)) known
 
--- ── a node's are its rule's ──
-filled-count : (w : ℕ) (x : Node) (o : Option Rule) → length (filledPart w (x .values) o) ≡ partCount w o
-filled-count w x none = refl
-filled-count w x (some u) = length-map (part w u) (filledFact (x .values))
+  pub facts-counted : length (factsOf p w x) ≡ length (part w u)
+  facts-counted = ap length facts-are ∙ length-map (part w u) (filledFact (x .values))
 
-filled-symbol :
-    (w i : ℕ) (x : Node) (o : Option Rule) → i < length (filledPart w (x .values) o)
-    → getD (filledPart w (x .values) o) i noFact .symbol ≡ partSymbol w i o
-filled-symbol w i x none l = absurd (omega arith)
-filled-symbol w i x (some u) l =
-    ap (λ (f : Fact). f .symbol)
-    (map-at (filledFact (x .values)) (part w u) i noFact noFact (omega (arith, length-map (part w u) (filledFact (x .values)))))
+  pub fact-filled : (i : ℕ) → i < length (factsOf p w x) → getD (factsOf p w x) i noFact ≡ filledFact (x .values) (getD (part w u) i noFact)
+  fact-filled i l =
+      ap (λ (fs : List Fact). getD fs i noFact) facts-are
+      ∙ map-at (filledFact (x .values)) (part w u) i noFact noFact (omega (arith, facts-counted))
 
+-- a node at a place, its rule number read
 module _ (p : Protocol) (s : List ℕ) (place number at : ℕ) (x : Node) (h : readNumber s place ≡ got number at) (k : Here (node p s) x place) where
-  number-is : x .rule ≡ number
-  number-is = node-from p s place number at x h k .1 .is-number
-
-  pub node-count : (w : ℕ) → partCount w (ruleOf p number) ≡ length (factsOf p w x)
-  node-count w = sym (filled-count w x (ruleOf p (x .rule)) ∙ ap (λ (r : ℕ). partCount w (ruleOf p r)) number-is)
-
-  pub node-inside : (w i : ℕ) → i < length (factsOf p w x) → i < partCount w (ruleOf p number)
-  node-inside w i l = omega (arith, l, node-count w)
-
-  pub node-symbol : (w i : ℕ) → i < length (factsOf p w x) → partSymbol w i (ruleOf p number) ≡ getD (factsOf p w x) i noFact .symbol
-  node-symbol w i l = sym (filled-symbol w i x (ruleOf p (x .rule)) l ∙ ap (λ (r : ℕ). partSymbol w i (ruleOf p r)) number-is)
+  pub node-rule : (u : Rule) × (ruleOf p number ≡ some u) × (ruleOf p (x .rule) ≡ some u)
+  node-rule =
+      let (e, f) = node-from p s place number at x h k in
+      let (u, is) = from-rule p s number at x e f in
+      (u, is, ap (ruleOf p) (f .is-number) ∙ is)

@@ -1,5 +1,6 @@
 // How many facts a list of a node has.
 ghost use mathlib.Core.Path.{_≡_};
+ghost use mathlib.Core.Option.{some};
 ghost use Prim.Native.Nat.{_^_, _≤_, _<_};
 ghost use lib.ListN.{length};
 ghost use Rattle.octets.specs.Head.{Bytes};
@@ -10,9 +11,7 @@ ghost use Rattle.steps.specs.Nodes.{Node, node};
 ghost use Rattle.steps.specs.Facts.{factsOf};
 ghost use Rattle.steps.specs.Index.{IndexOf, Given};
 ghost use Rattle.steps.specs.Values.Filled.{ArityTable};
-ghost use Rattle.facts.specs.Rules.{partCount};
 use number::Number;
-use rules::numbered::Found;
 
 // How many facts list w of the rule at a place has.
 fn rule_count(src: &[u8], arities: &[u8], ars: &[u8], place: usize, w: usize) -> usize
@@ -34,14 +33,12 @@ fn count_from(
     w: usize,
 ) -> usize
     requires { ⌜ (w < 3) × Given (now protocol) (now arities) (now rules) nr × ArityTable (now protocol) (now arities) (now rules) nr (now ars) ⌝ }
-    ensures { λ r. ⌜ ((p : Protocol) → IndexOf (now (protocol .entry)) (now (arities .entry)) (now (rules .entry)) nr p → r ≡ partCount w (ruleOf p number)) ⌝ }
+    ensures { λ r. ⌜ ((p : Protocol) (u : Rule) → IndexOf (now (protocol .entry)) (now (arities .entry)) (now (rules .entry)) nr p → ruleOf p number ≡ some u → r ≡ length (part w u)) ⌝ }
 {
     let mut own = [0u8; 30];
-    match rules::numbered::find_rule(arities, rules, nr, number, &mut own) {
-        Found::Written(len) => rule_count(&own[..len], arities, ars, 0, w),
-        Found::At(place) => rule_count(protocol, arities, ars, place, w),
-        Found::Nothing => 0,
-    }
+    let found = rules::numbered::find_rule(arities, rules, nr, number, &mut own);
+    let src = rules::numbered::rule_part(protocol, &own, found);
+    rule_count(src, arities, ars, 0, w)
 }
 
 // Of the node at a place: 0 premises, 1 actions, 2 conclusions.

@@ -14,7 +14,6 @@ ghost use Rattle.facts.specs.Calls.{Room, FactOf, SomeFact, FactFrom, So
 use crate::writing;
 use crate::writing::Wanted;
 use number::Number;
-use rules::numbered::Found;
 
 // A fact of a node: where the node stands in the file, the list of its rule (0 premises, 1 actions, 2 conclusions), the number in that
 // list, from 0.
@@ -80,30 +79,10 @@ fn fact_from(
     ensures { λ r. ⌜ ((p : Protocol) (x : Node) (e : ℕ) → IndexOf (now (protocol .entry)) (now (arities .entry)) (now (rules .entry)) nr p → FactFrom p (now (s .entry)) number at w i wanted x e → Written wanted (now (out .entry)) o (now (out .exit)) r (factAt p w i x)) ⌝ }
 {
     let mut own = [0u8; 30];
-    match rules::numbered::find_rule(arities, rules, nr, number, &mut own) {
-        Found::Written(len) => {
-            let k = steps::nodes::own_variables(&own[..len]);
-            rule_fact(out, o, &own[..len], 0, w, i, wanted, s, at, k, arities, ars)
-        }
-        Found::At(place) => {
-            let k = protocol::places::variables_of(protocol, place);
-            rule_fact(
-                out,
-                o,
-                protocol,
-                place,
-                w,
-                i,
-                wanted,
-                s,
-                at,
-                k,
-                arities,
-                ars,
-            )
-        }
-        Found::Nothing => Form { symbol: 0, end: o },
-    }
+    let found = rules::numbered::find_rule(arities, rules, nr, number, &mut own);
+    let src = rules::numbered::rule_part(protocol, &own, found);
+    let k = steps::nodes::own_variables(src);
+    rule_fact(out, o, src, 0, w, i, wanted, s, at, k, arities, ars)
 }
 
 // The fact of a node: the canonical bytes of the arguments that are wanted go into the output from o on.

@@ -1,5 +1,6 @@
 // The symbol of a node's fact, and how many arguments it has.
 ghost use mathlib.Core.Path.{_≡_};
+ghost use mathlib.Core.Option.{some};
 ghost use Prim.Native.Nat.{_^_, _≤_, _<_};
 ghost use lib.ListN.{length, getD};
 ghost use Rattle.octets.specs.Head.{Bytes};
@@ -11,10 +12,8 @@ ghost use Rattle.steps.specs.Facts.{factsOf};
 ghost use Rattle.steps.specs.Index.{IndexOf, Given};
 ghost use Rattle.steps.specs.Values.Filled.{ArityTable};
 ghost use Rattle.facts.specs.Calls.{HasFact, WholeFact, factAt};
-ghost use Rattle.facts.specs.Rules.{partCount, partSymbol};
 use crate::nodes::Place;
 use number::Number;
-use rules::numbered::Found;
 
 // The symbol of fact i of list w of the rule at a place.
 fn rule_symbol(src: &[u8], arities: &[u8], ars: &[u8], place: usize, w: usize, i: usize) -> usize
@@ -38,14 +37,12 @@ fn symbol_from(
     i: usize,
 ) -> usize
     requires { ⌜ Given (now protocol) (now arities) (now rules) nr × ArityTable (now protocol) (now arities) (now rules) nr (now ars) ⌝ }
-    ensures { λ r. ⌜ ((p : Protocol) → IndexOf (now (protocol .entry)) (now (arities .entry)) (now (rules .entry)) nr p → i < partCount w (ruleOf p number) → r ≡ partSymbol w i (ruleOf p number)) ⌝ }
+    ensures { λ r. ⌜ ((p : Protocol) (u : Rule) → IndexOf (now (protocol .entry)) (now (arities .entry)) (now (rules .entry)) nr p → ruleOf p number ≡ some u → i < length (part w u) → r ≡ getD (part w u) i noFact .symbol) ⌝ }
 {
     let mut own = [0u8; 30];
-    match rules::numbered::find_rule(arities, rules, nr, number, &mut own) {
-        Found::Written(len) => rule_symbol(&own[..len], arities, ars, 0, w, i),
-        Found::At(place) => rule_symbol(protocol, arities, ars, place, w, i),
-        Found::Nothing => 0,
-    }
+    let found = rules::numbered::find_rule(arities, rules, nr, number, &mut own);
+    let src = rules::numbered::rule_part(protocol, &own, found);
+    rule_symbol(src, arities, ars, 0, w, i)
 }
 
 // Of a node's fact.

@@ -13,8 +13,9 @@ use Rattle.protocol.specs.Protocol.{Fact, Rule, Protocol, fact-of, rule-of, frS
 pub mod Limits
 -- their bytes as the code writes them
 pub mod Bytes
--- what the code finds
+-- what the code finds, and the bytes at the start of which it stands
 pub mod Found
+pub mod Part
 
 -- ── the rules 0 to 4, of one variable each ──
 -- a fact of the first variable, as a list

@@ -11,6 +11,7 @@ ghost use Rattle.protocol.specs.Index.{Entries};
 ghost use Rattle.rules.specs.Numbered.{fixed, applies};
 ghost use Rattle.rules.specs.Numbered.Bytes.{piece-2};
 ghost use Rattle.rules.specs.Numbered.Found.{Put, Applies, placeFound, Finds};
+ghost use Rattle.rules.specs.Numbered.Part.{Fits, partOf};
 
 // So many bytes of the lent array; a place in the protocol file; no rule.
 pub enum Found {
@@ -114,5 +115,17 @@ pub fn find_rule(
         5..=14 => apply_rule(arities, number - 2, out),
         15..=30 => apply_rule(arities, 13 + (number - 15), out),
         _ => own_rule(places, nr, number - 31),
+    }
+}
+
+// The bytes at the start of which the rule stands that was found: what was written out, or the protocol file from its place on.
+pub fn rule_part<'a>(file: &'a [u8], own: &'a [u8], found: Found) -> &'a [u8]
+    requires { ⌜ Fits (now file) (now own) found ⌝ }
+    ensures { λ r. ⌜ now r ≡ partOf (now (file .entry)) (now (own .entry)) found ⌝ }
+{
+    match found {
+        Found::Written(len) => &own[..len],
+        Found::At(place) => &file[place..],
+        Found::Nothing => &own[..0],
     }
 }

@@ -17,7 +17,6 @@ ghost use Rattle.steps.specs.Values.Loops.{NodeFrom, SomeFrom, SomeNode}
 ghost use Rattle.steps.specs.Values.Scan.{asFound, SomeNodes};
 ghost use Rattle.steps.specs.Values.Filled.{ArityTable, FillsRule, SomeFilling};
 use number::Number;
-use rules::numbered::Found;
 
 // Whether the terms of the rule at a place of src are small enough with the k values from a place of s on filled in.
 fn filled_small(
@@ -52,17 +51,10 @@ fn terms_of(
     ensures { λ r. ⌜ ((p : Protocol) (x : Node) (e : ℕ) → IndexOf (now (protocol .entry)) (now (arities .entry)) (now (rules .entry)) nr p → NodeFrom p (now (s .entry)) number at x e → r ≡ nodeTermsOk p x) ⌝ }
 {
     let mut own = [0u8; 30];
-    match rules::numbered::find_rule(arities, rules, nr, number, &mut own) {
-        Found::Written(len) => {
-            let k = crate::nodes::own_variables(&own[..len]);
-            filled_small(s, arities, ars, at, &own[..len], 0, k)
-        }
-        Found::At(place) => {
-            let k = protocol::places::variables_of(protocol, place);
-            filled_small(s, arities, ars, at, protocol, place, k)
-        }
-        Found::Nothing => true,
-    }
+    let found = rules::numbered::find_rule(arities, rules, nr, number, &mut own);
+    let src = rules::numbered::rule_part(protocol, &own, found);
+    let k = crate::nodes::own_variables(src);
+    filled_small(s, arities, ars, at, src, 0, k)
 }
 
 // The terms of the node at a place.

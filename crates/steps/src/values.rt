@@ -19,7 +19,6 @@ ghost use Rattle.steps.specs.Values.Loops.{behindOf, RuleHere, SomeRule,
 ghost use Rattle.steps.specs.Values.Scan.{asFound, SomeNodes};
 ghost use Rattle.steps.specs.Values.Code.{NameIs, ofName, ValueThere, SomeValue};
 use number::Number;
-use rules::numbered::Found;
 use term::Fresh;
 use term::Part;
 use term::Public;
@@ -132,17 +131,10 @@ fn values_of(
     ensures { λ r. ⌜ ((p : Protocol) (x : Node) (e : ℕ) → IndexOf (now (protocol .entry)) (now (arities .entry)) (now (rules .entry)) nr p → NodeFrom p (now (s .entry)) number at x e → r ≡ nodeValuesOk p x) ⌝ }
 {
     let mut own = [0u8; 30];
-    match rules::numbered::find_rule(arities, rules, nr, number, &mut own) {
-        Found::Written(len) => {
-            let k = crate::nodes::own_variables(&own[..len]);
-            values_fit(s, arities, at, &own[..len], 0, k)
-        }
-        Found::At(place) => {
-            let k = protocol::places::variables_of(protocol, place);
-            values_fit(s, arities, at, protocol, place, k)
-        }
-        Found::Nothing => true,
-    }
+    let found = rules::numbered::find_rule(arities, rules, nr, number, &mut own);
+    let src = rules::numbered::rule_part(protocol, &own, found);
+    let k = crate::nodes::own_variables(src);
+    values_fit(s, arities, at, src, 0, k)
 }
 
 // The values of the node at a place.

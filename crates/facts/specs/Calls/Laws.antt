@@ -1,6 +1,6 @@
 -- A node's fact is its rule's with the values filled in, and who finds the rule can write it.
-use Prim.Native.Nat.{ℕ, _^_, _≤_, _<_}
-use mathlib.Core.List.{List, map}
+use Prim.Native.Nat.{ℕ, _^_, _≤_}
+use mathlib.Core.List.{List}
 use mathlib.Core.Option.{some, Option·some-injective}
 use mathlib.Core.Path.{_≡_, ap, sym, _∙_, subst}
 use native.Mathlib.Omega.{arith}
@@ -20,8 +20,7 @@ use Rattle.steps.specs.Nodes.{Node, NodeWithin}
 use Rattle.steps.specs.Nodes.Exact.{node-exact}
 use Rattle.steps.specs.Nodes.Code.{index-within, index-slots}
 use Rattle.steps.specs.Index.{IndexOf}
-use Rattle.steps.specs.Lists.{map-at}
-use Rattle.steps.specs.Facts.{valueAt, filledFact, filledPart, factsOf}
+use Rattle.steps.specs.Facts.{valueAt, filledFact}
 use Rattle.steps.specs.Values.Parts.{noTerm}
 use Rattle.steps.specs.Values.Loops.{count-here, node-from}
 use Rattle.steps.specs.Values.Filled.{FillsRule}
@@ -31,25 +30,13 @@ use Rattle.facts.specs.Writing.{Has, FactJob, WantedReady}
 use Rattle.facts.specs.Writing.Nodes.{node-job}
 use Rattle.facts.specs.declared.nodes.Place.{Place}
 use Rattle.facts.specs.declared.nodes.Form.{Form}
-use Rattle.facts.specs.Rules.{part-fact}
+use Rattle.facts.specs.Rules.{part-fact, facts-counted, fact-filled}
 use Rattle.facts.specs.Calls.{factAt, ruleFact, Room, FactOf, FactFrom, RuleFact, Written}
 
 -- ── filled in one by one ──
 has-filled : (q : Wanted) (vs : List Term) (f : Fact) → Has q (filledFact vs f) → Has q f
 has-filled want.All vs f h = tt
 has-filled (want.One x) vs f h = omega (arith, length-map (f .terms) (sub (valueAt vs)))
-
-module _ (p : Protocol) (x : Node) (u : Rule) (known : ruleOf p (x .rule) ≡ some u) (w i : ℕ) (l : i < length (factsOf p w x)) where
-  facts-are : factsOf p w x ≡ map (filledFact (x .values)) (part w u)
-  facts-are = ap (filledPart w (x .values)) known
-
-  fact-listed : i < length (part w u)
-  fact-listed = omega (arith, ap length facts-are, length-map (part w u) (filledFact (x .values)))
-
-  pub fact-filled : factAt p w i x ≡ ruleFact (x .values) w i u
-  fact-filled =
-      ap (λ (fs : List Fact). getD fs i noFact) facts-are
-      ∙ map-at (filledFact (x .values)) (part w u) i noFact noFact fact-listed
 
 -- ── a node whose rule was found ──
 module _ (p : Protocol) (s : List ℕ) (number at w i : ℕ) (q : Wanted) (x : Node) (e : ℕ) (from : FactFrom p s number at w i q x e) (u : Rule)
@@ -73,7 +60,7 @@ module _ {file table rules : List ℕ} {nr : ℕ} {p : Protocol} (index : IndexO
   rule-fact out src place o room bsrc short fills = record {
     fills = fills;
     short = short;
-    inside = fact-listed p x u (known p s number at w i q x e from u is) w i (from .listed);
+    inside = omega (arith, from .listed, facts-counted p x u (known p s number at w i q x e from u is) w);
     has = has-filled q (x .values) (getD (part w u) i noFact) (subst (Has q) (sym (fact-is p s number at w i q x e from u is)) (from .has));
     job =
         subst (Jobs src (length out) o) (Option·some-injective (from .within .is) u (sym (from .within .known) ∙ known p s number at w i q x e from u is))

@@ -26,6 +26,7 @@ use Rattle.protocol.specs.Index.{Entries, Placed}
 use Rattle.protocol.specs.Index.Fill.{places-more, places-end}
 use Rattle.rules.specs.Numbered.{ruleOf}
 use Rattle.rules.specs.Numbered.Limits.{rule-within}
+use Rattle.rules.specs.Numbered.Part.{Fits, partOf, finds-fit, part-here}
 use Rattle.rules.specs.Numbered.Found.{WrittenAs, PlacedAs, Finds, written-reads}
 use Rattle.rules.specs.declared.numbered.Found.{Found}
 use Rattle.rules.specs.declared.numbered.Found.the-variants as fd
@@ -106,6 +107,18 @@ module _ {s arities places : List ℕ} {nr : ℕ} {p : Protocol} (i : IndexOf s 
 
     pub nothing-at : r ≡ fd.Nothing → ruleOf p n ≡ none
     nothing-at e = subst (λ (q : Found). Finds p s arities (take (i .ns) (i .ars)) n q out) e (index-finds n r out h)
+
+    -- the rule stands at the start of the bytes that it was found in
+    pub part-fits : Bytes s → Fits s out r
+    part-fits bytes = finds-fit (i .entries) bytes n r out (h s (i .ns) (i .ars) (i .flags) (i .entries))
+
+    pub part-rule :
+        (src : List ℕ) → src ≡ partOf s out r → Bytes s → Bytes src → (u : Rule) → ruleOf p n ≡ some u
+        → Here (rule src arities (take (i .ns) (i .ars))) u 0
+    part-rule src e bytes known u is =
+        subst (λ (l : List ℕ). Here (rule l arities (take (i .ns) (i .ars))) u 0) (sym e)
+        (part-here (i .entries) bytes n r out (subst Bytes e known) (h s (i .ns) (i .ars) (i .flags) (i .entries)) u
+        (ap (λ (q : Protocol). ruleOf q n) (i .same) ∙ is))
 
   pub index-within : Within p
   index-within = subst Within (i .same) (i .entries .within)

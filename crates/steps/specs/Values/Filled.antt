@@ -4,9 +4,9 @@ use Prim.Native.Nat.{ℕ, zero, suc, _^_, _≤_, _<_}
 use mathlib.Core.List.{List, [], _∷_}
 use mathlib.Core.Bool.{Bool}
 use mathlib.Core.Option.{some}
-use mathlib.Core.Path.{_≡_, refl, ap, ap₂, sym, _∙_, subst}
+use mathlib.Core.Path.{_≡_, refl, ap, sym, _∙_, subst}
 use native.Mathlib.Omega.{arith}
-use lib.ListN.{length, getD, take, List·getD-eq-default}
+use lib.ListN.{length, getD, take, length-drop, List·getD-eq-default}
 use lib.Seq.{getD-take, length-take-le}
 use Rattle.octets.specs.Choice.{by-size}
 use Rattle.octets.specs.Head.{Bytes, stands-within}
@@ -22,15 +22,18 @@ use Rattle.protocol.specs.Index.{Entries}
 use Rattle.protocol.specs.Places.{Here, valueOf}
 use Rattle.protocol.specs.Protocol.Walks.{sortsAt}
 use Rattle.rules.specs.Numbered.{ruleOf}
-use Rattle.rules.specs.Numbered.Found.{WrittenAs, PlacedAs, written-reads}
+use Rattle.rules.specs.Numbered.Found.{Finds}
+use Rattle.rules.specs.Numbered.Part.{Fits, partOf}
+use Rattle.rules.specs.declared.numbered.Found.{Found}
+use Rattle.rules.specs.declared.numbered.Found.the-variants as fd
 use Rattle.steps.specs.Index.{IndexOf}
 use Rattle.steps.specs.Nodes.{Node}
-use Rattle.steps.specs.Nodes.Code.{index-within, index-slots}
+use Rattle.steps.specs.Nodes.Code.{part-rule}
 use Rattle.steps.specs.Facts.{valueAt}
 use Rattle.steps.specs.Values.Tests.{ruleOk, ofRule, nodeTermsOk}
 use Rattle.steps.specs.Values.Weights.{sizeIn}
 use Rattle.steps.specs.Values.Parts.{noTerm, ruleSmall, rule-weighed}
-use Rattle.steps.specs.Values.Loops.{RuleHere, count-here, NodeFrom, written-rule, placed-rule}
+use Rattle.steps.specs.Values.Loops.{RuleHere, count-here, NodeFrom, rule-here}
 
 -- ── the sizes of values ──
 module _ (s table : List ℕ) (bytes : Bytes s) where
@@ -122,32 +125,26 @@ module _ {table ars s src : List ℕ} {place at : ℕ} {u : Rule} {vs : List Ter
       pub filling-test : (b : Bool) → b ≡ ruleSmall (sizeIn (take k sizes)) u → b ≡ ruleOk vs u
       filling-test b g = g ∙ rule-weighed (sizeIn (take k sizes)) vs (sizes-are s table k at vs e reads sizes room (told vs e reads)) u
 
--- a rule that is written out is short
-pub written-short : (len : ℕ) (out : List ℕ) → len ≤ length out → length out ≡ 30 → length (take len out) ≤ 2 ^ 32
-written-short len out l h = omega (arith, length-take-le len out l)
+-- ── as the code finds its rule: at the start of some bytes ──
+-- these are few
+pub part-short : (file out : List ℕ) (r : Found) → Fits file out r → length file ≤ 2 ^ 32 → length out ≡ 30 → (src : List ℕ) → src ≡ partOf file out r → length src ≤ 2 ^ 32
+part-short file out (fd.Written len) f short h src e = omega (arith, ap length e, length-take-le len out f)
+part-short file out (fd.At place) f short h src e = omega (arith, ap length e, length-drop place file)
+part-short file out fd.Nothing f short h src e = omega (arith, ap length e)
 
--- ── as the code finds its rule: written out, or at a place of the protocol file ──
 module _ {file table rules : List ℕ} {nr : ℕ} {ars : List ℕ} (known : ArityTable file table rules nr ars) {p : Protocol} (i : IndexOf file table rules nr p)
-    (number : ℕ) where
-  pub written-here : (len : ℕ) (out : List ℕ) (w : WrittenAs p number len out) → Bytes (take len out) → Here (rule (take len out) table ars) (w .its) 0
-  written-here len out w bytes =
-      let r = written-reads p (index-within i) number len out w bytes in
-      record { next = r .next; reads = ap₂ (λ (a b : List ℕ). rule (take len out) a b 0) (index-slots i) (known p i) ∙ r .reads }
+    (number : ℕ) (r : Found) (out : List ℕ)
+    (h : (z : List ℕ) (ns : ℕ) (ar flags : List ℕ) (j : Entries z ns nr table ar flags rules) → Finds (j .is) z table (take ns ar) number r out)
+    (src : List ℕ) (e : src ≡ partOf file out r) (bytes : Bytes file) (is-bytes : Bytes src) (u : Rule) (is : ruleOf p number ≡ some u) where
+  pub part-known : Here (rule src table ars) u 0
+  part-known =
+      subst (λ (l : List ℕ). Here (rule src table l) u 0)
+      (i .entries .tabled ∙ ap (λ (q : Protocol). factArities (q .symbols)) (i .same) ∙ sym (known p i))
+      (part-rule i number r out h src e bytes is-bytes u is)
 
-  pub placed-here : (place : ℕ) (w : PlacedAs p file table (take (i .ns) (i .ars)) number place) → Here (rule file table ars) (w .its) place
-  placed-here place w =
-      subst (λ (l : List ℕ). Here (rule file table l) (w .its) place)
-      (i .entries .tabled ∙ ap (λ (q : Protocol). factArities (q .symbols)) (i .same) ∙ sym (known p i)) (w .here)
-
-  module _ (s : List ℕ) (short : length s ≤ 2 ^ 32) (at : ℕ) (x : Node) (e : ℕ) (from : NodeFrom p s number at x e) where
-    pub written-filling :
-        (len : ℕ) (out : List ℕ) (w : WrittenAs p number len out) → Bytes (take len out) → FillsRule table ars s (take len out) 0 at (w .its) (x .values) e
-    written-filling len out w bytes =
-        record { is = written-rule i s short number at x e from len out w bytes; here = written-here len out w bytes }
-
-    pub placed-filling :
-        (place : ℕ) (w : PlacedAs p file table (take (i .ns) (i .ars)) number place) → FillsRule table ars s file place at (w .its) (x .values) e
-    placed-filling place w = record { is = placed-rule i s short number at x e from place w; here = placed-here place w }
+  pub part-filling :
+      (s : List ℕ) → length s ≤ 2 ^ 32 → (at : ℕ) (x : Node) (d : ℕ) → NodeFrom p s number at x d → FillsRule table ars s src 0 at u (x .values) d
+  part-filling s short at x d from = record { is = rule-here i s short number at x d from u is src ars 0 part-known; here = part-known }
 
 -- the rule's test is the node's
 pub terms-test :

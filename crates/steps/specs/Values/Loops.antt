@@ -5,10 +5,9 @@ use mathlib.Core.Bool.{Bool, true, false, _&&_}
 use mathlib.Core.Option.{Option, none, some}
 use mathlib.Core.Path.{_≡_, refl, ap, ap₂, sym, _∙_, subst}
 use native.Mathlib.Omega.{arith}
-use lib.ListN.{length, getD, take, drop, drop-of-length-le}
+use lib.ListN.{length, getD, drop, drop-of-length-le}
 use lib.Seq.{drop-cons}
 use Rattle.octets.specs.Choice.{clash}
-use Rattle.octets.specs.Head.{Bytes}
 use Rattle.number.specs.Reading.{Read, got, fault, andThen, readNumber, many}
 use Rattle.number.specs.Reading.Laws.{cut-got}
 use Rattle.number.specs.Reading.Many.{many-length}
@@ -19,13 +18,12 @@ use Rattle.term.specs.Walk.{ended}
 use Rattle.term.specs.declared.Part.{Part}
 use Rattle.term.specs.declared.Part.the-variants as part
 use Rattle.canonical.specs.Builtins.{Builtins, declared}
-use Rattle.protocol.specs.Protocol.{Rule, Protocol, factArities, rule}
+use Rattle.protocol.specs.Protocol.{Rule, Protocol, rule}
 use Rattle.protocol.specs.Places.{valueOf, Here, sortOf}
 use Rattle.protocol.specs.Places.Laws.{rule-layout, sort-law, vars-law}
 use Rattle.protocol.specs.Protocol.Walks.{sortsAt}
 use Rattle.rules.specs.Numbered.{ruleOf}
 use Rattle.rules.specs.Numbered.Limits.{rule-within}
-use Rattle.rules.specs.Numbered.Found.{WrittenAs, PlacedAs, written-reads}
 use Rattle.steps.specs.Index.{IndexOf}
 use Rattle.steps.specs.Nodes.{Node, node-of, values, node}
 use Rattle.steps.specs.Nodes.Code.{index-within, index-slots}
@@ -192,22 +190,11 @@ module _ {protocol table rules : List ℕ} {nr : ℕ} {p : Protocol} (i : IndexO
   pub values-test : (b : Bool) → b ≡ valuesOk (u .sorts) (x .values) → b ≡ nodeValuesOk p x
   values-test b h = h ∙ sym (ap (ofRule (λ w. valuesOk (w .sorts) (x .values))) (ap (ruleOf p) (from .is-number) ∙ is))
 
--- as the code finds its rule: written out, or at a place of the protocol file
-module _ {protocol table rules : List ℕ} {nr : ℕ} {p : Protocol} (i : IndexOf protocol table rules nr p) (s : List ℕ) (short : length s ≤ 2 ^ 32)
-    (number at : ℕ) (x : Node) (e : ℕ) (from : NodeFrom p s number at x e) where
-  pub written-rule :
-      (len : ℕ) (out : List ℕ) (w : WrittenAs p number len out) → Bytes (take len out) → RuleHere table s (take len out) 0 at (w .its) (x .values) e
-  written-rule len out w bytes =
-      rule-here i s short number at x e from (w .its) (w .is) (take len out) (factArities (p .symbols)) 0
-      (subst (λ (l : List ℕ). Here (rule (take len out) l (factArities (p .symbols))) (w .its) 0) (sym (index-slots i))
-      (written-reads p (index-within i) number len out w bytes))
-
-  pub placed-rule :
-      (place : ℕ) (w : PlacedAs p protocol table (take (i .ns) (i .ars)) number place) → RuleHere table s protocol place at (w .its) (x .values) e
-  placed-rule place w = rule-here i s short number at x e from (w .its) (w .is) protocol (take (i .ns) (i .ars)) place (w .here)
-
-module _ (p : Protocol) (s : List ℕ) (number at : ℕ) (x : Node) (e : ℕ) (from : NodeFrom p s number at x e) where
-  pub no-rule-from : {C : Type 0} → ruleOf p number ≡ none → C
-  no-rule-from h =
-      let q : fault ≡ got x e = sym (ap (λ (o : Option Rule). values p s number o at) h) ∙ from .reads in
-      clash (cc)
+-- it has a rule
+pub from-rule :
+    (p : Protocol) (s : List ℕ) (number at : ℕ) (x : Node) (e : ℕ) → NodeFrom p s number at x e → (u : Rule) × (ruleOf p number ≡ some u)
+from-rule p s number at x e from = go (ruleOf p number) refl (from .reads)
+  where
+    go : (o : Option Rule) → ruleOf p number ≡ o → values p s number o at ≡ got x e → (u : Rule) × (ruleOf p number ≡ some u)
+    go none h q = clash (cc)
+    go (some u) h q = (u, h)

@@ -1,101 +1,51 @@
-use denote.Ref.{now}
-use lib.Seq.{length-take-le}
-use mathlib.Core.Path.{ap, sym, _∙_}
-use Rattle.steps.specs.Values.Loops.{written-rule, placed-rule, values-test, no-rule-from}
-use Rattle.steps.specs.Nodes.Code.{written-at, placed-at, nothing-at}
+use Rattle.steps.specs.Values.Loops.{from-rule, rule-here, values-test}
+use Rattle.steps.specs.Nodes.Code.{part-fits, part-rule}
 use borrow.Author.Needs.{needs}
 use Rattle.steps.proofs.values.values_of.Statement.{statement}
 use Rattle.steps.proofs.values.values_of.Tie as tie
 use Rattle.steps.proofs.values.values_of.Reads as reads
 use Rattle.steps.proofs.values.values_of.Lts as lts
-use Rattle.protocol.proofs.places.variables_of.Reads as variables-of-reads
 use Rattle.rules.proofs.numbered.find_rule.Reads as find-rule-reads
+use Rattle.rules.proofs.numbered.rule_part.Reads as rule-part-reads
 use Rattle.steps.proofs.nodes.own_variables.Reads as own-variables-reads
 use Rattle.steps.proofs.values.values_fit.Reads as values-fit-reads
 
--- src/values.rt:139:66
+-- src/values.rt:134:72
 slice-aggregate-find-rule : tie.Need-slice-aggregate-find-rule
 slice-aggregate-find-rule c = search needs
 
--- src/values.rt:139:11
+-- src/values.rt:134:9
 find-rule-requires : tie.Need-find-rule-requires
 find-rule-requires c κs =
     (c .before .before .before .before .before .pre .0 .slots-many, search needs, search needs)
 
--- src/values.rt:140:24
-enum-known-len : tie.Need-enum-known-len
-enum-known-len c = search needs
+-- src/values.rt:135:52
+slice-aggregate-rule-part : tie.Need-slice-aggregate-rule-part
+slice-aggregate-rule-part c = search needs
 
--- src/values.rt:141:49
-array-share-prefix-own : tie.Need-array-share-prefix-own
-array-share-prefix-own c =
-    written-at (c .before .before .before .before .before .before .before .before .before .before .pre .0 .index) _ _ _ (c .before .before .before .before .find-rule .ensures) _ (c .before .len .given .1) .holds .short
+-- src/values.rt:135:9
+rule-part-requires : tie.Need-rule-part-requires
+rule-part-requires c κs =
+    part-fits (c .before .before .before .before .before .before .before .before .pre .0 .index) (c .before .before .before .before .before .before .before .before .args .number) (c .before .before .find-rule .result) (c .before .before .find-rule .last .1 .1 .1 .1 .0) (c .before .before .find-rule .ensures) (λ k. c .before .before .before .before .before .before .shared-slice-known2 .given k .fits)
 
--- src/values.rt:141:49
-slice-aggregate-own-variables : tie.Need-slice-aggregate-own-variables
-slice-aggregate-own-variables c =
-    sym (length-take-le _ _ (written-at (c .before .before .before .before .before .before .before .before .before .before .before .pre .0 .index) _ _ _ (c .before .before .before .before .before .find-rule .ensures) _ (c .before .before .len .given .1) .holds .short))
-
--- src/values.rt:141:17
+-- src/values.rt:136:9
 own-variables-requires : tie.Need-own-variables-requires
 own-variables-requires c κs = search needs
 
--- src/values.rt:142:40
-array-share-prefix-own-2 : tie.Need-array-share-prefix-own-2
-array-share-prefix-own-2 c =
-    written-at (c .before .before .before .before .before .before .before .before .before .before .before .before .pre .0 .index) _ _ _ (c .before .before .before .before .before .before .find-rule .ensures) _ (c .before .before .before .len .given .1) .holds .short
-
--- src/values.rt:142:40
-slice-aggregate-values-fit : tie.Need-slice-aggregate-values-fit
-slice-aggregate-values-fit c =
-    sym (length-take-le _ _ (written-at (c .before .before .before .before .before .before .before .before .before .before .before .before .before .pre .0 .index) _ _ _ (c .before .before .before .before .before .before .before .find-rule .ensures) _ (c .before .before .before .before .len .given .1) .holds .short))
-
--- src/values.rt:142:13
+-- src/values.rt:137:5
 values-fit-requires : tie.Need-values-fit-requires
 values-fit-requires c κs =
-    let f = c .before .before .before .before .before .before .before .before .before .before .before .before .before .pre .1 in
-    let w = written-at (f .index) _ _ _ (c .before .before .before .before .before .before .before .find-rule .ensures) _ (c .before .before .before .before .len .given .1) in
-    (record { its = w .its; its-values = f .its .values; end = f .end; is = written-rule (f .index) _ (f .short) _ _ (f .its) (f .end) (f .is) _ _ w (c .before .own-variables .ensures .1) }, c .before .own-variables .ensures .0)
+    let f = c .before .before .before .before .before .before .before .before .before .before .pre .1 in
+    let (u, is) = from-rule (f .of) _ _ _ (f .its) (f .end) (f .is) in
+    (record { its = u; its-values = f .its .values; end = f .end; is = rule-here (f .index) _ (f .short) _ _ (f .its) (f .end) (f .is) u is _ _ _ (part-rule (f .index) (c .before .before .before .before .before .before .before .before .before .before .args .number) (c .before .before .before .before .find-rule .result) (c .before .before .before .before .find-rule .last .1 .1 .1 .1 .0) (c .before .before .before .before .find-rule .ensures) _ (c .before .rule-part .ensures) (λ k. c .before .before .before .before .before .before .before .before .shared-slice-known2 .given k .fits) (c .own-variables .ensures .1) u is) }, c .own-variables .ensures .0)
 
--- src/values.rt:144:19
-enum-known-place : tie.Need-enum-known-place
-enum-known-place c = search needs
-
--- src/values.rt:145:17
-variables-of-requires : tie.Need-variables-of-requires
-variables-of-requires c κs = search needs
-
--- src/values.rt:146:13
-values-fit-requires-2 : tie.Need-values-fit-requires-2
-values-fit-requires-2 c κs =
-    let f = c .before .before .before .before .before .before .before .before .before .before .before .pre .1 in
-    let w = placed-at (f .index) _ _ _ (c .before .before .before .before .before .find-rule .ensures) _ (c .before .before .place .given .1) in
-    (record { its = w .its; its-values = f .its .values; end = f .end; is = placed-rule (f .index) _ (f .short) _ _ (f .its) (f .end) (f .is) _ w }, c .variables-of .ensures)
-
--- src/values.rt:148:27
-enum-told : tie.Need-enum-told
-enum-told c = search needs
-
--- src/values.rt:126:1
+-- src/values.rt:121:1
 returns : tie.Need-returns
 returns c =
     λ p x e i f.
-    let z = c .before .before .before .before .before .before .before .before .before .before .before .before .before .before .pre .1 .short in
-    let w = written-at i _ _ _ (c .before .before .before .before .before .before .before .before .find-rule .ensures) _ (c .before .before .before .before .before .len .given .1) in
-    values-test i _ z _ _ x e f (w .its) (w .is) _ (c .values-fit .ensures (w .its) (x .values) e (written-rule i _ z _ _ x e f _ _ w (c .before .before .own-variables .ensures .1)))
-
--- src/values.rt:126:1
-returns-2 : tie.Need-returns-2
-returns-2 c =
-    λ p x e i f.
-    let z = c .before .before .before .before .before .before .before .before .before .before .before .before .pre .1 .short in
-    let w = placed-at i _ _ _ (c .before .before .before .before .before .before .find-rule .ensures) _ (c .before .before .before .place .given .1) in
-    values-test i _ z _ _ x e f (w .its) (w .is) _ (c .values-fit2 .ensures (w .its) (x .values) e (placed-rule i _ z _ _ x e f _ w))
-
--- src/values.rt:126:1
-returns-3 : tie.Need-returns-3
-returns-3 c =
-    λ p x e i f. no-rule-from p _ _ _ x e f (nothing-at i _ _ _ (c .before .before .before .find-rule .ensures) (c .enum-told .given .1))
+    let (u, is) = from-rule p _ _ _ x e f in
+    let z = c .before .before .before .before .before .before .before .before .before .before .before .pre .1 .short in
+    values-test i _ z _ _ x e f u is _ (c .values-fit .ensures u (x .values) e (rule-here i _ z _ _ x e f u is _ _ _ (part-rule i (c .before .before .before .before .before .before .before .before .before .before .before .args .number) (c .before .before .before .before .before .find-rule .result) (c .before .before .before .before .before .find-rule .last .1 .1 .1 .1 .0) (c .before .before .before .before .before .find-rule .ensures) _ (c .before .before .rule-part .ensures) (λ k. c .before .before .before .before .before .before .before .before .before .shared-slice-known2 .given k .fits) (c .before .own-variables .ensures .1) u is)))
 
 pub values-of-spec : {M : Type 1} → statement M
 values-of-spec =
@@ -103,17 +53,8 @@ values-of-spec =
     (tie.spec
     slice-aggregate-find-rule
     find-rule-requires
-    enum-known-len
-    array-share-prefix-own
-    slice-aggregate-own-variables
+    slice-aggregate-rule-part
+    rule-part-requires
     own-variables-requires
-    array-share-prefix-own-2
-    slice-aggregate-values-fit
     values-fit-requires
-    enum-known-place
-    variables-of-requires
-    values-fit-requires-2
-    enum-told
-    returns
-    returns-2
-    returns-3)
+    returns)
