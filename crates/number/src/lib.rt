@@ -56,9 +56,17 @@ fn read_groups(s: &[u8], at: usize, left: usize) -> Number
 }
 
 // The number at a place. A fault: the end of the slice, a group past the last, a form that is not the shortest.
+// Most numbers are one group: these are read without the recursion.
 pub fn read_number(s: &[u8], at: usize) -> Number
     ensures { λ r. ⌜ asRead r ≡ readNumber (now (s .entry)) at ⌝ }
 {
+    if s.len() <= at {
+        return Number::Fault;
+    }
+    let b = s[at];
+    if b < 128 {
+        return Number::Value(b as u32, at + 1);
+    }
     read_groups(s, at, MOST_GROUPS)
 }
 
