@@ -3,6 +3,9 @@
 use levtosziv::{Refusal, Written};
 use reference::calls::Outcome;
 use std::collections::BTreeMap;
+use std::io::Write;
+use std::path::Path;
+use std::process::{Command, Stdio};
 use std::sync::OnceLock;
 
 /// Bytes around a lent slice that a call must not touch.
@@ -99,6 +102,22 @@ pub fn canonical_form_agrees(
     theirs
 }
 
+/// What a test program writes for an input.
+pub fn program(name: &str, input: &[u8]) -> String {
+    let folder = Path::new(env!("CARGO_MANIFEST_DIR")).join("../../target/bin");
+    let mut child = Command::new(folder.join(name))
+        .stdin(Stdio::piped())
+        .stdout(Stdio::piped())
+        .spawn()
+        .expect("a program that rt check made");
+    // It reads all of its input before it writes.
+    let mut stdin = child.stdin.take().expect("its input");
+    stdin.write_all(input).expect("its input is read");
+    drop(stdin);
+    let output = child.wait_with_output().expect("its output");
+    String::from_utf8(output.stdout).expect("a text")
+}
+
 /// How often each kind of outcome came, and the least share of each, in hundredths of a percent.
 #[derive(Default)]
 pub struct Shares {
@@ -118,6 +137,10 @@ impl Shares {
             Outcome::Run(_) => "run".to_string(),
             Outcome::Written(_) => "written".to_string(),
         };
+        self.count(kind);
+    }
+
+    pub fn count(&mut self, kind: String) {
         *self.counts.entry(kind).or_default() += 1;
         self.all += 1;
     }
