@@ -53,6 +53,12 @@ module _ {A B : Type 0} (P : A → Type 0) (Q : B → Type 0) (g : A → B) wher
   map-all h [] a = tt
   map-all h (x ∷ xs) a = (h x (a .0), map-all h xs (a .1))
 
+-- what stands for an element that is not there does not matter to one that is
+pub same-inside : {A : Type 0} (xs : List A) (i : ℕ) (a b : A) → i < length xs → getD xs i a ≡ getD xs i b
+same-inside [] i a b l = absurd (omega arith)
+same-inside (x ∷ xs) zero a b l = refl
+same-inside (x ∷ xs) (suc i) a b l = same-inside xs i a b (omega arith)
+
 -- the element of a number of a mapped list
 pub map-at : {A B : Type 0} (f : A → B) (xs : List A) (i : ℕ) (a : A) (b : B) → i < length xs → getD (map f xs) i b ≡ f (getD xs i a)
 map-at f [] i a b l = absurd (omega arith)

@@ -1,6 +1,6 @@
 -- The places of a node's values, as the canonical form of what they fill takes them.
-use Prim.Native.Nat.{ℕ, zero, suc, _≤_, _<_}
-use mathlib.Core.List.{List, [], _∷_}
+use Prim.Native.Nat.{ℕ, _≤_, _<_}
+use mathlib.Core.List.{List}
 use mathlib.Core.Path.{_≡_, refl, ap, _∙_}
 use native.Mathlib.Omega.{arith}
 use lib.ListN.{length, getD, drop}
@@ -15,6 +15,7 @@ use Rattle.term.specs.declared.Part.the-variants as part
 use Rattle.message.specs.Canon.{canon}
 use Rattle.canonical.specs.Contract.{Value}
 use Rattle.protocol.specs.Index.{Placed}
+use Rattle.steps.specs.Lists.{same-inside}
 use Rattle.steps.specs.Facts.{valueAt}
 use Rattle.steps.specs.Values.Parts.{noTerm}
 
@@ -30,17 +31,12 @@ ended-fault (got t e) h = clash (cc)
 ended-fault fault h = refl
 
 -- ── the values at their places ──
-same-entry : {A : Type 0} (xs : List A) (i : ℕ) (d e : A) → i < length xs → getD xs i d ≡ getD xs i e
-same-entry [] i d e l = absurd (omega arith)
-same-entry (x ∷ xs) zero d e l = refl
-same-entry (x ∷ xs) (suc i) d e l = same-entry xs i d e (omega arith)
-
 -- a value that stands at its place and is its own canonical form is what canonical forms are filled in with
 pub placed-value :
     (s slots starts : List ℕ) (vs : List Term) (k : ℕ) → Bytes s → Placed (term s slots) noTerm starts vs k → k ≤ length starts
     → (v : ℕ) → v < k → canon (valueAt vs v) ≡ valueAt vs v → Value slots s starts v (valueAt vs v)
 placed-value s slots starts vs k bytes placed room v l own =
     let h = placed .each v l in
-    let same : getD vs v noTerm ≡ valueAt vs v = same-entry vs v noTerm (leaf variable v) (omega (arith, placed .count)) in
+    let same : getD vs v noTerm ≡ valueAt vs v = same-inside vs v noTerm (leaf variable v) (omega (arith, placed .count)) in
     let f = term-form s slots bytes (valueAt vs v) (getD starts v 0) (h .next) (h .reads ∙ ap (λ (t : Term). got t (h .next)) same) in
     record { listed = omega arith; rest = drop (h .next) s; there = f .1 .there; formed = f .0 .0; range = f .0 .1; own = own }

@@ -5,7 +5,6 @@ use mathlib.Core.Bool.{Bool, true, false, cond, _||_}
 use mathlib.Core.Option.{Option, none, some}
 use mathlib.Core.Path.{_≡_, refl, ap, ap₂, sym, _∙_, subst}
 use native.Mathlib.Omega.{arith}
-use native.Mathlib.Numerals.{add-one}
 use lib.Dec.{eqb, leb}
 use lib.ListN.{length, getD, take, drop, set, drop-of-length-le}
 use lib.Seq.{drop-cons, take-suc, getD-set-same, getD-set-other}
@@ -21,7 +20,7 @@ use Rattle.protocol.specs.Protocol.{Protocol}
 use Rattle.steps.specs.Nodes.{Node}
 use Rattle.steps.specs.Facts.{makes}
 use Rattle.steps.specs.Runs.{rewrittens}
-use Rattle.steps.specs.Values.Scan.{asFound}
+use Rattle.steps.specs.Values.Scan.{asFound, found-is}
 use Rattle.steps.specs.declared.names.Made.{Made}
 use Rattle.steps.specs.declared.names.Made.the-variants as md
 use Rattle.steps.specs.Nodes.Code.{noNode}
@@ -143,9 +142,6 @@ module _ (p : Protocol) (d : Node) (xs : List Node) where
       step j false l t h
       ∙ ap (λ (m : List ℕ). nameTwiceFrom (suc (j + 1)) m (rewrittens p (drop (suc j) xs))) (sym (made-more xs j d l))
       ∙ ap₂ (λ (k i : ℕ). nameTwiceFrom k (madeBy (take i xs)) (rewrittens p (drop i xs))) a b
-
-  found-is : (k : ℕ) → asFound (k + 1) ≡ some (k + 1)
-  found-is k = rw add-one
 
   pub names-twice : (j : ℕ) → j < length xs → againIn (take j xs) (makes (getD xs j d)) ≡ true → NamesLeft j → asFound (j + 1) ≡ firstNameTwice (rewrittens p xs)
   names-twice j l t h = found-is j ∙ sym (step j true l t h)

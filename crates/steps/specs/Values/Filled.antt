@@ -1,10 +1,10 @@
 -- The terms of a node's rule with the node's values filled in: the sizes that code has of the values are theirs, and the rule's test is the
 -- node's.
 use Prim.Native.Nat.{ℕ, zero, suc, _^_, _≤_, _<_}
-use mathlib.Core.List.{List, [], _∷_}
+use mathlib.Core.List.{List, _∷_}
 use mathlib.Core.Bool.{Bool}
 use mathlib.Core.Option.{some}
-use mathlib.Core.Path.{_≡_, refl, ap, sym, _∙_, subst}
+use mathlib.Core.Path.{_≡_, ap, sym, _∙_, subst}
 use native.Mathlib.Omega.{arith}
 use lib.ListN.{length, getD, take, length-drop, List·getD-eq-default}
 use lib.Seq.{getD-take, length-take-le}
@@ -29,6 +29,7 @@ use Rattle.rules.specs.declared.numbered.Found.the-variants as fd
 use Rattle.steps.specs.Index.{IndexOf}
 use Rattle.steps.specs.Nodes.{Node}
 use Rattle.steps.specs.Nodes.Code.{part-rule}
+use Rattle.steps.specs.Lists.{same-inside}
 use Rattle.steps.specs.Facts.{valueAt}
 use Rattle.steps.specs.Values.Tests.{ruleOk, ofRule, nodeTermsOk}
 use Rattle.steps.specs.Values.Weights.{sizeIn}
@@ -59,11 +60,6 @@ module _ (s table : List ℕ) (bytes : Bytes s) where
       (first-small t ts (term-small t at d ht) k (λ i m. value-small k d c ts hts i m) j l)))
 
 -- ── a table of the first k of them ──
-same-inside : (vs : List Term) (a b : Term) (n : ℕ) → n < length vs → getD vs n a ≡ getD vs n b
-same-inside [] a b n l = absurd (omega arith)
-same-inside (v ∷ vs) a b zero l = refl
-same-inside (v ∷ vs) a b (suc n) l = same-inside vs a b n (omega arith)
-
 module _ (s table : List ℕ) (k at : ℕ) (vs : List Term) (e : ℕ) (reads : many (term s table) k at ≡ got vs e) (sizes : List ℕ) (room : k ≤ length sizes)
     (told : (j : ℕ) → j < k → getD sizes j 1 ≡ symbols (getD vs j noTerm)) where
   many-values : length vs ≡ k
@@ -75,7 +71,7 @@ module _ (s table : List ℕ) (k at : ℕ) (vs : List Term) (e : ℕ) (reads : m
   pub sizes-are : (n : ℕ) → sizeIn (take k sizes) n ≡ symbols (valueAt vs n)
   sizes-are n =
       by-size n k
-      (λ l. getD-take k sizes n 1 l ∙ told n l ∙ ap symbols (same-inside vs noTerm (leaf variable n) n (omega (arith, many-values))))
+      (λ l. getD-take k sizes n 1 l ∙ told n l ∙ ap symbols (same-inside vs n noTerm (leaf variable n) (omega (arith, many-values))))
       (λ l. outside n l ∙ sym (ap symbols (List·getD-eq-default vs (leaf variable n) (omega (arith, many-values)))))
 
   pub sizes-small : Bytes s → length s ≤ 2 ^ 32 → (n : ℕ) → sizeIn (take k sizes) n ≤ 2 ^ 32

@@ -20,6 +20,9 @@ abbrev pub asFound : ℕ → Option ℕ
 asFound zero = none
 asFound (suc k) = some (suc k)
 
+pub found-is : (k : ℕ) → asFound (k + 1) ≡ some (k + 1)
+found-is k = rw add-one
+
 -- the nodes stand at their places
 pub record SomeNodes (protocol table rules : List ℕ) (nr : ℕ) (s places : List ℕ) (n : ℕ) : Type 0 where
   pub of : Protocol
@@ -46,9 +49,6 @@ module _ {A : Type 0} (ok : A → Bool) (d : A) (xs : List A) where
       let a : suc (j + 1) ≡ j + 1 + 1 = omega arith in
       let b : suc j ≡ j + 1 = omega arith in
       step j true l t h ∙ ap₂ (λ (k i : ℕ). firstBad (λ (k : ℕ) (x : A). ok x) k (drop i xs)) a b
-
-  found-is : (k : ℕ) → asFound (k + 1) ≡ some (k + 1)
-  found-is k = rw add-one
 
   pub rest-bad : (j : ℕ) → j < length xs → ok (getD xs j d) ≡ false → Rest j → asFound (j + 1) ≡ firstBad (λ (k : ℕ) (x : A). ok x) 1 xs
   rest-bad j l t h = found-is j ∙ sym (step j false l t h)
