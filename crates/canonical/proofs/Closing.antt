@@ -81,7 +81,8 @@ module _ (slots out : List ℕ) (o e : ℕ) where
       let other : (g : ℕ) → isProduct g ≡ true → tag ≢ g =
       λ g t q. let z : true ≡ false = sym t ∙ ap isProduct (sym q) ∙ p in clash (cc) in
       as-it-stands tag us (mk rules tag us)
-      (made-free (arity slots) (group slots (h .table)) tag us (record { no-one = other 3 refl; no-exp = d; no-inv = other 11 refl; no-mul = other 12 refl }) a b c) h
+      (made-free (arity slots) (group slots (h .table)) tag us (record { no-one = other 3 refl; no-exp = d; no-inv = other 11 refl; no-mul = other 12 refl }) a
+      b c) h
 
   -- ── inside a product and outside ──
   module _ (tag : ℕ) (inside : Bool) where

@@ -16,7 +16,7 @@ use Rattle.message.specs.Substitution.Laws.{sub-formed}
 use Rattle.message.specs.Canon.{canon}
 use Rattle.product.specs.Writing.{wrote-over}
 use Rattle.canonical.specs.Builtins.{group}
-use Rattle.canonical.specs.Loose.{isProduct, closed, made, mades}
+use Rattle.canonical.specs.Loose.{isProduct, closed, mades}
 use Rattle.canonical.specs.Loose.Laws.{sub-range, app-size, sound, sounds}
 use Rattle.canonical.specs.Contract.{Job, Ready, Out}
 use Rattle.canonical.specs.Inner.{Making, FirstIs, Built, Whole, Replaced}

@@ -121,7 +121,12 @@ module _ (slots s : List ℕ) (at e f : ℕ) (small : f < 128) where
         is = w .2;
         middle = p .middle;
         x-here = record { formed = k .formed .1 .0; range = k .range .1 .0; stands = p .one };
-        y-here = record { formed = k .formed .1 .1 .0; range = k .range .1 .1 .0; stands = subst (λ (l : List ℕ). Stands s (p .middle) l e) (append-nil (encode (w .1))) (p .two) };
+        y-here = record {
+          formed = k .formed .1 .1 .0;
+          range = k .range .1 .1 .0;
+          stands = subst (λ (l : List ℕ). Stands s (p .middle) l e)
+              (append-nil (encode (w .1))) (p .two);
+        };
       }
 
 -- ── is it the function g of two arguments? ──

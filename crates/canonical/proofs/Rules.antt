@@ -10,7 +10,7 @@ use lib.ListN.{length}
 use Rattle.octets.specs.Splice.Prefix.{Wrote, widen}
 use Rattle.term.specs.Term.{Term, app, Terms, nil, _&_, encode}
 use Rattle.term.specs.Arity.{arity}
-use Rattle.message.specs.Functions.{enc, dec, pair}
+use Rattle.message.specs.Functions.{enc, pair}
 use Rattle.message.specs.Table.{rules}
 use Rattle.message.specs.Canon.{mk}
 use Rattle.message.specs.Made.{made-dec, made-dec-stays}
@@ -159,7 +159,8 @@ module _ (slots out : List ℕ) (o e : ℕ) (isLeaf : Bool) (tag number next : �
         let s : p .key ≡ p .given =
         same-term slots (p .key) (p .given) (p .key-here .formed) (p .given-here .formed) (sym (S (p .key) (p .given) j e (p .key-here) (p .given-here))) in
         let q : mk rules 5 us ≡ p .message =
-        ap (mk rules 5) (p .is ∙ ap (λ (z : Term). enc (p .message) (p .key) & (z & nil)) (sym s)) ∙ made-dec (arity slots) (group slots (b .table)) (p .message) (p .key) in
+        ap (mk rules 5) (p .is ∙ ap (λ (z : Term). enc (p .message) (p .key) & (z & nil)) (sym s)) ∙ made-dec (arity slots) (group slots (b .table))
+        (p .message) (p .key) in
         subst (λ (t : Term). Wrote e out o out′ r (encode t)) (sym q) (taken (p .message) (p .before) (omega arith) (p .message-here) m)
 
     pub dec-stays : SameTerms slots out i j false → Replaced slots out o e 5 (mk rules 5) out e

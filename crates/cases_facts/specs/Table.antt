@@ -7,7 +7,6 @@ use borrow.Author.Count.{below-more}
 use lib.ListN.{length, getD, set, replicate, length-set, length-replicate}
 use lib.Seq.{getD-set-same, getD-set-other}
 use Rattle.steps.specs.Nodes.{node}
-use Rattle.steps.specs.declared.ruling.Judged.the-variants as jd
 use Rattle.facts.specs.declared.nodes.Place.{Place}
 use Rattle.facts.specs.Calls.{HasFact, HasOne}
 use Rattle.cases_facts.specs.declared.table.Facts.{Facts}

@@ -59,7 +59,8 @@ module _ (slots s S E : List ℕ) (P : List ℤ) (n at k : ℕ) (minus : Bool) w
     module _ (S₁ E₁ : List ℕ) (P₁ : List ℤ) (f : Filled) (lS : length S₁ ≡ length S) (lE : length E₁ ≡ length E) (lP : length P₁ ≡ length P)
         (D : (l : Exps) (ts : Terms) (C : Collect slots s S E P n at k l ts)
         → Collected s S₁ E₁ P₁ (at + length (encode (head l ts C .t))) f (pour minus (head l ts C .t) l)) where
-      others : (l : Exps) (ts : Terms) (C : Collect slots s S E P n at k l ts) → Collect slots s S₁ E₁ P₁ (f .n) (f .at) (k - 1) (pour minus (head l ts C .t) l) (head l ts C .us)
+      others : (l : Exps) (ts : Terms) (C : Collect slots s S E P n at k l ts) → Collect slots s S₁ E₁ P₁ (f .n) (f .at) (k - 1)
+          (pour minus (head l ts C .t) l) (head l ts C .us)
       others l ts C =
           let X = head l ts C in
           let M = D l ts C in
@@ -73,7 +74,8 @@ module _ (slots s S E : List ℕ) (P : List ℤ) (n at k : ℕ) (minus : Bool) w
             short = C .short;
           }
 
-      pub others-asks : (t : ℕ) → length s - at ≡ t → (J : Collects slots s S E P n at k) → (length s - f .at < t) × Collects slots s S₁ E₁ P₁ (f .n) (f .at) (k - 1)
+      pub others-asks : (t : ℕ) → length s - at ≡ t → (J : Collects slots s S E P n at k) → (length s - f .at < t) × Collects slots s S₁ E₁ P₁ (f .n) (f .at)
+          (k - 1)
       others-asks t μ J =
           let X = head (J .0) (J .1) (J .2) in
           (omega (arith, D (J .0) (J .1) (J .2) .next, one-after (X .one), one-within (X .one)), (_, _, others (J .0) (J .1) (J .2)))

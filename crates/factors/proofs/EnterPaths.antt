@@ -124,7 +124,8 @@ module _ (key s S E : List ℕ) (P : List ℤ) (n a : ℕ) where
             let f = enter-few (l, t, X) in
             let q : 0 + size l ≡ n = omega (arith, X .table .many) in
             record {
-              rows = rows-same s S E P key n i (sign minus) t (X .bytes) (F .before) here _ row-back (omega (arith, F .end h)) 0 l (omega arith) (F .end h) q (X .table .rows);
+              rows = rows-same s S E P key n i (sign minus) t (X .bytes) (F .before) here _ row-back (omega (arith, F .end h)) 0 l (omega arith) (F .end h) q
+                  (X .table .rows);
               many = size-same s S E P key n i (sign minus) t (X .bytes) (F .before) here 0 l (omega arith) (F .end h) q (X .table .rows) ∙ X .table .many;
             }
 
@@ -142,8 +143,10 @@ module _ (key s S E : List ℕ) (P : List ℤ) (n a : ℕ) where
           let OP = opened (pos 0) P P₁ i n (sign minus) MP (omega (arith, lP, F .within)) in
           let q : 0 + size l ≡ n = omega (arith, X .table .many) in
           record {
-            rows = rw new-back (rows-in s S E P key n i (sign minus) t (X .bytes) (F .before) here a (a + length key) (X .there) _ _ _ OS OE OP 0 l (omega arith) (F .within) q (X .table .rows));
-            many = size-in s S E P key n i (sign minus) t (X .bytes) (F .before) here 0 l (omega arith) (F .within) q (X .table .rows) ∙ ap (λ j. j + 1) (X .table .many);
+            rows = rw new-back (rows-in s S E P key n i (sign minus) t (X .bytes) (F .before) here a (a + length key) (X .there) _ _ _ OS OE OP 0 l
+                (omega arith) (F .within) q (X .table .rows));
+            many = size-in s S E P key n i (sign minus) t (X .bytes) (F .before) here 0 l (omega arith) (F .within) q (X .table .rows) ∙ ap (λ j. j + 1)
+                (X .table .many);
           }
 
 -- ── the term at a place ──

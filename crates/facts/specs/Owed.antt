@@ -76,7 +76,8 @@ module _ (protocol table rules : List ℕ) (nr : ℕ) (s : List ℕ) where
   }
 
   -- its symbol is in the table of arities, which has the number of its arguments
-  module _ (ars : List ℕ) (known : ArityTable protocol table rules nr ars) (bytes : Bytes s) (a : Place) (p : Protocol) (index : IndexOf protocol table rules nr p)
+  module _ (ars : List ℕ) (known : ArityTable protocol table rules nr ars) (bytes : Bytes s) (a : Place) (p : Protocol)
+      (index : IndexOf protocol table rules nr p)
       (x : Node) (f : WholeFact p s a x) (y : ℕ) (is : y ≡ factAt p (a .part) (a .number) x .symbol) where
     formed : FactFormed p (factAt p (a .part) (a .number) x)
     formed = fact-of-formed p s (index-within index) bytes a want.All x f

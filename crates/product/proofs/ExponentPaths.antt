@@ -50,7 +50,13 @@ module _ (slots out : List ℕ) (o e : ℕ) where
     many = c;
     few = omega (arith, R .few);
     short = R .short;
-    fits = omega (arith, power-short (arity slots) (R .group) x y (R .formed .1 .0) (R .formed .1 .1 .0), ap (λ (u : Term). length (encode u)) s, R .stands .ends);
+    fits = omega (
+      arith,
+      power-short (arity slots) (R .group) x y (R .formed .1 .0) (R .formed .1 .1 .0),
+      ap (λ (u : Term). length (encode u)) s,
+      R .stands
+          .ends,
+    );
     small = omega (arith, R .small, R .stands .ends);
   }
 

@@ -2,7 +2,8 @@
 use mathlib.Core.Path.{_≡_, refl, sym, _∙_, ap, subst}
 use mathlib.Core.Logic.{⊎-elim, _↔_}
 use mathlib.Core.Bool.{true, false}
-use mathlib.Core.List.{List, [], _∷_, _++_, append-assoc, List·Memᴰ·head, List·Memᴰ·tail, List·Memᴰ·not-nil, List·Memᴰ·cases-cons, List·Memᴰ·append-cases, Memᴰ·append-left, Memᴰ·append-right}
+use mathlib.Core.List.{List, [], _∷_, _++_, append-assoc, List·Memᴰ·head}
+use mathlib.Core.List.{List·Memᴰ·tail, List·Memᴰ·not-nil, List·Memᴰ·cases-cons, List·Memᴰ·append-cases, Memᴰ·append-left, Memᴰ·append-right}
 use mathlib.Core.Option.{Option, none, some, Option·some-injective}
 use Prim.Native.Nat.{ℕ, suc, _+_, _≤_, _<_}
 use native.Mathlib.Omega.{arith}
@@ -48,7 +49,8 @@ module _ (F : Facts) where
       let h = lacks-tracks F (x .premises) free s r l in
       let (es, e) = sources-edges F k 1 (x .premises) free h in
       rw (e, a, l)
-      (agree-add k es (drawFrom F (suc k) (freeAfter F k free x) xs) (runFrom F (suc k) (after F s x) xs) (follow (suc k) xs (freeAfter F k free x) (after F s x) (tracks-next F k x free s r h) b)))
+      (agree-add k es (drawFrom F (suc k) (freeAfter F k free x) xs) (runFrom F (suc k) (after F s x) xs)
+      (follow (suc k) xs (freeAfter F k free x) (after F s x) (tracks-next F k x free s r h) b)))
 
   -- Where no name is made twice, the writer and the machine agree.
   pub from-agrees : (nodes : List (Node Fact)) → firstNameTwice nodes ≡ none → Agree (drawFrom F 1 [] nodes) (run F nodes)
@@ -78,7 +80,8 @@ module _ (F : Facts) where
     takeAll-mem [] l t m = m
     takeAll-mem (p ∷ ps) l t m = takeOne-mem p l t (takeAll-mem ps (takeOne F p l) t m)
 
-    feed-one : (k i : ℕ) (p : Fact) (ps : List Fact) (free left : List (Placed Fact)) (t : Placed Fact) (fs : List Edge) → Conclusions k free → Premises (placed k i (p ∷ ps)) →
+    feed-one : (k i : ℕ) (p : Fact) (ps : List Fact) (free left : List (Placed Fact)) (t : Placed Fact) (fs : List Edge) → Conclusions k free → Premises
+        (placed k i (p ∷ ps)) →
         firstBy (λ t. same p (t .fact)) free ≡ some t → Feeds (takeOne F p free) (placed k (suc i) ps) fs left →
         Feeds free (placed k i (p ∷ ps)) (record { source = t .place; target = record { node = k; index = i } } ∷ fs) left
     feed-one k i p ps free left t fs c w a ih = record {
@@ -123,7 +126,8 @@ module _ (F : Facts) where
             true-false (linear p) (same-linear p (t .fact) known ∙ (ap linear (sym same-fact) ∙ lf)) lp) in
             omega (arith, rw lp at l, ap bit off)
 
-    edges-feed : (k i : ℕ) (ps : List Fact) (free : List (Placed Fact)) (es : List Edge) → Conclusions k free → Premises (placed k i ps) → edgesInto F k i free ps ≡ some es →
+    edges-feed : (k i : ℕ) (ps : List Fact) (free : List (Placed Fact)) (es : List Edge) → Conclusions k free → Premises (placed k i ps) → edgesInto F k i free
+        ps ≡ some es →
         Feeds free (placed k i ps) es (takeAll F ps free)
     edges-feed k i [] free es c w h =
         subst (λ l. Feeds free [] l free) (Option·some-injective [] es h) (record {
@@ -147,7 +151,14 @@ module _ (F : Facts) where
         Feeds (free ++ more) (ws₁ ++ ws₂) (es₁ ++ es₂) []
     feed-both free left more ws₁ ws₂ es₁ es₂ g h = record {
       each = λ e m. ⊎-elim (λ n. g .each e n) (λ n. h .each e n) (List·Memᴰ·append-cases es₁ m);
-      one-into = λ a. omega (arith, g .one-into a, h .one-into a, count-append (λ e. samePlace a (e .target)) es₁ es₂, count-append (λ t. samePlace a (t .place)) ws₁ ws₂);
+      one-into = λ a. omega (
+        arith,
+        g .one-into a,
+        h .one-into a,
+        count-append (λ e. samePlace a (e .target)) es₁ es₂,
+        count-append
+            (λ t. samePlace a (t .place)) ws₁ ws₂,
+      );
       one-out = λ a f c lf. omega (
         arith,
         g .one-out a f c lf,
@@ -187,7 +198,8 @@ module _ (F : Facts) where
     -- What is drawn is accepted.
     pub drawn-accepted : (es : List Edge) → NamesOnce nodes → drawFrom F 1 [] nodes ≡ passed es → Accepted F nodes es
     drawn-accepted es n h =
-        let g = draw-feeds 1 nodes [] es (λ t m. absurd (List·Memᴰ·not-nil m)) (λ t m. placed-stands (λ x. x .premises) nodes t m) (λ t m. placed-stands (λ x. x .conclusions) nodes t m) h in
+        let g = draw-feeds 1 nodes [] es (λ t m. absurd (List·Memᴰ·not-nil m)) (λ t m. placed-stands (λ x. x .premises) nodes t m)
+        (λ t m. placed-stands (λ x. x .conclusions) nodes t m) h in
         record {
           joins = g .each;
           one-into = λ a f h.

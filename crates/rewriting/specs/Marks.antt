@@ -14,7 +14,8 @@ use Rattle.rewriting.specs.Graph.{Node, Place, samePlace}
 use Rattle.rewriting.specs.Table.{orRefuse}
 use Rattle.rewriting.specs.Places.{Placed, placed, conclusionsFrom, countAt}
 use Rattle.rewriting.specs.Places.Laws.{place-eq, place-self, placed-node, placedAll-once}
-use Rattle.rewriting.specs.Writer.{firstNameTwice, addEdge, addNode, takeOne, takeAll, edgesInto, freeAfter, drawFrom, draw, sourceOf, markOne, markAll, markedEdges, markedFrom, markedDraw}
+use Rattle.rewriting.specs.Writer.{firstNameTwice, addEdge, addNode, takeOne, takeAll, edgesInto, freeAfter, drawFrom}
+use Rattle.rewriting.specs.Writer.{draw, sourceOf, markOne, markAll, markedEdges, markedFrom, markedDraw}
 
 module _ (F : Facts) where
   open Facts F using (Fact, same, linear)
@@ -81,7 +82,8 @@ module _ (F : Facts) where
         (marked-edges k (suc i) (markOne F used all p) ps ∙ ap (λ l. edgesInto F k (suc i) l ps) (mark-take used p))
 
     -- Only places of the list are marked.
-    marks-low : (k : ℕ) (used : Place → Bool) (ps : List Fact) → ((a : Place) → used a ≡ true → a .node < k) → ((t : Placed Fact) → t ∈ all → t .place .node < k) →
+    marks-low : (k : ℕ) (used : Place → Bool) (ps : List Fact) → ((a : Place) → used a ≡ true → a .node < k) →
+        ((t : Placed Fact) → t ∈ all → t .place .node < k) →
         (a : Place) → markAll F used all ps a ≡ true → a .node < k
     marks-low k used [] low in-all a h = low a h
     marks-low k used (p ∷ ps) low in-all a h = marks-low k (markOne F used all p) ps one in-all a h
@@ -109,7 +111,8 @@ module _ (F : Facts) where
   marked-from k [] used all once low in-all = refl
   marked-from k (x ∷ xs) used all once low in-all =
       ap₂ (addNode k) (marked-edges all once′ k 1 used (x .premises))
-      (marked-from (suc k) xs (markAll F used all (x .premises)) (all ++ placed k 1 (x .conclusions)) (λ a. rw append-assoc (once a)) (λ a h. omega (arith, low′ a h)) in-all′ ∙ ap (λ l. drawFrom F (suc k) l xs) free)
+      (marked-from (suc k) xs (markAll F used all (x .premises)) (all ++ placed k 1 (x .conclusions)) (λ a. rw append-assoc (once a))
+      (λ a h. omega (arith, low′ a h)) in-all′ ∙ ap (λ l. drawFrom F (suc k) l xs) free)
     where
       once′ : (a : Place) → countAt a all ≤ 1
       once′ a = omega (arith, once a, count-append (λ u. samePlace a (u .place)) all (conclusionsFrom k (x ∷ xs)))
@@ -132,4 +135,5 @@ module _ (F : Facts) where
   pub marked-draws : (nodes : List (Node Fact)) → markedDraw F nodes ≡ draw F nodes
   marked-draws nodes =
       ap (orRefuse 9 (firstNameTwice nodes))
-      (marked-from 1 nodes (λ a. false) [] (λ a. placedAll-once (λ x. x .conclusions) a 1 nodes) (λ a h. true-false true refl (sym h)) (λ t m. absurd (List·Memᴰ·not-nil m)))
+      (marked-from 1 nodes (λ a. false) [] (λ a. placedAll-once (λ x. x .conclusions) a 1 nodes) (λ a h. true-false true refl (sym h))
+      (λ t m. absurd (List·Memᴰ·not-nil m)))

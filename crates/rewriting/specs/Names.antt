@@ -6,7 +6,8 @@ use mathlib.Core.Option.{Option, none, some, Option·some-ne-none}
 use Prim.Native.Nat.{ℕ, suc, _≤_}
 use native.Mathlib.Omega.{arith}
 use lib.Dec.{eqb}
-use Rattle.rewriting.specs.Tests.{by-bool, by-option, true-false, or-split, eqb-self, eqb-eq, leb-le, leb-gt, le-leb, gt-leb, bit-le, bit-true, at-most-one}
+use Rattle.rewriting.specs.Tests.{by-bool, by-option, true-false, or-split, eqb-self, eqb-eq, leb-le}
+use Rattle.rewriting.specs.Tests.{leb-gt, le-leb, gt-leb, bit-le, bit-true, at-most-one}
 use Rattle.rewriting.specs.Lists.{bit, countBy, nth, before, leaves}
 use Rattle.rewriting.specs.Lists.Laws.{count-append, count-pos, count-mem}
 use Rattle.rewriting.specs.Facts.{Facts}
@@ -25,7 +26,8 @@ fresh-name made rest none h = refl
 fresh-name made rest (some m) h =
     gt-leb 1 (countBy (eqb m) made) (omega (arith, h m, count-append (eqb m) made (m ∷ rest), ap bit (eqb-self m)))
 
-once-more : (made : List ℕ) (o : Option ℕ) → ((m : ℕ) → countBy (eqb m) made ≤ 1) → madeAlready made o ≡ false → (m : ℕ) → countBy (eqb m) (made ++ nameOf o) ≤ 1
+once-more : (made : List ℕ) (o : Option ℕ) → ((m : ℕ) → countBy (eqb m) made ≤ 1) → madeAlready made o ≡ false → (m : ℕ) → countBy (eqb m) (made ++ nameOf o) ≤
+    1
 once-more made none h e m = omega (arith, h m, count-append (eqb m) made [])
 once-more made (some n) h e m =
     omega (
@@ -43,7 +45,8 @@ module _ {Fact : Type 0} where
   twice-step k made x xs h =
       by-bool (madeAlready made (x .makes)) (λ t. absurd (Option·some-ne-none k (rw t at h))) (λ f. (f, rw f at h))
 
-  twice-once : (k : ℕ) (xs : List (Node Fact)) (made : List ℕ) → ((m : ℕ) → countBy (eqb m) made ≤ 1) → nameTwiceFrom k made xs ≡ none → (m : ℕ) → countBy (eqb m) (made ++ namesOf xs) ≤ 1
+  twice-once : (k : ℕ) (xs : List (Node Fact)) (made : List ℕ) → ((m : ℕ) → countBy (eqb m) made ≤ 1) → nameTwiceFrom k made xs ≡ none → (m : ℕ) → countBy
+      (eqb m) (made ++ namesOf xs) ≤ 1
   twice-once k [] made h e m = omega (arith, h m, count-append (eqb m) made [])
   twice-once k (x ∷ xs) made h e m =
       let (a, b) = twice-step k made x xs e in
@@ -74,7 +77,8 @@ module _ {Fact : Type 0} where
   names-left made (x ∷ xs) = names-left (addName made x) xs ∙ append-assoc made (nameOf (x .makes)) (namesOf xs)
 
   -- A name is made already where an earlier node makes it.
-  pub already-earlier : (nodes : List (Node Fact)) (k : ℕ) (x : Node Fact) → nth nodes k ≡ some x → madeAlready (namesOf (before k nodes)) (x .makes) ≡ true → NameTwice nodes k
+  pub already-earlier : (nodes : List (Node Fact)) (k : ℕ) (x : Node Fact) → nth nodes k ≡ some x → madeAlready (namesOf (before k nodes)) (x .makes) ≡ true →
+      NameTwice nodes k
   already-earlier nodes k x s t =
       let (m, e, c) = already-some (namesOf (before k nodes)) (x .makes) t in
       let (n, i, q) = count-pos (eqb m) (namesOf (before k nodes)) c in
@@ -82,7 +86,8 @@ module _ {Fact : Type 0} where
 
   earlier-already : (nodes : List (Node Fact)) (k : ℕ) (h : NameTwice nodes k) → madeAlready (namesOf (before k nodes)) (h .node .makes) ≡ true
   earlier-already nodes k h =
-      rw (h .made) (le-leb 1 (countBy (eqb (h .name)) (namesOf (before k nodes))) (count-mem (eqb (h .name)) (namesOf (before k nodes)) (h .name) (h .earlier) (eqb-self (h .name))))
+      rw (h .made) (le-leb 1 (countBy (eqb (h .name)) (namesOf (before k nodes)))
+      (count-mem (eqb (h .name)) (namesOf (before k nodes)) (h .name) (h .earlier) (eqb-self (h .name))))
 
   pub first-twice : (nodes : List (Node Fact)) → Finds (NameTwice nodes) (firstNameTwice nodes)
   first-twice nodes =

@@ -128,7 +128,13 @@ module _ (F : Facts) (nodes : List (Node (F .Fact))) (edges : List Edge) where
 
   abbrev pub conclusionsPass : Pass
   conclusionsPass = restated (partPass (λ x. x .conclusions) (oneOut F edges) nodes 13) (UsedTwice F nodes edges) fails-used
-      (λ k h. record { index = h .index; fact = h .fact; stands = h .stands; is-false = rw (h .is-linear) (gt-leb (outOf (record { node = k; index = h .index }) edges) 1 (h .twice)) })
+      (λ k h. record {
+        index = h .index;
+        fact = h .fact;
+        stands = h .stands;
+        is-false = rw (h .is-linear)
+            (gt-leb (outOf (record { node = k; index = h .index }) edges) 1 (h .twice));
+      })
 
   -- The passes of a graph, in the table's order.
   abbrev pub graphPasses : List Pass

@@ -16,7 +16,8 @@ use Rattle.rewriting.specs.Graph.{Node, Place, Edge, samePlace, nameOf, 
 use Rattle.rewriting.specs.Machine.{State, start, ran, madeAlready, after, runFrom, IsRun}
 use Rattle.rewriting.specs.Machine.Laws.{enough-lacks, bag-after, set-after}
 use Rattle.rewriting.specs.Places.{Placed, placed, premisesFrom, conclusionsFrom, countAt, countPlaced}
-use Rattle.rewriting.specs.Places.Laws.{place-eq, place-self, placedAll-mem, placed-stands, stands-placed, placedAll-once, once-apart, placed-node, placed-count}
+use Rattle.rewriting.specs.Places.Laws.{place-eq, place-self, placedAll-mem, placed-stands, stands-placed}
+use Rattle.rewriting.specs.Places.Laws.{placedAll-once, once-apart, placed-node, placed-count}
 use Rattle.rewriting.specs.Names.{fresh-name}
 
 module _ (F : Facts) (nodes : List (Node (F .Fact))) (edges : List Edge) (acc : Accepted F nodes edges) where

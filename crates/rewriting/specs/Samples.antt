@@ -154,7 +154,8 @@ no-nodes-edge = refl
 
 -- Other rows in front of a graph's: the answer is ruled by all of them, and a graph that passes is accepted.
 in-front : (F : Facts) (nodes : List (Node (F .Fact))) (edges : List Edge) (work n : ℕ) →
-    Ruled (fixedRow 1 0 (work < 65536) ∷ graphRows F nodes edges) (λ (m : ℕ). (m ≡ n) × Accepted F nodes edges) (rulingThen (lessPass 1 0 work 65536 ∷ []) (checkGraph F nodes edges n))
+    Ruled (fixedRow 1 0 (work < 65536) ∷ graphRows F nodes edges) (λ (m : ℕ). (m ≡ n) × Accepted F nodes edges)
+    (rulingThen (lessPass 1 0 work 65536 ∷ []) (checkGraph F nodes edges n))
 in-front F nodes edges work n =
     ruled-then (λ (m : ℕ). (m ≡ n) × Accepted F nodes edges) (lessPass 1 0 work 65536 ∷ []) (graphRows F nodes edges) (checkGraph F nodes edges n)
     (λ h. check-table F nodes edges n (λ (m : ℕ). (m ≡ n) × Accepted F nodes edges) (λ acc. (refl, acc)))
@@ -164,7 +165,8 @@ module _ (F : Facts) (nodes : List (Node (F .Fact))) (size : List Edge → ℕ) 
   abbrev written : Ruling ℕ
   written = andThen (draw F nodes) (λ es. rulingOf (needPass 15 room (size es) ∷ []) (size es))
 
-  written-ruled : Ruled (drawRows F nodes ++ rowsAfter (draw F nodes) (λ es. fixedRow 15 (size es) (room < size es) ∷ [])) (λ n. (es : List Edge) × Accepted F nodes es × (n ≡ size es)) written
+  written-ruled : Ruled (drawRows F nodes ++ rowsAfter (draw F nodes) (λ es. fixedRow 15 (size es) (room < size es) ∷ []))
+      (λ n. (es : List Edge) × Accepted F nodes es × (n ≡ size es)) written
   written-ruled =
       ruled-and-then (Accepted F nodes) (λ n. (es : List Edge) × Accepted F nodes es × (n ≡ size es)) (drawRows F nodes) (draw F nodes)
       (λ es. fixedRow 15 (size es) (room < size es) ∷ []) (λ es. rulingOf (needPass 15 room (size es) ∷ []) (size es)) (draw-table F nodes)

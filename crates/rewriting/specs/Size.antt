@@ -35,7 +35,8 @@ accepted-size F nodes edges acc =
       count-all edges,
       count-all ws,
       premises-length 1 nodes,
-      covers key (λ w. true) edges ws (once-apart (λ e. e .target) ws (λ a. placedAll-once (λ x. x .premises) a 1 nodes)) (λ w m t. omega (arith, one w m)) (λ e. true) (λ w m t e u. refl),
+      covers key (λ w. true) edges ws (once-apart (λ e. e .target) ws (λ a. placedAll-once (λ x. x .premises) a 1 nodes)) (λ w m t. omega (arith, one w m))
+          (λ e. true) (λ w m t e u. refl),
       packs key (λ w. true) edges ws (λ w m t. omega (arith, one w m)) (λ e. true) (λ e m t.
           let j = acc .joins e m in
           let w : Placed (F .Fact) = record { place = e .target; fact = j .to } in

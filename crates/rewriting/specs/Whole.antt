@@ -49,15 +49,18 @@ module _ (F : Facts) where
           (λ l.
           let b = g .is-bad in
           let a : madeAlready (left k .made) (g .which .makes) ≡ true = rw l at b in
-          absurd (once k (already-earlier nodes k (g .which) (g .stands) (ap (λ m. madeAlready m (g .which .makes)) (sym (made-left F start (before k nodes))) ∙ a))))
+          absurd (once k (already-earlier nodes k (g .which) (g .stands) (ap (λ m. madeAlready m (g .which .makes)) (sym (made-left F start (before k nodes)))
+          ∙ a))))
 
       fro : (k : ℕ) → PremisesMissing F nodes k → Hit bad (after F) start nodes k
       fro k h =
-          let l : lacks F (left k) (h .node .premises) ≡ true = ap (λ s. lacks F s (h .node .premises)) (ran-left F 1 start (before k nodes) (h .state) (h .reached)) ∙ h .missing in
+          let l : lacks F (left k) (h .node .premises) ≡ true = ap (λ s. lacks F s (h .node .premises))
+          (ran-left F 1 start (before k nodes) (h .state) (h .reached)) ∙ h .missing in
           record { which = h .node; stands = h .stands; is-bad = ap (λ b. b || madeAlready (left k .made) (h .node .makes)) l }
 
   -- Behind the pass over the names, the writer refuses with 14 alone.
-  add-number : (k : ℕ) (o : Option (List Edge)) (d : Ruling (List Edge)) → ((n j : ℕ) → d ≡ refused n j → n ≡ 14) → (n j : ℕ) → addNode k o d ≡ refused n j → n ≡ 14
+  add-number : (k : ℕ) (o : Option (List Edge)) (d : Ruling (List Edge)) → ((n j : ℕ) → d ≡ refused n j → n ≡ 14) → (n j : ℕ) → addNode k o d ≡ refused n j → n
+      ≡ 14
   add-number k none d h n j e = cc
   add-number k (some es) (passed fs) h n j e = absurd (refused-passed n j (es ++ fs) (sym e))
   add-number k (some es) (refused m i) h n j e = h n j e
@@ -76,7 +79,10 @@ module _ (F : Facts) where
     where
       premises : ((k : ℕ) → NameTwice nodes k → ⊥) → (d : Ruling (List Edge)) → drawFrom F 1 [] nodes ≡ d → Agree F d (run F nodes) →
           Ruled (row 14 (PremisesMissing F nodes) ∷ []) (Accepted F nodes) d
-      premises n (passed es) e (s, r) = let f = stops nodes n in inl ((rw r at f), (es, drawn-accepted F nodes es (names-once nodes (absent-none nodes n)) e, refl))
+      premises n (passed es) e (s, r) = let f = stops nodes n in inl (
+        (rw r at f),
+        (es, drawn-accepted F nodes es (names-once nodes (absent-none nodes n)) e, refl),
+      )
       premises n (refused m k) e a =
           let f = stops nodes n in
           inr (k, (rw a at f), ap {B = Ruling (List Edge)} (λ m. refused m k) (draw-number 1 nodes [] m k e))

@@ -32,82 +32,141 @@ make-below t = and 5 make-kinds.ps (falls 5 make-kinds.ps _<_ μ-make t) make.Pr
 
 -- what the calls ask and promise
 abbrev R : ℕ → make-lts.Claims
-R t = (first-reads.Asked, first-reads.Learnt, put-leaf-reads.Asked, put-leaf-reads.Learnt, make-below t, make.Post, put-number-reads.Asked, put-number-reads.Learnt, is-product-reads.Asked, is-product-reads.Learnt, close-reads.Asked, close-reads.Learnt)
+R t = (
+  first-reads.Asked,
+  first-reads.Learnt,
+  put-leaf-reads.Asked,
+  put-leaf-reads.Learnt,
+  make-below t,
+  make.Post,
+  put-number-reads.Asked,
+  put-number-reads.Learnt,
+  is-product-reads.Asked,
+  is-product-reads.Learnt,
+  close-reads.Asked,
+  close-reads.Learnt,
+)
 
--- src/lib.rt:234:9
 make-returns : (t : ℕ) → make-lts.Need-returns (R t) (make-at t) make.Post
 make-returns t c =
     none-done _ _ _ _ _ _ _ _ _ (c .if1 .taken)
 
--- src/lib.rt:236:9
 make-first-requires : (t : ℕ) → make-lts.Need-first-requires (R t) (make-at t) make.Post
 make-first-requires t c κs =
     tt
 
--- src/lib.rt:239:13
 make-put-leaf-requires : (t : ℕ) → make-lts.Need-put-leaf-requires (R t) (make-at t) make.Post
 make-put-leaf-requires t c κs =
-    leaf-asks _ _ _ _ _ _ (now (c .before .before .before .before .before .before .before .before .before .args .out)) _ _ _ _ _ (c .before .before .first .ensures) (c .before .before .before .if1 .left) (c .before .if2 .taken) (c .before .before .before .before .before .before .before .before .before .pre .1)
+    let c3 = c .before .before .before in
+    let c9 = c3 .before .before .before .before .before .before in
+    leaf-asks _ _ _ _ _ _ (now (c9 .args .out)) _ _ _ _ _ (c .before .before .first .ensures) (c3 .if1 .left) (c .before .if2 .taken) (c9 .pre .1)
 
--- src/lib.rt:240:42
 make-sub-make : (t : ℕ) → make-lts.Need-sub-make (R t) (make-at t) make.Post
 make-sub-make t c =
     search needs
 
--- src/lib.rt:240:9
 make-make-requires : (t : ℕ) → make-lts.Need-make-requires (R t) (make-at t) make.Post
 make-make-requires t c κs =
-    let a = ahead _ _ _ _ _ _ _ _ _ _ _ _ (c .before .before .before .before .before .before .first .ensures) (c .before .before .before .before .before .before .before .if1 .left) (c .before .before .before .before .before .before .before .before .before .before .before .before .before .pre .1) in (omega (arith, a .0, a .1, c .before .before .before .before .before .before .before .before .before .before .before .before .before .pre .0), leaf-next _ _ _ _ _ _ (now (c .before .before .before .before .before .before .before .before .before .before .before .before .before .args .out)) _ _ _ _ _ (c .before .before .before .before .before .before .first .ensures) (c .before .before .before .before .before .before .before .if1 .left) (c .before .before .before .before .before .if2 .taken) _ _ (c .before .before .before .put-leaf .kept .0) (c .before .before .before .put-leaf .ensures) (c .before .before .before .before .before .before .before .before .before .before .before .before .before .pre .1))
+    let c3 = c .before .before .before in
+    let c5 = c3 .before .before in
+    let c6 = c5 .before in
+    let c7 = c6 .before in
+    let c13 = c7 .before .before .before .before .before .before in
+    let a = ahead _ _ _ _ _ _ _ _ _ _ _ _ (c6 .first .ensures) (c7 .if1 .left) (c13 .pre .1) in (
+      omega (arith, a .0, a .1, c13 .pre .0),
+      leaf-next _ _ _ _ _ _ (now (c13 .args .out)) _ _ _ _ _ (c6 .first .ensures) (c7 .if1 .left) (c5 .if2 .taken) _
+          _ (c3 .put-leaf .kept .0) (c3 .put-leaf .ensures) (c13 .pre .1),
+    )
 
--- src/lib.rt:240:9
 make-same-length : (t : ℕ) → make-lts.Need-same-length (R t) (make-at t) make.Post
 make-same-length t c =
     search needs
 
--- src/lib.rt:240:9
 make-returns-2 : (t : ℕ) → make-lts.Need-returns-2 (R t) (make-at t) make.Post
 make-returns-2 t c =
-    leaf-done _ _ _ _ _ _ (now (c .before .before .before .before .before .before .before .before .before .before .before .before .before .before .before .before .args .out)) _ _ _ _ _ (c .before .before .before .before .before .before .before .before .before .first .ensures) (c .before .before .before .before .before .before .before .before .before .before .if1 .left) (c .before .before .before .before .before .before .before .before .if2 .taken) _ _ (c .before .before .before .before .before .before .put-leaf .kept .0) (c .before .before .before .before .before .before .put-leaf .ensures) _ _ _ _ (c .before .before .make .ensures)
+    let c6 = c .before .before .before .before .before .before in
+    let c8 = c6 .before .before in
+    let c9 = c8 .before in
+    let c10 = c9 .before in
+    let c16 = c10 .before .before .before .before .before .before in
+    leaf-done _ _ _ _ _ _ (now (c16 .args .out)) _ _ _ _ _ (c9 .first .ensures) (c10 .if1 .left) (c8 .if2 .taken) _ _ (c6 .put-leaf .kept .0)
+    (c6 .put-leaf .ensures) _ _ _ _ (c .before .before .make .ensures)
 
--- src/lib.rt:242:9
 make-put-number-requires : (t : ℕ) → make-lts.Need-put-number-requires (R t) (make-at t) make.Post
 make-put-number-requires t c κs =
-    tag-asks _ _ _ _ _ _ (now (c .before .before .before .before .before .before .before .before .before .args .out)) _ _ _ _ _ (c .before .before .first .ensures) (c .before .before .before .if1 .left) (c .before .if2 .left) (c .before .before .before .before .before .before .before .before .before .pre .1)
+    let c3 = c .before .before .before in
+    let c9 = c3 .before .before .before .before .before .before in
+    tag-asks _ _ _ _ _ _ (now (c9 .args .out)) _ _ _ _ _ (c .before .before .first .ensures) (c3 .if1 .left) (c .before .if2 .left) (c9 .pre .1)
 
--- src/lib.rt:243:9
 make-is-product-requires : (t : ℕ) → make-lts.Need-is-product-requires (R t) (make-at t) make.Post
 make-is-product-requires t c κs =
     tt
 
--- src/lib.rt:244:9
 make-make-requires-2 : (t : ℕ) → make-lts.Need-make-requires-2 (R t) (make-at t) make.Post
 make-make-requires-2 t c κs =
-    let a = ahead _ _ _ _ _ _ _ _ _ _ _ _ (c .before .before .before .before .before .before .before .first .ensures) (c .before .before .before .before .before .before .before .before .if1 .left) (c .before .before .before .before .before .before .before .before .before .before .before .before .before .before .pre .1) in (omega (arith, a .0, a .1, c .before .before .before .before .before .before .before .before .before .before .before .before .before .before .pre .0), args-asks _ _ _ _ _ _ (now (c .before .before .before .before .before .before .before .before .before .before .before .before .before .before .args .out)) _ _ _ _ _ (c .before .before .before .before .before .before .before .first .ensures) (c .before .before .before .before .before .before .before .before .if1 .left) (c .before .before .before .before .before .before .if2 .left) _ _ (c .before .before .before .before .put-number .kept .0) (c .before .before .before .before .put-number .ensures) (c .before .before .before .before .before .before .before .before .before .before .before .before .before .before .pre .1))
+    let c4 = c .before .before .before .before in
+    let c6 = c4 .before .before in
+    let c7 = c6 .before in
+    let c8 = c7 .before in
+    let c14 = c8 .before .before .before .before .before .before in
+    let a = ahead _ _ _ _ _ _ _ _ _ _ _ _ (c7 .first .ensures) (c8 .if1 .left) (c14 .pre .1) in (
+      omega (arith, a .0, a .1, c14 .pre .0),
+      args-asks _ _ _ _ _ _ (now (c14 .args .out)) _ _ _ _ _ (c7 .first .ensures) (c8 .if1 .left) (c6 .if2 .left) _
+          _ (c4 .put-number .kept .0) (c4 .put-number .ensures) (c14 .pre .1),
+    )
 
--- src/lib.rt:245:9
 make-close-requires : (t : ℕ) → make-lts.Need-close-requires (R t) (make-at t) make.Post
 make-close-requires t c κs =
-    close-asks _ _ _ _ _ _ (now (c .before .before .before .before .before .before .before .before .before .before .before .before .before .before .before .before .before .before .args .out)) _ _ _ _ _ (c .before .before .before .before .before .before .before .before .before .before .before .first .ensures) (c .before .before .before .before .before .before .before .before .before .before .before .before .if1 .left) (c .before .before .before .before .before .before .before .before .before .before .if2 .left) _ _ (c .before .before .before .before .before .before .before .before .put-number .kept .0) (c .before .before .before .before .before .before .before .before .put-number .ensures) _ (c .before .before .before .before .before .is-product .ensures) _ _ _ (c .before .before .before .make2 .kept .0 ∙ c .before .before .before .before .before .before .before .before .put-number .kept .0) (c .before .before .before .make2 .ensures) (c .before .before .before .before .before .before .before .before .before .before .before .before .before .before .before .before .before .before .pre .1)
+    let c3 = c .before .before .before in
+    let c5 = c3 .before .before in
+    let c8 = c5 .before .before .before in
+    let c10 = c8 .before .before in
+    let c11 = c10 .before in
+    let c12 = c11 .before in
+    let c18 = c12 .before .before .before .before .before .before in
+    close-asks _ _ _ _ _ _ (now (c18 .args .out)) _ _ _ _ _ (c11 .first .ensures) (c12 .if1 .left) (c10 .if2 .left) _ _ (c8 .put-number .kept .0)
+    (c8 .put-number .ensures) _ (c5 .is-product .ensures) _ _ _ (c3 .make2 .kept .0 ∙ c8 .put-number .kept .0) (c3 .make2 .ensures) (c18 .pre .1)
 
--- src/lib.rt:246:32
 make-sub-make-2 : (t : ℕ) → make-lts.Need-sub-make-2 (R t) (make-at t) make.Post
 make-sub-make-2 t c =
     search needs
 
--- src/lib.rt:246:5
 make-make-requires-3 : (t : ℕ) → make-lts.Need-make-requires-3 (R t) (make-at t) make.Post
 make-make-requires-3 t c κs =
-    let a = ahead _ _ _ _ _ _ _ _ _ _ _ _ (c .before .before .before .before .before .before .before .before .before .before .before .before .before .before .before .first .ensures) (c .before .before .before .before .before .before .before .before .before .before .before .before .before .before .before .before .if1 .left) (c .before .before .before .before .before .before .before .before .before .before .before .before .before .before .before .before .before .before .before .before .before .before .pre .1) in let b = onward _ _ _ _ _ _ (now (c .before .before .before .before .before .before .before .before .before .before .before .before .before .before .before .before .before .before .before .before .before .before .args .out)) _ _ _ _ _ (c .before .before .before .before .before .before .before .before .before .before .before .before .before .before .before .first .ensures) (c .before .before .before .before .before .before .before .before .before .before .before .before .before .before .before .before .if1 .left) (c .before .before .before .before .before .before .before .before .before .before .before .before .before .before .if2 .left) _ _ (c .before .before .before .before .before .before .before .before .before .before .before .before .put-number .kept .0) (c .before .before .before .before .before .before .before .before .before .before .before .before .put-number .ensures) _ (c .before .before .before .before .before .before .before .before .before .is-product .ensures) _ _ _ (c .before .before .before .before .before .before .before .make2 .kept .0 ∙ c .before .before .before .before .before .before .before .before .before .before .before .before .put-number .kept .0) (c .before .before .before .before .before .before .before .make2 .ensures) (c .before .before .before .before .before .before .before .before .before .before .before .before .before .before .before .before .before .before .before .before .before .before .pre .1) in (omega (arith, a .1, b, c .before .before .before .before .before .before .before .before .before .before .before .before .before .before .before .before .before .before .before .before .before .before .pre .0), rest-asks _ _ _ _ _ _ (now (c .before .before .before .before .before .before .before .before .before .before .before .before .before .before .before .before .before .before .before .before .before .before .args .out)) _ _ _ _ _ (c .before .before .before .before .before .before .before .before .before .before .before .before .before .before .before .first .ensures) (c .before .before .before .before .before .before .before .before .before .before .before .before .before .before .before .before .if1 .left) (c .before .before .before .before .before .before .before .before .before .before .before .before .before .before .if2 .left) _ _ (c .before .before .before .before .before .before .before .before .before .before .before .before .put-number .kept .0) (c .before .before .before .before .before .before .before .before .before .before .before .before .put-number .ensures) _ (c .before .before .before .before .before .before .before .before .before .is-product .ensures) _ _ _ (c .before .before .before .before .before .before .before .make2 .kept .0 ∙ c .before .before .before .before .before .before .before .before .before .before .before .before .put-number .kept .0) (c .before .before .before .before .before .before .before .make2 .ensures) _ _ _ (c .before .before .before .close .kept .0 ∙ c .before .before .before .before .before .before .before .make2 .kept .0 ∙ c .before .before .before .before .before .before .before .before .before .before .before .before .put-number .kept .0) (c .before .before .before .close .ensures) (c .before .before .before .before .before .before .before .before .before .before .before .before .before .before .before .before .before .before .before .before .before .before .pre .1))
+    let c3 = c .before .before .before in
+    let c7 = c3 .before .before .before .before in
+    let c9 = c7 .before .before in
+    let c12 = c9 .before .before .before in
+    let c14 = c12 .before .before in
+    let c15 = c14 .before in
+    let c16 = c15 .before in
+    let c22 = c16 .before .before .before .before .before .before in
+    let a = ahead _ _ _ _ _ _ _ _ _ _ _ _ (c15 .first .ensures) (c16 .if1 .left) (c22 .pre .1) in let b = onward _ _ _ _ _ _ (now (c22 .args .out)) _ _ _ _ _
+    (c15 .first .ensures) (c16 .if1 .left) (c14 .if2 .left) _ _ (c12 .put-number .kept .0) (c12 .put-number .ensures) _ (c9 .is-product .ensures) _ _ _
+    (c7 .make2 .kept .0 ∙ c12 .put-number .kept .0) (c7 .make2 .ensures) (c22 .pre .1) in (
+      omega (arith, a .1, b, c22 .pre .0),
+      rest-asks _ _ _ _ _ _ (now (c22 .args .out)) _ _ _ _ _ (c15 .first .ensures) (c16 .if1 .left) (c14 .if2 .left) _
+          _ (c12 .put-number .kept .0) (c12 .put-number .ensures) _ (c9 .is-product .ensures) _ _ _ (c7 .make2 .kept .0 ∙ c12 .put-number .kept .0)
+          (c7 .make2 .ensures) _ _ _ (c3 .close .kept .0 ∙ c7 .make2 .kept .0 ∙ c12 .put-number .kept .0) (c3 .close .ensures) (c22 .pre .1),
+    )
 
--- src/lib.rt:219:1
 make-same-length-2 : (t : ℕ) → make-lts.Need-same-length-2 (R t) (make-at t) make.Post
 make-same-length-2 t c =
     search needs
 
--- src/lib.rt:219:1
 make-returns-3 : (t : ℕ) → make-lts.Need-returns-3 (R t) (make-at t) make.Post
 make-returns-3 t c =
-    op-done _ _ _ _ _ _ (now (c .before .before .before .before .before .before .before .before .before .before .before .before .before .before .before .before .before .before .before .before .before .before .before .before .before .args .out)) _ _ _ _ _ (c .before .before .before .before .before .before .before .before .before .before .before .before .before .before .before .before .before .before .first .ensures) (c .before .before .before .before .before .before .before .before .before .before .before .before .before .before .before .before .before .before .before .if1 .left) (c .before .before .before .before .before .before .before .before .before .before .before .before .before .before .before .before .before .if2 .left) _ _ (c .before .before .before .before .before .before .before .before .before .before .before .before .before .before .before .put-number .kept .0) (c .before .before .before .before .before .before .before .before .before .before .before .before .before .before .before .put-number .ensures) _ (c .before .before .before .before .before .before .before .before .before .before .before .before .is-product .ensures) _ _ _ (c .before .before .before .before .before .before .before .before .before .before .make2 .kept .0 ∙ c .before .before .before .before .before .before .before .before .before .before .before .before .before .before .before .put-number .kept .0) (c .before .before .before .before .before .before .before .before .before .before .make2 .ensures) _ _ _ (c .before .before .before .before .before .before .close .kept .0 ∙ c .before .before .before .before .before .before .before .before .before .before .make2 .kept .0 ∙ c .before .before .before .before .before .before .before .before .before .before .before .before .before .before .before .put-number .kept .0) (c .before .before .before .before .before .before .close .ensures) _ _ _ (c .before .before .make3 .ensures)
+    let c6 = c .before .before .before .before .before .before in
+    let c10 = c6 .before .before .before .before in
+    let c12 = c10 .before .before in
+    let c15 = c12 .before .before .before in
+    let c17 = c15 .before .before in
+    let c18 = c17 .before in
+    let c19 = c18 .before in
+    let c25 = c19 .before .before .before .before .before .before in
+    op-done _ _ _ _ _ _ (now (c25 .args .out)) _ _ _ _ _ (c18 .first .ensures) (c19 .if1 .left) (c17 .if2 .left) _ _ (c15 .put-number .kept .0)
+    (c15 .put-number .ensures) _ (c12 .is-product .ensures) _ _ _ (c10 .make2 .kept .0 ∙ c15 .put-number .kept .0) (c10 .make2 .ensures) _ _ _
+    (c6 .close .kept .0 ∙ c10 .make2 .kept .0 ∙ c15 .put-number .kept .0) (c6 .close .ensures) _ _ _ (c .before .before .make3 .ensures)
 
 pub +make-spec : {M : Type 1} → statement M
 +make-spec = close μ-make λ t. make-lts.spec (

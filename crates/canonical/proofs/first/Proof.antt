@@ -5,48 +5,44 @@ use mathlib.Core.Bool.{true, false}
 use borrow.Author.Needs.{needs}
 use Rattle.canonical.proofs.first.Statement.{statement}
 use Rattle.canonical.proofs.first.Tie as tie
-use Rattle.canonical.proofs.first.Reads as reads
-use Rattle.canonical.proofs.first.Lts as lts
-use Rattle.term.proofs.symbol_at.Reads as symbol-at-reads
 
--- src/lib.rt:32:11
 symbol-at-requires : tie.Need-symbol-at-requires
 symbol-at-requires c κs = search needs
 
--- src/lib.rt:33:22
 enum-known-t : tie.Need-enum-known-t
 enum-known-t c = search needs
 
--- src/lib.rt:33:69
 cast-t12 : tie.Need-cast-t12
 cast-t12 c = search needs
 
--- src/lib.rt:34:20
 enum-known-t-2 : tie.Need-enum-known-t-2
 enum-known-t-2 c = search needs
 
--- src/lib.rt:34:68
 cast-t13 : tie.Need-cast-t13
 cast-t13 c = search needs
 
--- src/lib.rt:35:26
 enum-told : tie.Need-enum-told
 enum-told c = search needs
 
--- src/lib.rt:29:1
 returns : tie.Need-returns
 returns c =
-    λ t e h. first-of (now (c .before .before .before .before .before .before .args .s)) (now (c .before .before .before .before .before .before .args .arities)) (c .before .before .before .before .before .before .args .at) t e true _ _ _ (h .formed) (h .range) (h .stands) (of-leaf _ _ _ _ (sym (c .before .before .before .symbol-at .ensures) ∙ c .before .t .given .1))
+    let c3 = c .before .before .before in
+    let c6 = c3 .before .before .before in
+    λ t e h. first-of (now (c6 .args .s)) (now (c6 .args .arities)) (c6 .args .at) t e true _ _ _ (h .formed) (h .range) (h .stands)
+    (of-leaf _ _ _ _ (sym (c3 .symbol-at .ensures) ∙ c .before .t .given .1))
 
--- src/lib.rt:29:1
 returns-2 : tie.Need-returns-2
 returns-2 c =
-    λ t e h. first-of (now (c .before .before .before .before .before .before .args .s)) (now (c .before .before .before .before .before .before .args .arities)) (c .before .before .before .before .before .before .args .at) t e false _ _ _ (h .formed) (h .range) (h .stands) (of-op _ _ _ _ (sym (c .before .before .before .symbol-at .ensures) ∙ c .before .t2 .given .1))
+    let c3 = c .before .before .before in
+    let c6 = c3 .before .before .before in
+    λ t e h. first-of (now (c6 .args .s)) (now (c6 .args .arities)) (c6 .args .at) t e false _ _ _ (h .formed) (h .range) (h .stands)
+    (of-op _ _ _ _ (sym (c3 .symbol-at .ensures) ∙ c .before .t2 .given .1))
 
--- src/lib.rt:29:1
 returns-3 : tie.Need-returns-3
 returns-3 c =
-    λ t e h. first-of (now (c .before .before .before .before .before .args .s)) (now (c .before .before .before .before .before .args .arities)) (c .before .before .before .before .before .args .at) t e true 0 0 _ (h .formed) (h .range) (h .stands) (of-none _ _ _ _ _ (sym (c .before .before .symbol-at .ensures) ∙ c .enum-told .given .1))
+    let c5 = c .before .before .before .before .before in
+    λ t e h. first-of (now (c5 .args .s)) (now (c5 .args .arities)) (c5 .args .at) t e true 0 0 _ (h .formed) (h .range) (h .stands)
+    (of-none _ _ _ _ _ (sym (c .before .before .symbol-at .ensures) ∙ c .enum-told .given .1))
 
 pub first-spec : {M : Type 1} → statement M
 first-spec =

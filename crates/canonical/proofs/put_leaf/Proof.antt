@@ -6,58 +6,66 @@ use native.Mathlib.Omega.{arith}
 use borrow.Author.Needs.{needs}
 use Rattle.canonical.proofs.put_leaf.Statement.{statement}
 use Rattle.canonical.proofs.put_leaf.Tie as tie
-use Rattle.canonical.proofs.put_leaf.Reads as reads
-use Rattle.canonical.proofs.put_leaf.Lts as lts
-use Rattle.canonical.proofs.put_number.Reads as put-number-reads
-use Rattle.octets.proofs.copy_into.Reads as copy-into-reads
-use Rattle.term.proofs.term_part.Reads as term-part-reads
 
--- src/lib.rt:87:20
 mul-from : tie.Need-mul-from
 mul-from c =
-    omega (arith, number-small (c .before .before .before .before .before .args .number) (c .before .before .before .before .before .pre .2 .range))
+    let c5 = c .before .before .before .before .before in
+    omega (arith, number-small (c5 .args .number) (c5 .pre .2 .range))
 
--- src/lib.rt:87:20
 shared-slice-read-from : tie.Need-shared-slice-read-from
 shared-slice-read-from c =
-    value-of _ _ _ _ _ _ _ (λ i. c .before .before .before .shared-slice-known2 .given i .fits) _ _ (c .before .if1 .taken) (c .before .before .before .before .before .before .pre .2) .listed
+    let c3 = c .before .before .before in
+    let c6 = c3 .before .before .before in
+    value-of _ _ _ _ _ _ _ (λ i. c3 .shared-slice-known2 .given i .fits) _ _ (c .before .if1 .taken) (c6 .pre .2) .listed
 
--- src/lib.rt:88:42
 term-part-requires : tie.Need-term-part-requires
 term-part-requires c κs = search needs
 
--- src/lib.rt:88:9
 copy-into-requires : tie.Need-copy-into-requires
 copy-into-requires c κs =
-    let v = value-of _ _ _ _ _ _ _ (λ i. c .before .before .before .before .before .shared-slice-known2 .given i .fits) _ _ (c .before .before .before .if1 .taken) (c .before .before .before .before .before .before .before .before .pre .2) in omega (arith, v .fits, ap length (c .term-part .ensures ∙ v .part-is))
+    let c3 = c .before .before .before in
+    let c5 = c3 .before .before in
+    let c8 = c5 .before .before .before in
+    let v = value-of _ _ _ _ _ _ _ (λ i. c5 .shared-slice-known2 .given i .fits) _ _ (c3 .if1 .taken) (c8 .pre .2) in omega
+    (arith, v .fits, ap length (c .term-part .ensures ∙ v .part-is))
 
--- src/lib.rt:88:9
 same-length : tie.Need-same-length
 same-length c = search needs
 
--- src/lib.rt:88:9
 returns : tie.Need-returns
 returns c =
-    value-done _ _ _ (λ i. c .before .before .before .before .before .before .before .before .shared-slice-known2 .given i .fits) _ _ _ _ (c .before .before .before .before .before .before .if1 .taken) _ _ _ (c .before .before .before .term-part .ensures) (c .before .before .copy-into .ensures .0) (c .before .before .copy-into .ensures .1)
+    let c3 = c .before .before .before in
+    let c6 = c3 .before .before .before in
+    let c8 = c6 .before .before in
+    value-done _ _ _ (λ i. c8 .shared-slice-known2 .given i .fits) _ _ _ _ (c6 .if1 .taken) _ _ _ (c3 .term-part .ensures)
+    (c .before .before .copy-into .ensures .0) (c .before .before .copy-into .ensures .1)
 
--- src/lib.rt:90:9
 put-number-requires : tie.Need-put-number-requires
 put-number-requires c κs =
-    let q = name-of _ _ _ _ _ _ _ _ _ (c .before .if1 .left) (c .before .before .before .before .before .before .pre .2) in (q .tag-range, omega (arith, q .fits))
+    let q = name-of _ _ _ _ _ _ _ _ _ (c .before .if1 .left) (c .before .before .before .before .before .before .pre .2) in
+    (q .tag-range, omega (arith, q .fits))
 
--- src/lib.rt:91:5
 put-number-requires-2 : tie.Need-put-number-requires-2
 put-number-requires-2 c κs =
-    let q = name-of _ _ _ _ _ _ _ _ _ (c .before .before .before .before .before .if1 .left) (c .before .before .before .before .before .before .before .before .before .before .pre .2) in (q .number-range, omega (arith, q .fits, c .before .before .before .put-number .ensures .ends, c .before .before .before .put-number .kept))
+    let c3 = c .before .before .before in
+    let c5 = c3 .before .before in
+    let c10 = c5 .before .before .before .before .before in
+    let q = name-of _ _ _ _ _ _ _ _ _ (c5 .if1 .left) (c10 .pre .2) in (
+      q .number-range,
+      omega
+          (arith, q .fits, c3 .put-number .ensures .ends, c3 .put-number .kept),
+    )
 
--- src/lib.rt:82:1
 same-length-2 : tie.Need-same-length-2
 same-length-2 c = search needs
 
--- src/lib.rt:82:1
 returns-2 : tie.Need-returns-2
 returns-2 c =
-    name-done _ _ _ (λ i. c .before .before .before .before .before .before .before .before .before .before .shared-slice-known2 .given i .fits) _ _ _ _ (c .before .before .before .before .before .before .before .before .if1 .left) _ _ _ _ (c .before .before .before .before .before .before .put-number .ensures) (c .before .before .put-number2 .ensures)
+    let c6 = c .before .before .before .before .before .before in
+    let c8 = c6 .before .before in
+    let c10 = c8 .before .before in
+    name-done _ _ _ (λ i. c10 .shared-slice-known2 .given i .fits) _ _ _ _ (c8 .if1 .left) _ _ _ _ (c6 .put-number .ensures)
+    (c .before .before .put-number2 .ensures)
 
 pub put-leaf-spec : {M : Type 1} → statement M
 put-leaf-spec =

@@ -6,47 +6,40 @@ use mathlib.Core.Path.{ap₂, _∙_}
 use borrow.Author.Needs.{needs}
 use Rattle.canonical.proofs.same_message.Statement.{statement}
 use Rattle.canonical.proofs.same_message.Tie as tie
-use Rattle.canonical.proofs.same_message.Reads as reads
-use Rattle.canonical.proofs.same_message.Lts as lts
-use Rattle.canonical.proofs.canonical_term.Reads as canonical-term-reads
-use Rattle.octets.proofs.same_bytes.Reads as same-bytes-reads
 
--- src/lib.rt:294:9
 canonical-term-requires : tie.Need-canonical-term-requires
 canonical-term-requires c κs = search needs
 
--- src/lib.rt:295:9
 canonical-term-requires-2 : tie.Need-canonical-term-requires-2
 canonical-term-requires-2 c κs = search needs
 
--- src/lib.rt:296:24
 array-share-prefix-a : tie.Need-array-share-prefix-a
 array-share-prefix-a c =
     canon-within _ _ _ _ _ (c .before .before .canonical-term .ensures) (c .before .before .before .before .before .before .before .pre .0)
 
--- src/lib.rt:296:24
 slice-aggregate-same-bytes : tie.Need-slice-aggregate-same-bytes
 slice-aggregate-same-bytes c =
-    canon-long _ _ _ _ _ (c .before .before .before .canonical-term .ensures) (c .before .before .before .before .before .before .before .before .pre .0)
+    let c3 = c .before .before .before in
+    let c8 = c3 .before .before .before .before .before in
+    canon-long _ _ _ _ _ (c3 .canonical-term .ensures) (c8 .pre .0)
 
--- src/lib.rt:296:33
 array-share-prefix-b : tie.Need-array-share-prefix-b
 array-share-prefix-b c =
     canon-within _ _ _ _ _ (c .before .canonical-term2 .ensures) (c .before .before .before .before .before .before .before .before .pre .1)
 
--- src/lib.rt:296:33
 slice-aggregate-same-bytes-2 : tie.Need-slice-aggregate-same-bytes-2
 slice-aggregate-same-bytes-2 c =
     canon-long _ _ _ _ _ (c .before .before .canonical-term2 .ensures) (c .before .before .before .before .before .before .before .before .before .pre .1)
 
--- src/lib.rt:296:5
 same-bytes-requires : tie.Need-same-bytes-requires
 same-bytes-requires c κs = search needs
 
--- src/lib.rt:288:1
 returns : tie.Need-returns
 returns c =
-    λ x y m n. decides-same _ _ _ _ _ x y _ m n (c .same-bytes .ensures ∙ ap₂ (λ (a b : List ℕ). isEqual (compareBytes a b)) (canon-part _ _ _ _ _ (c .before .before .before .before .before .canonical-term .ensures) x m) (canon-part _ _ _ _ _ (c .before .before .before .canonical-term2 .ensures) y n))
+    let c3 = c .before .before .before in
+    let c5 = c3 .before .before in
+    λ x y m n. decides-same _ _ _ _ _ x y _ m n (c .same-bytes .ensures ∙ ap₂ (λ (a b : List ℕ). isEqual (compareBytes a b))
+    (canon-part _ _ _ _ _ (c5 .canonical-term .ensures) x m) (canon-part _ _ _ _ _ (c3 .canonical-term2 .ensures) y n))
 
 pub same-message-spec : {M : Type 1} → statement M
 same-message-spec =

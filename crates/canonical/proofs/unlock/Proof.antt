@@ -4,65 +4,64 @@ use native.Mathlib.Omega.{arith}
 use borrow.Author.Needs.{needs}
 use Rattle.canonical.proofs.unlock.Statement.{statement}
 use Rattle.canonical.proofs.unlock.Tie as tie
-use Rattle.canonical.proofs.unlock.Reads as reads
-use Rattle.canonical.proofs.unlock.Lts as lts
-use Rattle.canonical.proofs.end_of.Reads as end-of-reads
-use Rattle.canonical.proofs.first.Reads as first-reads
-use Rattle.canonical.proofs.move_to.Reads as move-to-reads
-use Rattle.canonical.proofs.same_terms.Reads as same-terms-reads
 
--- src/lib.rt:99:33
 add-first : tie.Need-add-first
 add-first c =
     let p = place-fits _ _ _ _ _ (c .before .before .before .pre) in omega (arith, p .0, p .1)
 
--- src/lib.rt:99:9
 first-requires : tie.Need-first-requires
 first-requires c κs = search needs
 
--- src/lib.rt:101:9
 same-length : tie.Need-same-length
 same-length c = search needs
 
--- src/lib.rt:101:9
 returns : tie.Need-returns
 returns c =
     dec-shut _ _ _ _ _ _ _ _ (c .before .before .first .ensures) (c .if1 .taken)
 
--- src/lib.rt:104:9
 end-of-requires : tie.Need-end-of-requires
 end-of-requires c κs = search needs
 
--- src/lib.rt:105:9
 end-of-requires-2 : tie.Need-end-of-requires-2
 end-of-requires-2 c κs = search needs
 
--- src/lib.rt:106:8
 same-terms-requires : tie.Need-same-terms-requires
 same-terms-requires c κs = search needs
 
--- src/lib.rt:107:9
 move-to-requires : tie.Need-move-to-requires
 move-to-requires c κs =
-    dec-bounds _ _ _ _ _ _ _ _ (c .before .before .before .before .before .before .before .before .before .before .first .ensures) (c .before .before .before .before .before .before .before .before .if1 .left) _ _ (c .before .before .before .before .before .before .end-of .ensures) (c .before .before .before .before .end-of2 .ensures) (c .before .before .before .before .before .before .before .before .before .before .before .before .before .before .pre)
+    let c4 = c .before .before .before .before in
+    let c6 = c4 .before .before in
+    let c8 = c6 .before .before in
+    let c10 = c8 .before .before in
+    let c14 = c10 .before .before .before .before in
+    dec-bounds _ _ _ _ _ _ _ _ (c10 .first .ensures) (c8 .if1 .left) _ _ (c6 .end-of .ensures) (c4 .end-of2 .ensures) (c14 .pre)
 
--- src/lib.rt:107:9
 same-length-2 : tie.Need-same-length-2
 same-length-2 c = search needs
 
--- src/lib.rt:107:9
 returns-2 : tie.Need-returns-2
 returns-2 c =
-    dec-opens _ _ _ _ _ _ _ _ (c .before .before .before .before .before .before .before .before .before .before .before .before .before .first .ensures) (c .before .before .before .before .before .before .before .before .before .before .before .if1 .left) _ _ (c .before .before .before .before .before .before .before .before .before .end-of .ensures) (c .before .before .before .before .before .before .before .end-of2 .ensures) (λ x y d e h k. sym (c .before .before .before .before .if2 .taken) ∙ c .before .before .before .before .before .same-terms .ensures x y d e h k) _ _ (c .before .before .move-to .ensures)
+    let c4 = c .before .before .before .before in
+    let c5 = c4 .before in
+    let c7 = c5 .before .before in
+    let c9 = c7 .before .before in
+    let c11 = c9 .before .before in
+    let c13 = c11 .before .before in
+    dec-opens _ _ _ _ _ _ _ _ (c13 .first .ensures) (c11 .if1 .left) _ _ (c9 .end-of .ensures) (c7 .end-of2 .ensures)
+    (λ x y d e h k. sym (c4 .if2 .taken) ∙ c5 .same-terms .ensures x y d e h k) _ _ (c .before .before .move-to .ensures)
 
--- src/lib.rt:95:1
 same-length-3 : tie.Need-same-length-3
 same-length-3 c = search needs
 
--- src/lib.rt:95:1
 returns-3 : tie.Need-returns-3
 returns-3 c =
-    dec-stays _ _ _ _ _ _ _ _ (c .before .before .before .before .before .before .before .before .before .first .ensures) (c .before .before .before .before .before .before .before .if1 .left) _ _ (c .before .before .before .before .before .end-of .ensures) (c .before .before .before .end-of2 .ensures) (λ x y d e h k. sym (c .if2 .left) ∙ c .before .same-terms .ensures x y d e h k)
+    let c3 = c .before .before .before in
+    let c5 = c3 .before .before in
+    let c7 = c5 .before .before in
+    let c9 = c7 .before .before in
+    dec-stays _ _ _ _ _ _ _ _ (c9 .first .ensures) (c7 .if1 .left) _ _ (c5 .end-of .ensures) (c3 .end-of2 .ensures)
+    (λ x y d e h k. sym (c .if2 .left) ∙ c .before .same-terms .ensures x y d e h k)
 
 pub unlock-spec : {M : Type 1} → statement M
 unlock-spec =

@@ -10,7 +10,8 @@ use lib.ListN.{length, length-append}
 use borrow.Author.Tests.{ne-eqb}
 use Rattle.octets.specs.Choice.{clash}
 use Rattle.number.specs.Groups.{groups}
-use Rattle.term.specs.Term.{variable, public, fresh, Term, leaf, app, Terms, nil, _&_, count, encode, encodes, symbols, symbolss, Formed, Formeds, InRange, InRanges}
+use Rattle.term.specs.Term.{variable, public, fresh, Term, leaf, app, Terms, nil, _&_}
+use Rattle.term.specs.Term.{count, encode, encodes, symbols, symbolss, Formed, Formeds, InRange, InRanges}
 use Rattle.message.specs.Product.{Exps, build}
 use Rattle.message.specs.Substitution.{sub, subs, Occurs, Occurss}
 use Rattle.message.specs.Rules.{Ordinary, FitArities, Theory}
@@ -160,7 +161,8 @@ module _ (ar : ℕ → Option ℕ) (g : FitArities ar) (θ : ℕ → Term) where
   function inside f ts r is-inv s v c w =
       let l : Exps = sums (filleds θ ts) in
       product inside 11 ts _ (neg l) refl s refl refl (ap neg (s .sum))
-      (parts-build σ (neg l) (entries-neg (Formed ar) l (formed-sums σ (filleds θ ts) v)) (entries-neg Atom l (sums-atoms (filleds θ ts))) (asc-neg l (sums-asc (filleds θ ts)))) c w
+      (parts-build σ (neg l) (entries-neg (Formed ar) l (formed-sums σ (filleds θ ts) v)) (entries-neg Atom l (sums-atoms (filleds θ ts)))
+      (asc-neg l (sums-asc (filleds θ ts)))) c w
   function inside f ts r is-exp s v c w =
       whole inside (app 10 ts) (closed-other inside 10 (mades false θ ts) refl ∙ ap (mk rules 10) (s .are refl)) c w
   function inside f ts r (is-plain p) s v c w =

@@ -7,12 +7,6 @@ use denote.Ref.{now}
 use Rattle.case_file.specs.Case.{Within}
 use Rattle.cases_steps.proofs.cases.Statement.{statement}
 use Rattle.cases_steps.proofs.cases.Tie as tie
-use Rattle.cases_steps.proofs.cases.Reads as reads
-use Rattle.cases_steps.proofs.cases.Lts as lts
-use Rattle.case_file.proofs.case_at.Reads as case-at-reads
-use Rattle.cases_steps.proofs.show.Reads as show-reads
-use Rattle.io.proofs.print_decimal.Reads as print-decimal-reads
-use Rattle.io.proofs.write_all.Reads as write-all-reads
 
 abbrev Inv-loop : tie.InvT-loop
 Inv-loop s at₀ number₀ t6 at number =
@@ -22,63 +16,65 @@ abbrev μ-loop : tie.MeasureT-loop
 μ-loop s at₀ number₀ t6 at number =
     length s - at
 
--- src/main.rt:69:5
 loop-holds : tie.Need-loop-holds Inv-loop μ-loop
 loop-holds c = search needs
 
--- src/main.rt:70:15
 case-at-requires : tie.Need-case-at-requires Inv-loop μ-loop
 case-at-requires c κs = search needs
 
--- src/main.rt:71:25
 enum-known-body : tie.Need-enum-known-body Inv-loop μ-loop
 enum-known-body c = search needs
 
--- src/main.rt:72:17
 print-decimal-requires : tie.Need-print-decimal-requires Inv-loop μ-loop
 print-decimal-requires c κs = search needs
 
--- src/main.rt:73:17
 show-requires : tie.Need-show-requires Inv-loop μ-loop
 show-requires c κs =
-    let w = subst (Within (length (now (c .before .before .before .before .before .before .before .before .args .s))) (c .before .before .before .before .before .before .loop .at)) (c .before .before .body .given .1) (c .before .before .before .before .case-at .ensures) in
+    let c4 = c .before .before .before .before in
+    let c6 = c4 .before .before in
+    let c8 = c6 .before .before in
+    let w = subst (Within (length (now (c8 .args .s))) (c6 .loop .at)) (c .before .before .body .given .1) (c4 .case-at .ensures) in
     search needs
 
--- src/main.rt:74:34
 slice-aggregate-write-all : tie.Need-slice-aggregate-write-all Inv-loop μ-loop
 slice-aggregate-write-all c = search needs
 
--- src/main.rt:74:17
 write-all-requires : tie.Need-write-all-requires Inv-loop μ-loop
 write-all-requires c κs = search needs
 
--- src/main.rt:76:17
 add-number : tie.Need-add-number Inv-loop μ-loop
 add-number c =
-    let w = subst (Within (length (now (c .before .before .before .before .before .before .before .before .before .before .before .args .s))) (c .before .before .before .before .before .before .before .before .before .loop .at)) (c .before .before .before .before .before .body .given .1) (c .before .before .before .before .before .before .before .case-at .ensures) in
+    let c5 = c .before .before .before .before .before in
+    let c7 = c5 .before .before in
+    let c9 = c7 .before .before in
+    let c11 = c9 .before .before in
+    let w = subst (Within (length (now (c11 .args .s))) (c9 .loop .at)) (c5 .body .given .1) (c7 .case-at .ensures) in
     omega arith
 
--- src/main.rt:69:5
 loop-less : tie.Need-loop-less Inv-loop μ-loop
 loop-less c =
-    let w = subst (Within (length (now (c .before .before .before .before .before .before .before .before .before .before .before .args .s))) (c .before .before .before .before .before .before .before .before .before .loop .at)) (c .before .before .before .before .before .body .given .1) (c .before .before .before .before .before .before .before .case-at .ensures) in
+    let c5 = c .before .before .before .before .before in
+    let c7 = c5 .before .before in
+    let c9 = c7 .before .before in
+    let c11 = c9 .before .before in
+    let w = subst (Within (length (now (c11 .args .s))) (c9 .loop .at)) (c5 .body .given .1) (c7 .case-at .ensures) in
     omega arith
 
--- src/main.rt:69:5
 loop-again : tie.Need-loop-again Inv-loop μ-loop
 loop-again c =
-    let w = subst (Within (length (now (c .before .before .before .before .before .before .before .before .before .before .before .args .s))) (c .before .before .before .before .before .before .before .before .before .loop .at)) (c .before .before .before .before .before .body .given .1) (c .before .before .before .before .before .before .before .case-at .ensures) in
+    let c5 = c .before .before .before .before .before in
+    let c7 = c5 .before .before in
+    let c9 = c7 .before .before in
+    let c11 = c9 .before .before in
+    let w = subst (Within (length (now (c11 .args .s))) (c9 .loop .at)) (c5 .body .given .1) (c7 .case-at .ensures) in
     (omega arith, omega arith)
 
--- src/main.rt:79:17
 enum-told : tie.Need-enum-told Inv-loop μ-loop
 enum-told c = search needs
 
--- src/main.rt:79:17
 returns : tie.Need-returns Inv-loop μ-loop
 returns c = search needs
 
--- src/main.rt:64:1
 returns-2 : tie.Need-returns-2 Inv-loop μ-loop
 returns-2 c = search needs
 

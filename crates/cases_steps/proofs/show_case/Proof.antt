@@ -6,88 +6,73 @@ use denote.Ref.{now}
 use borrow.Author.Needs.{needs}
 use Rattle.cases_steps.proofs.show_case.Statement.{statement}
 use Rattle.cases_steps.proofs.show_case.Tie as tie
-use Rattle.cases_steps.proofs.show_case.Reads as reads
-use Rattle.cases_steps.proofs.show_case.Lts as lts
-use Rattle.case_file.proofs.show_refusal.Reads as show-refusal-reads
-use Rattle.cases_steps.proofs.show_steps.Reads as show-steps-reads
-use Rattle.rules.proofs.fit.judge.Reads as judge-reads
 
--- src/main.rt:41:9
 slice-aggregate-judge : tie.Need-slice-aggregate-judge
 slice-aggregate-judge c = search needs
 
--- src/main.rt:42:9
 slice-aggregate-judge-2 : tie.Need-slice-aggregate-judge-2
 slice-aggregate-judge-2 c = search needs
 
--- src/main.rt:43:9
 slice-aggregate-judge-3 : tie.Need-slice-aggregate-judge-3
 slice-aggregate-judge-3 c = search needs
 
--- src/main.rt:44:9
 slice-aggregate-judge-4 : tie.Need-slice-aggregate-judge-4
 slice-aggregate-judge-4 c = search needs
 
--- src/main.rt:39:11
 judge-requires : tie.Need-judge-requires
 judge-requires c κs = search needs
 
--- src/main.rt:46:28
 enum-known-ns : tie.Need-enum-known-ns
 enum-known-ns c = search needs
 
--- src/main.rt:47:40
 slice-aggregate-show-steps : tie.Need-slice-aggregate-show-steps
 slice-aggregate-show-steps c = search needs
 
--- src/main.rt:47:50
 array-share-prefix-symbols : tie.Need-array-share-prefix-symbols
 array-share-prefix-symbols c =
-    let few = sound-few (now (c .before .before .before .before .before .before .before .before .before .before .before .before .before .before .before .args .protocol)) _ _ _ _ (c .before .before .before .before .before .before .before .before .judge .result) _ _ (c .before .before .ns .given .1) (c .before .before .before .before .before .before .before .before .judge .ensures .1) in
-    omega (arith, few, c .before .before .before .before .before .before .before .before .judge .kept)
+    let c8 = c .before .before .before .before .before .before .before .before in
+    let c15 = c8 .before .before .before .before .before .before .before in
+    let few = sound-few (now (c15 .args .protocol)) _ _ _ _ (c8 .judge .result) _ _ (c .before .before .ns .given .1) (c8 .judge .ensures .1) in
+    omega (arith, few, c8 .judge .kept)
 
--- src/main.rt:47:50
 slice-aggregate-show-steps-2 : tie.Need-slice-aggregate-show-steps-2
 slice-aggregate-show-steps-2 c =
-    let few = sound-few (now (c .before .before .before .before .before .before .before .before .before .before .before .before .before .before .before .before .args .protocol)) _ _ _ _ (c .before .before .before .before .before .before .before .before .before .judge .result) _ _ (c .before .before .before .ns .given .1) (c .before .before .before .before .before .before .before .before .before .judge .ensures .1) in
-    sym (length-take-le _ (c .before .before .before .before .before .before .before .before .before .judge .last .1 .1 .0) (omega (arith, few, c .before .before .before .before .before .before .before .before .before .judge .kept)))
+    let c3 = c .before .before .before in
+    let c9 = c3 .before .before .before .before .before .before in
+    let c16 = c9 .before .before .before .before .before .before .before in
+    let few = sound-few (now (c16 .args .protocol)) _ _ _ _ (c9 .judge .result) _ _ (c3 .ns .given .1) (c9 .judge .ensures .1) in
+    sym (length-take-le _ (c9 .judge .last .1 .1 .0) (omega (arith, few, c9 .judge .kept)))
 
--- src/main.rt:47:66
 slice-aggregate-show-steps-3 : tie.Need-slice-aggregate-show-steps-3
 slice-aggregate-show-steps-3 c = search needs
 
--- src/main.rt:47:13
 show-steps-requires : tie.Need-show-steps-requires
 show-steps-requires c κs =
-    let given = sound-given (now (c .before .before .before .before .before .before .before .before .before .before .before .before .before .before .before .before .before .args .protocol)) _ _ _ _ (c .before .before .before .before .before .before .before .before .before .before .judge .result) _ _ (c .before .before .before .before .ns .given .1) (c .before .before .before .before .before .before .before .before .before .before .judge .ensures .1) in
-    let table = sound-arities (now (c .before .before .before .before .before .before .before .before .before .before .before .before .before .before .before .before .before .args .protocol)) _ _ _ _ (c .before .before .before .before .before .before .before .before .before .before .judge .result) _ _ (c .before .before .before .before .ns .given .1) (c .before .before .before .before .before .before .before .before .before .before .judge .ensures .1) in
-    (omega (arith, c .before .before .before .before .before .before .before .before .before .before .before .before .before .before .before .before .before .pre), given (omega (arith, c .before .before .before .before .before .before .before .before .before .before .before .before .before .before .before .before .before .pre)) (omega (arith, c .before .before .before .before .before .before .before .before .before .before .judge .kept)) (omega (arith, c .before .before .before .before .before .before .before .before .before .before .judge .kept)), table)
+    let c4 = c .before .before .before .before in
+    let c10 = c4 .before .before .before .before .before .before in
+    let c17 = c10 .before .before .before .before .before .before .before in
+    let given = sound-given (now (c17 .args .protocol)) _ _ _ _ (c10 .judge .result) _ _ (c4 .ns .given .1) (c10 .judge .ensures .1) in
+    let table = sound-arities (now (c17 .args .protocol)) _ _ _ _ (c10 .judge .result) _ _ (c4 .ns .given .1) (c10 .judge .ensures .1) in
+    (omega (arith, c17 .pre), given (omega (arith, c17 .pre)) (omega (arith, c10 .judge .kept)) (omega (arith, c10 .judge .kept)), table)
 
--- src/main.rt:49:29
 enum-known-k : tie.Need-enum-known-k
 enum-known-k c = search needs
 
--- src/main.rt:50:13
 show-refusal-requires : tie.Need-show-refusal-requires
 show-refusal-requires c κs = search needs
 
--- src/main.rt:53:13
 enum-told : tie.Need-enum-told
 enum-told c = search needs
 
--- src/main.rt:53:13
 show-refusal-requires-2 : tie.Need-show-refusal-requires-2
 show-refusal-requires-2 c κs = search needs
 
--- src/main.rt:32:1
 returns : tie.Need-returns
 returns c = search needs
 
--- src/main.rt:32:1
 returns-2 : tie.Need-returns-2
 returns-2 c = search needs
 
--- src/main.rt:32:1
 returns-3 : tie.Need-returns-3
 returns-3 c = search needs
 

@@ -3,47 +3,35 @@ use Rattle.checker.specs.Answer.{written, packed}
 use borrow.Author.Needs.{needs}
 use Rattle.checker.proofs.pack.Statement.{statement}
 use Rattle.checker.proofs.pack.Tie as tie
-use Rattle.checker.proofs.pack.Reads as reads
-use Rattle.checker.proofs.pack.Lts as lts
 
--- src/lib.rt:129:25
 enum-known-w : tie.Need-enum-known-w
 enum-known-w c = search needs
 
--- src/lib.rt:129:52
 cast-result : tie.Need-cast-result
 cast-result c = search needs
 
--- src/lib.rt:129:31
 add-result : tie.Need-add-result
 add-result c = search needs
 
--- src/lib.rt:130:26
 enum-known-w-2 : tie.Need-enum-known-w-2
 enum-known-w-2 c = search needs
 
--- src/lib.rt:130:32
 cast-result-2 : tie.Need-cast-result-2
 cast-result-2 c = search needs
 
--- src/lib.rt:130:32
 mul-result : tie.Need-mul-result
 mul-result c = search needs
 
--- src/lib.rt:130:63
 cast-result-3 : tie.Need-cast-result-3
 cast-result-3 c = search needs
 
--- src/lib.rt:130:32
 add-result-2 : tie.Need-add-result-2
 add-result-2 c = search needs
 
--- src/lib.rt:125:1
 returns : tie.Need-returns
 returns c =
     ap (λ w. packed (written w)) (sym (c .before .w .given .1))
 
--- src/lib.rt:125:1
 returns-2 : tie.Need-returns-2
 returns-2 c =
     ap (λ w. packed (written w)) (sym (c .before .before .before .w2 .given .1))

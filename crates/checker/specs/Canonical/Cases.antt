@@ -36,7 +36,8 @@ module _ (protocol term : List ℕ) (output work : ℕ) where
   module _ (long : workNeed ≤ work) where
     pub protocol-over : protocolLimit < length protocol → Outcome ≡ refused 2 protocolItem
     unfolding canonicalOutcome
-    protocol-over h = less-no 1 0 work workNeed (protocolPass ∷ termPass ∷ []) Files long ∙ less-yes 2 protocolItem protocolLimit (length protocol) (termPass ∷ []) Files h
+    protocol-over h = less-no 1 0 work workNeed (protocolPass ∷ termPass ∷ []) Files long ∙ less-yes 2 protocolItem protocolLimit (length protocol)
+        (termPass ∷ []) Files h
 
     pub term-over : length protocol ≤ protocolLimit → termLimit < length term → Outcome ≡ refused 2 termItem
     unfolding canonicalOutcome

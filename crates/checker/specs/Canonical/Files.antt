@@ -65,7 +65,9 @@ same-forms protocol term other b c p t u h e f =
   where
     formed-under : (file : List ℕ) → Bytes file → (x : Term) → termOf protocol file ≡ passed x → Formed (arity (slots (p .functions))) x
     formed-under file by x g =
-        let q : termRuling (slots (p .functions)) file ≡ passed x = sym (ap (λ (r : Ruling Protocol). andThen r (λ o. termRuling (slots (o .functions)) file)) h) ∙ g in
+        let q : termRuling (slots (p .functions)) file ≡ passed x = sym (ap (λ (r : Ruling Protocol). andThen r (λ o. termRuling (slots (o .functions)) file))
+        h) ∙ g in
         let i = passed-good (IsSmall (slots (p .functions)) file) (termRows (slots (p .functions)) file) x
-        (subst (λ (r : Ruling Term). Ruled (termRows (slots (p .functions)) file) (IsSmall (slots (p .functions)) file) r) q (term-ruled (slots (p .functions)) file)) in
+        (subst (λ (r : Ruling Term). Ruled (termRows (slots (p .functions)) file) (IsSmall (slots (p .functions)) file) r) q
+        (term-ruled (slots (p .functions)) file)) in
         file-form (slots (p .functions)) file by x (i .reads .next) (i .reads .there) .formed

@@ -12,7 +12,8 @@ use Rattle.rewriting.specs.Table.Laws.{ruled, ruled-and-then}
 use Rattle.rewriting.specs.Table.Passes.{leastPass, lessPass}
 use Rattle.protocol.specs.Protocol.{Protocol, protocol}
 use Rattle.rules.specs.Fit.{fits}
-use Rattle.checker.specs.Files.{protocolItem, termItem, layout, layoutRows, fitRuling, fitRows, protocolRuling, protocolRows, termFile, sizeRuling, sizeRows, termRuling, termRows}
+use Rattle.checker.specs.Files.{protocolItem, termItem, layout, layoutRows, fitRuling, fitRows, protocolRuling}
+use Rattle.checker.specs.Files.{protocolRows, termFile, sizeRuling, sizeRows, termRuling, termRows}
 
 -- what was read
 pub record Reads {A : Type 0} (r : Read A) (x : A) : Type 0 where
@@ -43,6 +44,7 @@ pub record IsSmall (slots s : List ℕ) (t : Term) : Type 0 where
 
 pub term-ruled : (slots s : List ℕ) → Ruled (termRows slots s) (IsSmall slots s) (termRuling slots s)
 term-ruled slots s =
-    ruled-and-then (Reads (termFile slots s)) (IsSmall slots s) (layoutRows termItem (termFile slots s)) (layout termItem (termFile slots s)) sizeRows sizeRuling
+    ruled-and-then (Reads (termFile slots s)) (IsSmall slots s) (layoutRows termItem (termFile slots s)) (layout termItem (termFile slots s)) sizeRows
+    sizeRuling
     (layout-ruled termItem (termFile slots s))
     (λ t h e. ruled (IsSmall slots s) (lessPass 8 0 256 (symbols t) ∷ []) t (λ a. record { reads = h; small = a }))

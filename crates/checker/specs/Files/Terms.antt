@@ -39,7 +39,8 @@ module _ (slots s : List ℕ) (bytes : Bytes s) where
       let q = and-split (eqb d (length s)) (not (holds u 0 0 numberLimit)) b in
       let l : d ≡ length s = eqb-true d (length s) (q .0) in
       let f = term-form s slots bytes u 0 d r in
-      let w : s ≡ encode u = f .1 .there ∙ ap (λ (k : ℕ). encode u ++ drop k s) l ∙ ap (λ (m : List ℕ). encode u ++ m) (drop-length s) ∙ append-nil (encode u) in
+      let w : s ≡ encode u = f .1 .there ∙ ap (λ (k : ℕ). encode u ++ drop k s) l ∙ ap (λ (m : List ℕ). encode u ++ m) (drop-length s) ∙ append-nil (encode u)
+      in
       subst (λ (x : Term). IsTerm slots s x) p
       (record { bytes = w; formed = f .0 .0; range = f .0 .1; ground = none-ground u (f .0 .1) (not-split (holds u 0 0 numberLimit) (q .1)) }))
       (λ b h. clash (cc)))

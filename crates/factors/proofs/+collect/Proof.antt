@@ -29,92 +29,140 @@ abbrev claims : ℕ → collect-lts.Claims
 claims t =
     (way-at-reads.Asked, way-at-reads.Learnt, collect-below t, collect.Post, enter-at-reads.Asked, enter-at-reads.Learnt)
 
--- src/lib.rt:186:9
 collect-returns : (t : ℕ) → collect-lts.Need-returns (claims t) (collect-at t) collect.Post
 collect-returns t c =
-    let r = c .before .before .before .before .before .args in collect-none (r .arities .now) (r .s .now) (r .starts .now) (r .ends .now) (r .powers .now) (r .n) (r .at) (r .k) (r .minus) (c .if1 .taken) _ refl refl
+    let r = c .before .before .before .before .before .args in collect-none (r .arities .now) (r .s .now) (r .starts .now) (r .ends .now) (r .powers .now)
+    (r .n) (r .at) (r .k) (r .minus) (c .if1 .taken) _ refl refl
 
--- src/lib.rt:188:11
 collect-way-at-requires : (t : ℕ) → collect-lts.Need-way-at-requires (claims t) (collect-at t) collect.Post
 collect-way-at-requires t c κs = search needs
 
--- src/lib.rt:189:19
 collect-enum-known-m : (t : ℕ) → collect-lts.Need-enum-known-m (claims t) (collect-at t) collect.Post
 collect-enum-known-m t c = search needs
 
--- src/lib.rt:190:17
 collect-collect-requires : (t : ℕ) → collect-lts.Need-collect-requires (claims t) (collect-at t) collect.Post
 collect-collect-requires t c κs =
-    let r = c .before .before .before .before .before .before .before .before .before .before .before .before .args in into-asks (r .arities .now) (r .s .now) (r .starts .now) (r .ends .now) (r .powers .now) (r .n) (r .at) (r .k) (r .minus) (c .before .before .before .before .before .before .before .if1 .left) (c .before .before .before .before .m .given .0 .0) (c .before .before .before .before .m .given .0 .1 .0) (c .before .before .before .before .m .given .0 .1 .1 .0) (sym (c .before .before .before .before .before .before .way-at .ensures) ∙ c .before .before .before .before .m .given .1) t (c .before .before .before .before .before .before .before .before .before .before .before .before .pre .0) (c .before .before .before .before .before .before .before .before .before .before .before .before .pre .1)
+    let c4 = c .before .before .before .before in
+    let c6 = c4 .before .before in
+    let c7 = c6 .before in
+    let c12 = c7 .before .before .before .before .before in
+    let r = c12 .args in into-asks (r .arities .now) (r .s .now) (r .starts .now) (r .ends .now) (r .powers .now) (r .n) (r .at) (r .k) (r .minus)
+    (c7 .if1 .left) (c4 .m .given .0 .0) (c4 .m .given .0 .1 .0) (c4 .m .given .0 .1 .1 .0) (sym (c6 .way-at .ensures) ∙ c4 .m .given .1) t (c12 .pre .0)
+    (c12 .pre .1)
 
--- src/lib.rt:191:57
 collect-sub-collect : (t : ℕ) → collect-lts.Need-sub-collect (claims t) (collect-at t) collect.Post
 collect-sub-collect t c =
-    let r = c .before .before .before .before .before .before .before .before .before .before .before .before .before .before .before .before .before .before .before .before .before .args in collect-more (r .arities .now) (r .s .now) (r .starts .now) (r .ends .now) (r .powers .now) (r .n) (r .at) (r .k) (r .minus) (c .before .before .before .before .before .before .before .before .before .before .before .before .before .before .before .before .if1 .left) (c .before .before .before .before .before .before .before .before .before .before .before .before .before .before .before .before .before .before .before .before .before .pre .1)
+    let c16 = c .before .before .before .before .before .before .before .before .before .before .before .before .before .before .before .before in
+    let c21 = c16 .before .before .before .before .before in
+    let r = c21 .args in collect-more (r .arities .now) (r .s .now) (r .starts .now) (r .ends .now) (r .powers .now) (r .n) (r .at) (r .k) (r .minus)
+    (c16 .if1 .left) (c21 .pre .1)
 
--- src/lib.rt:191:13
 collect-collect-requires-2 : (t : ℕ) → collect-lts.Need-collect-requires-2 (claims t) (collect-at t) collect.Post
 collect-collect-requires-2 t c κs =
-    let r = c .before .before .before .before .before .before .before .before .before .before .before .before .before .before .before .before .before .before .before .before .before .args in others-asks (r .arities .now) (r .s .now) (r .starts .now) (r .ends .now) (r .powers .now) (r .n) (r .at) (r .k) (r .minus) (c .before .before .before .before .before .before .before .before .before .before .before .before .before .before .before .before .if1 .left) _ _ _ _ (c .before .before .before .before .before .before .before .before .collect .kept .0) (c .before .before .before .before .before .before .before .before .collect .kept .1 .0) (c .before .before .before .before .before .before .before .before .collect .kept .1 .1 .0) (into-done (r .arities .now) (r .s .now) (r .starts .now) (r .ends .now) (r .powers .now) (r .n) (r .at) (r .k) (r .minus) (c .before .before .before .before .before .before .before .before .before .before .before .before .before .before .before .before .if1 .left) (c .before .before .before .before .before .before .before .before .before .before .before .before .before .m .given .0 .0) (c .before .before .before .before .before .before .before .before .before .before .before .before .before .m .given .0 .1 .0) (c .before .before .before .before .before .before .before .before .before .before .before .before .before .m .given .0 .1 .1 .0) (sym (c .before .before .before .before .before .before .before .before .before .before .before .before .before .before .before .way-at .ensures) ∙ c .before .before .before .before .before .before .before .before .before .before .before .before .before .m .given .1) _ _ _ _ (c .before .before .before .before .before .before .before .before .collect .ensures)) t (c .before .before .before .before .before .before .before .before .before .before .before .before .before .before .before .before .before .before .before .before .before .pre .0) (c .before .before .before .before .before .before .before .before .before .before .before .before .before .before .before .before .before .before .before .before .before .pre .1)
+    let c8 = c .before .before .before .before .before .before .before .before in
+    let c13 = c8 .before .before .before .before .before in
+    let c15 = c13 .before .before in
+    let c16 = c15 .before in
+    let c21 = c16 .before .before .before .before .before in
+    let r = c21 .args in others-asks (r .arities .now) (r .s .now) (r .starts .now) (r .ends .now) (r .powers .now) (r .n) (r .at) (r .k) (r .minus)
+    (c16 .if1 .left) _ _ _ _ (c8 .collect .kept .0) (c8 .collect .kept .1 .0) (c8 .collect .kept .1 .1 .0)
+    (into-done (r .arities .now) (r .s .now) (r .starts .now) (r .ends .now) (r .powers .now) (r .n) (r .at) (r .k) (r .minus) (c16 .if1 .left)
+    (c13 .m .given .0 .0) (c13 .m .given .0 .1 .0) (c13 .m .given .0 .1 .1 .0) (sym (c15 .way-at .ensures) ∙ c13 .m .given .1) _ _ _ _
+    (c8 .collect .ensures)) t (c21 .pre .0) (c21 .pre .1)
 
--- src/lib.rt:194:30
 collect-enum-told : (t : ℕ) → collect-lts.Need-enum-told (claims t) (collect-at t) collect.Post
 collect-enum-told t c = search needs
 
--- src/lib.rt:194:17
 collect-enter-at-requires : (t : ℕ) → collect-lts.Need-enter-at-requires (claims t) (collect-at t) collect.Post
 collect-enter-at-requires t c κs =
-    let r = c .before .before .before .before .before .before .before .before .before .before .before .args in factor-asks (r .arities .now) (r .s .now) (r .starts .now) (r .ends .now) (r .powers .now) (r .n) (r .at) (r .k) (r .minus) (c .before .before .before .before .before .before .if1 .left) (sym (c .before .before .before .before .before .way-at .ensures) ∙ c .before .before .before .enum-told .given .1) (c .before .before .before .before .before .before .before .before .before .before .before .pre .1)
+    let c3 = c .before .before .before in
+    let c5 = c3 .before .before in
+    let c6 = c5 .before in
+    let c11 = c6 .before .before .before .before .before in
+    let r = c11 .args in factor-asks (r .arities .now) (r .s .now) (r .starts .now) (r .ends .now) (r .powers .now) (r .n) (r .at) (r .k) (r .minus)
+    (c6 .if1 .left) (sym (c5 .way-at .ensures) ∙ c3 .enum-told .given .1) (c11 .pre .1)
 
--- src/lib.rt:195:57
 collect-sub-collect-2 : (t : ℕ) → collect-lts.Need-sub-collect-2 (claims t) (collect-at t) collect.Post
 collect-sub-collect-2 t c =
-    let r = c .before .before .before .before .before .before .before .before .before .before .before .before .before .before .before .before .before .before .before .before .args in collect-more (r .arities .now) (r .s .now) (r .starts .now) (r .ends .now) (r .powers .now) (r .n) (r .at) (r .k) (r .minus) (c .before .before .before .before .before .before .before .before .before .before .before .before .before .before .before .if1 .left) (c .before .before .before .before .before .before .before .before .before .before .before .before .before .before .before .before .before .before .before .before .pre .1)
+    let c15 = c .before .before .before .before .before .before .before .before .before .before .before .before .before .before .before in
+    let c20 = c15 .before .before .before .before .before in
+    let r = c20 .args in collect-more (r .arities .now) (r .s .now) (r .starts .now) (r .ends .now) (r .powers .now) (r .n) (r .at) (r .k) (r .minus)
+    (c15 .if1 .left) (c20 .pre .1)
 
--- src/lib.rt:195:13
 collect-collect-requires-3 : (t : ℕ) → collect-lts.Need-collect-requires-3 (claims t) (collect-at t) collect.Post
 collect-collect-requires-3 t c κs =
-    let r = c .before .before .before .before .before .before .before .before .before .before .before .before .before .before .before .before .before .before .before .before .args in others-asks (r .arities .now) (r .s .now) (r .starts .now) (r .ends .now) (r .powers .now) (r .n) (r .at) (r .k) (r .minus) (c .before .before .before .before .before .before .before .before .before .before .before .before .before .before .before .if1 .left) _ _ _ _ (c .before .before .before .before .before .before .before .before .enter-at .kept .0) (c .before .before .before .before .before .before .before .before .enter-at .kept .1 .0) (c .before .before .before .before .before .before .before .before .enter-at .kept .1 .1 .0) (factor-done (r .arities .now) (r .s .now) (r .starts .now) (r .ends .now) (r .powers .now) (r .n) (r .at) (r .k) (r .minus) (c .before .before .before .before .before .before .before .before .before .before .before .before .before .before .before .if1 .left) (sym (c .before .before .before .before .before .before .before .before .before .before .before .before .before .before .way-at .ensures) ∙ c .before .before .before .before .before .before .before .before .before .before .before .before .enum-told .given .1) _ _ _ _ (c .before .before .before .before .before .before .before .before .enter-at .ensures)) t (c .before .before .before .before .before .before .before .before .before .before .before .before .before .before .before .before .before .before .before .before .pre .0) (c .before .before .before .before .before .before .before .before .before .before .before .before .before .before .before .before .before .before .before .before .pre .1)
+    let c8 = c .before .before .before .before .before .before .before .before in
+    let c12 = c8 .before .before .before .before in
+    let c14 = c12 .before .before in
+    let c15 = c14 .before in
+    let c20 = c15 .before .before .before .before .before in
+    let r = c20 .args in others-asks (r .arities .now) (r .s .now) (r .starts .now) (r .ends .now) (r .powers .now) (r .n) (r .at) (r .k) (r .minus)
+    (c15 .if1 .left) _ _ _ _ (c8 .enter-at .kept .0) (c8 .enter-at .kept .1 .0) (c8 .enter-at .kept .1 .1 .0)
+    (factor-done (r .arities .now) (r .s .now) (r .starts .now) (r .ends .now) (r .powers .now) (r .n) (r .at) (r .k) (r .minus) (c15 .if1 .left)
+    (sym (c14 .way-at .ensures) ∙ c12 .enum-told .given .1) _ _ _ _ (c8 .enter-at .ensures)) t (c20 .pre .0) (c20 .pre .1)
 
--- src/lib.rt:171:1
 collect-same-length : (t : ℕ) → collect-lts.Need-same-length (claims t) (collect-at t) collect.Post
 collect-same-length t c =
-    c .before .before .before .before .before .collect2 .kept .0 ∙ c .before .before .before .before .before .before .before .before .before .before .before .before .before .before .collect .kept .0
+    let c5 = c .before .before .before .before .before in
+    let c14 = c5 .before .before .before .before .before .before .before .before .before in
+    c5 .collect2 .kept .0 ∙ c14 .collect .kept .0
 
--- src/lib.rt:171:1
 collect-same-length-2 : (t : ℕ) → collect-lts.Need-same-length-2 (claims t) (collect-at t) collect.Post
 collect-same-length-2 t c =
-    c .before .before .before .before .before .collect2 .kept .1 .0 ∙ c .before .before .before .before .before .before .before .before .before .before .before .before .before .before .collect .kept .1 .0
+    let c5 = c .before .before .before .before .before in
+    let c14 = c5 .before .before .before .before .before .before .before .before .before in
+    c5 .collect2 .kept .1 .0 ∙ c14 .collect .kept .1 .0
 
--- src/lib.rt:171:1
 collect-same-length-3 : (t : ℕ) → collect-lts.Need-same-length-3 (claims t) (collect-at t) collect.Post
 collect-same-length-3 t c =
-    c .before .before .before .before .before .collect2 .kept .1 .1 .0 ∙ c .before .before .before .before .before .before .before .before .before .before .before .before .before .before .collect .kept .1 .1 .0
+    let c5 = c .before .before .before .before .before in
+    let c14 = c5 .before .before .before .before .before .before .before .before .before in
+    c5 .collect2 .kept .1 .1 .0 ∙ c14 .collect .kept .1 .1 .0
 
--- src/lib.rt:171:1
 collect-returns-2 : (t : ℕ) → collect-lts.Need-returns-2 (claims t) (collect-at t) collect.Post
 collect-returns-2 t c =
-    let r = c .before .before .before .before .before .before .before .before .before .before .before .before .before .before .before .before .before .before .before .before .before .before .before .before .before .before .before .args in others-returns (r .arities .now) (r .s .now) (r .starts .now) (r .ends .now) (r .powers .now) (r .n) (r .at) (r .k) (r .minus) (c .before .before .before .before .before .before .before .before .before .before .before .before .before .before .before .before .before .before .before .before .before .before .if1 .left) _ _ _ _ (c .before .before .before .before .before .before .before .before .before .before .before .before .before .before .collect .kept .0) (c .before .before .before .before .before .before .before .before .before .before .before .before .before .before .collect .kept .1 .0) (c .before .before .before .before .before .before .before .before .before .before .before .before .before .before .collect .kept .1 .1 .0) (into-done (r .arities .now) (r .s .now) (r .starts .now) (r .ends .now) (r .powers .now) (r .n) (r .at) (r .k) (r .minus) (c .before .before .before .before .before .before .before .before .before .before .before .before .before .before .before .before .before .before .before .before .before .before .if1 .left) (c .before .before .before .before .before .before .before .before .before .before .before .before .before .before .before .before .before .before .before .m .given .0 .0) (c .before .before .before .before .before .before .before .before .before .before .before .before .before .before .before .before .before .before .before .m .given .0 .1 .0) (c .before .before .before .before .before .before .before .before .before .before .before .before .before .before .before .before .before .before .before .m .given .0 .1 .1 .0) (sym (c .before .before .before .before .before .before .before .before .before .before .before .before .before .before .before .before .before .before .before .before .before .way-at .ensures) ∙ c .before .before .before .before .before .before .before .before .before .before .before .before .before .before .before .before .before .before .before .m .given .1) _ _ _ _ (c .before .before .before .before .before .before .before .before .before .before .before .before .before .before .collect .ensures)) _ _ _ _ (c .before .before .before .before .before .collect2 .ensures)
+    let c5 = c .before .before .before .before .before in
+    let c14 = c5 .before .before .before .before .before .before .before .before .before in
+    let c19 = c14 .before .before .before .before .before in
+    let c21 = c19 .before .before in
+    let c22 = c21 .before in
+    let c27 = c22 .before .before .before .before .before in
+    let r = c27 .args in others-returns (r .arities .now) (r .s .now) (r .starts .now) (r .ends .now) (r .powers .now) (r .n) (r .at) (r .k) (r .minus)
+    (c22 .if1 .left) _ _ _ _ (c14 .collect .kept .0) (c14 .collect .kept .1 .0) (c14 .collect .kept .1 .1 .0)
+    (into-done (r .arities .now) (r .s .now) (r .starts .now) (r .ends .now) (r .powers .now) (r .n) (r .at) (r .k) (r .minus) (c22 .if1 .left)
+    (c19 .m .given .0 .0) (c19 .m .given .0 .1 .0) (c19 .m .given .0 .1 .1 .0) (sym (c21 .way-at .ensures) ∙ c19 .m .given .1) _ _ _ _
+    (c14 .collect .ensures)) _ _ _ _ (c5 .collect2 .ensures)
 
--- src/lib.rt:171:1
 collect-same-length-4 : (t : ℕ) → collect-lts.Need-same-length-4 (claims t) (collect-at t) collect.Post
 collect-same-length-4 t c =
-    c .before .before .before .before .before .collect3 .kept .0 ∙ c .before .before .before .before .before .before .before .before .before .before .before .before .before .before .enter-at .kept .0
+    let c5 = c .before .before .before .before .before in
+    let c14 = c5 .before .before .before .before .before .before .before .before .before in
+    c5 .collect3 .kept .0 ∙ c14 .enter-at .kept .0
 
--- src/lib.rt:171:1
 collect-same-length-5 : (t : ℕ) → collect-lts.Need-same-length-5 (claims t) (collect-at t) collect.Post
 collect-same-length-5 t c =
-    c .before .before .before .before .before .collect3 .kept .1 .0 ∙ c .before .before .before .before .before .before .before .before .before .before .before .before .before .before .enter-at .kept .1 .0
+    let c5 = c .before .before .before .before .before in
+    let c14 = c5 .before .before .before .before .before .before .before .before .before in
+    c5 .collect3 .kept .1 .0 ∙ c14 .enter-at .kept .1 .0
 
--- src/lib.rt:171:1
 collect-same-length-6 : (t : ℕ) → collect-lts.Need-same-length-6 (claims t) (collect-at t) collect.Post
 collect-same-length-6 t c =
-    c .before .before .before .before .before .collect3 .kept .1 .1 .0 ∙ c .before .before .before .before .before .before .before .before .before .before .before .before .before .before .enter-at .kept .1 .1 .0
+    let c5 = c .before .before .before .before .before in
+    let c14 = c5 .before .before .before .before .before .before .before .before .before in
+    c5 .collect3 .kept .1 .1 .0 ∙ c14 .enter-at .kept .1 .1 .0
 
--- src/lib.rt:171:1
 collect-returns-3 : (t : ℕ) → collect-lts.Need-returns-3 (claims t) (collect-at t) collect.Post
 collect-returns-3 t c =
-    let r = c .before .before .before .before .before .before .before .before .before .before .before .before .before .before .before .before .before .before .before .before .before .before .before .before .before .before .args in others-returns (r .arities .now) (r .s .now) (r .starts .now) (r .ends .now) (r .powers .now) (r .n) (r .at) (r .k) (r .minus) (c .before .before .before .before .before .before .before .before .before .before .before .before .before .before .before .before .before .before .before .before .before .if1 .left) _ _ _ _ (c .before .before .before .before .before .before .before .before .before .before .before .before .before .before .enter-at .kept .0) (c .before .before .before .before .before .before .before .before .before .before .before .before .before .before .enter-at .kept .1 .0) (c .before .before .before .before .before .before .before .before .before .before .before .before .before .before .enter-at .kept .1 .1 .0) (factor-done (r .arities .now) (r .s .now) (r .starts .now) (r .ends .now) (r .powers .now) (r .n) (r .at) (r .k) (r .minus) (c .before .before .before .before .before .before .before .before .before .before .before .before .before .before .before .before .before .before .before .before .before .if1 .left) (sym (c .before .before .before .before .before .before .before .before .before .before .before .before .before .before .before .before .before .before .before .before .way-at .ensures) ∙ c .before .before .before .before .before .before .before .before .before .before .before .before .before .before .before .before .before .before .enum-told .given .1) _ _ _ _ (c .before .before .before .before .before .before .before .before .before .before .before .before .before .before .enter-at .ensures)) _ _ _ _ (c .before .before .before .before .before .collect3 .ensures)
+    let c5 = c .before .before .before .before .before in
+    let c14 = c5 .before .before .before .before .before .before .before .before .before in
+    let c18 = c14 .before .before .before .before in
+    let c20 = c18 .before .before in
+    let c21 = c20 .before in
+    let c26 = c21 .before .before .before .before .before in
+    let r = c26 .args in others-returns (r .arities .now) (r .s .now) (r .starts .now) (r .ends .now) (r .powers .now) (r .n) (r .at) (r .k) (r .minus)
+    (c21 .if1 .left) _ _ _ _ (c14 .enter-at .kept .0) (c14 .enter-at .kept .1 .0) (c14 .enter-at .kept .1 .1 .0)
+    (factor-done (r .arities .now) (r .s .now) (r .starts .now) (r .ends .now) (r .powers .now) (r .n) (r .at) (r .k) (r .minus) (c21 .if1 .left)
+    (sym (c20 .way-at .ensures) ∙ c18 .enum-told .given .1) _ _ _ _ (c14 .enter-at .ensures)) _ _ _ _ (c5 .collect3 .ensures)
 
 pub +collect-spec : {M : Type 1} → statement M
 +collect-spec = close μ-collect λ t. collect-lts.spec (

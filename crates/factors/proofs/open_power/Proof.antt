@@ -7,8 +7,6 @@ use native.Mathlib.Omega.{arith}
 use Rattle.factors.proofs.EnterPaths.{Moving, moving-first, moving-next, moved}
 use Rattle.factors.proofs.open_power.Statement.{statement}
 use Rattle.factors.proofs.open_power.Tie as tie
-use Rattle.factors.proofs.open_power.Reads as reads
-use Rattle.factors.proofs.open_power.Lts as lts
 
 abbrev Inv-loop : tie.InvT-loop
 Inv-loop a₀ i n j₀ a j =
@@ -18,52 +16,44 @@ abbrev μ-loop : tie.MeasureT-loop
 μ-loop a₀ i n j₀ a j =
     j
 
--- src/lib.rt:81:5
 loop-holds : tie.Need-loop-holds Inv-loop μ-loop
 loop-holds c =
     (c .pre .0, moving-first (pos 0) _ _)
 
--- src/lib.rt:82:19
 sub-x : tie.Need-sub-x Inv-loop μ-loop
 sub-x c = search needs
 
--- src/lib.rt:82:17
 mul-x : tie.Need-mul-x Inv-loop μ-loop
 mul-x c = search needs
 
--- src/lib.rt:82:17
 slice-copy-out-x : tie.Need-slice-copy-out-x Inv-loop μ-loop
 slice-copy-out-x c =
     omega (arith, c .before .loop .inv .1 .long, c .before .loop .inv .1 .low)
 
--- src/lib.rt:83:9
 mul-x-2 : tie.Need-mul-x-2 Inv-loop μ-loop
 mul-x-2 c = search needs
 
--- src/lib.rt:83:9
 slice-set-from-x : tie.Need-slice-set-from-x Inv-loop μ-loop
 slice-set-from-x c =
     omega (arith, c .before .before .loop .inv .1 .long, c .before .before .loop .inv .1 .low)
 
--- src/lib.rt:84:9
 sub-j : tie.Need-sub-j Inv-loop μ-loop
 sub-j c = search needs
 
--- src/lib.rt:81:5
 loop-less : tie.Need-loop-less Inv-loop μ-loop
 loop-less c = search needs
 
--- src/lib.rt:81:5
 loop-again : tie.Need-loop-again Inv-loop μ-loop
-loop-again c =
-    (omega arith, moving-next (pos 0) _ _ _ _ _ (toZ-ofZ w32 _ (record { sfits = c .x .given })) (omega arith) (c .before .before .before .pre .1) (c .before .before .loop .inv .1))
+loop-again c = (
+  omega arith,
+  moving-next (pos 0) _ _ _ _ _ (toZ-ofZ w32 _ (record { sfits = c .x .given })) (omega arith) (c .before .before .before .pre .1)
+      (c .before .before .loop .inv .1),
+)
 
--- src/lib.rt:76:1
 same-length : tie.Need-same-length Inv-loop μ-loop
 same-length c =
     c .before .loop .inv .1 .long
 
--- src/lib.rt:76:1
 returns : tie.Need-returns Inv-loop μ-loop
 returns c =
     moved (pos 0) _ _ _ _ _ (c .before .loop .inv .0) (c .loop-test .left) (c .before .loop .inv .1)

@@ -5,8 +5,6 @@ use native.Mathlib.Omega.{arith}
 use Rattle.factors.proofs.EnterPaths.{Moving, moving-first, moving-next, moved}
 use Rattle.factors.proofs.open_row.Statement.{statement}
 use Rattle.factors.proofs.open_row.Tie as tie
-use Rattle.factors.proofs.open_row.Reads as reads
-use Rattle.factors.proofs.open_row.Lts as lts
 
 abbrev Inv-loop : tie.InvT-loop
 Inv-loop a₀ i n j₀ a j =
@@ -16,52 +14,41 @@ abbrev μ-loop : tie.MeasureT-loop
 μ-loop a₀ i n j₀ a j =
     j
 
--- src/lib.rt:69:5
 loop-holds : tie.Need-loop-holds Inv-loop μ-loop
 loop-holds c =
     (c .pre .0, moving-first 0 _ _)
 
--- src/lib.rt:70:19
 sub-x : tie.Need-sub-x Inv-loop μ-loop
 sub-x c = search needs
 
--- src/lib.rt:70:17
 mul-x : tie.Need-mul-x Inv-loop μ-loop
 mul-x c = search needs
 
--- src/lib.rt:70:17
 slice-read-x : tie.Need-slice-read-x Inv-loop μ-loop
 slice-read-x c =
     omega (arith, c .before .before .loop .inv .1 .long, c .before .before .loop .inv .1 .low)
 
--- src/lib.rt:71:9
 mul-a : tie.Need-mul-a Inv-loop μ-loop
 mul-a c = search needs
 
--- src/lib.rt:71:9
 slice-write-a : tie.Need-slice-write-a Inv-loop μ-loop
 slice-write-a c =
     omega (arith, c .before .before .loop .inv .1 .long, c .before .before .loop .inv .1 .low)
 
--- src/lib.rt:72:9
 sub-j : tie.Need-sub-j Inv-loop μ-loop
 sub-j c = search needs
 
--- src/lib.rt:69:5
 loop-less : tie.Need-loop-less Inv-loop μ-loop
 loop-less c = search needs
 
--- src/lib.rt:69:5
 loop-again : tie.Need-loop-again Inv-loop μ-loop
 loop-again c =
     (omega arith, moving-next 0 _ _ _ _ _ refl (omega arith) (c .before .before .before .pre .1) (c .before .before .loop .inv .1))
 
--- src/lib.rt:64:1
 same-length : tie.Need-same-length Inv-loop μ-loop
 same-length c =
     c .before .loop .inv .1 .long
 
--- src/lib.rt:64:1
 returns : tie.Need-returns Inv-loop μ-loop
 returns c =
     moved 0 _ _ _ _ _ (c .before .loop .inv .0) (c .loop-test .left) (c .before .loop .inv .1)

@@ -2,15 +2,11 @@ use mathlib.Core.Path.{sym, ap}
 use Rattle.message.specs.Gather.{sign}
 use Rattle.factors.proofs.unit.Statement.{statement}
 use Rattle.factors.proofs.unit.Tie as tie
-use Rattle.factors.proofs.unit.Reads as reads
-use Rattle.factors.proofs.unit.Lts as lts
 
--- src/lib.rt:89:1
 returns : tie.Need-returns
 returns c =
     sym (ap sign (c .if1 .taken))
 
--- src/lib.rt:89:1
 returns-2 : tie.Need-returns-2
 returns-2 c =
     sym (ap sign (c .if1 .left))

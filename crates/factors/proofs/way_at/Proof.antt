@@ -4,64 +4,61 @@ use Rattle.factors.specs.Way.{wayOf}
 use borrow.Author.Needs.{needs}
 use Rattle.factors.proofs.way_at.Statement.{statement}
 use Rattle.factors.proofs.way_at.Tie as tie
-use Rattle.factors.proofs.way_at.Reads as reads
-use Rattle.factors.proofs.way_at.Lts as lts
-use Rattle.term.proofs.symbol_at.Reads as symbol-at-reads
 
--- src/lib.rt:132:11
 symbol-at-requires : tie.Need-symbol-at-requires
 symbol-at-requires c κs = search needs
 
--- src/lib.rt:133:34
 enum-told : tie.Need-enum-told
 enum-told c = search needs
 
--- src/lib.rt:134:20
 enum-known-t : tie.Need-enum-known-t
 enum-known-t c = search needs
 
--- src/lib.rt:136:41
 cast-t11 : tie.Need-cast-t11
 cast-t11 c = search needs
 
--- src/lib.rt:136:17
 returns : tie.Need-returns
 returns c =
-    way-one _ _ _ _ (c .if1 .taken) ∙ ap (wayOf (c .before .before .before .before .before .before .before .args .minus)) (sym (c .before .before .t .given .1) ∙ c .before .before .before .before .symbol-at .ensures)
+    let c4 = c .before .before .before .before in
+    let c7 = c4 .before .before .before in
+    way-one _ _ _ _ (c .if1 .taken) ∙ ap (wayOf (c7 .args .minus)) (sym (c .before .before .t .given .1) ∙ c4 .symbol-at .ensures)
 
--- src/lib.rt:139:41
 cast-t12 : tie.Need-cast-t12
 cast-t12 c = search needs
 
--- src/lib.rt:139:17
 returns-2 : tie.Need-returns-2
 returns-2 c =
-    way-mul _ _ _ _ (c .before .if1 .left) (c .if2 .taken) ∙ ap (wayOf (c .before .before .before .before .before .before .before .before .args .minus)) (sym (c .before .before .before .t .given .1) ∙ c .before .before .before .before .before .symbol-at .ensures)
+    let c3 = c .before .before .before in
+    let c5 = c3 .before .before in
+    let c8 = c5 .before .before .before in
+    way-mul _ _ _ _ (c .before .if1 .left) (c .if2 .taken) ∙ ap (wayOf (c8 .args .minus)) (sym (c3 .t .given .1) ∙ c5 .symbol-at .ensures)
 
--- src/lib.rt:142:42
 cast-t14 : tie.Need-cast-t14
 cast-t14 c = search needs
 
--- src/lib.rt:142:17
 returns-3 : tie.Need-returns-3
 returns-3 c =
-    way-inv _ _ _ _ (c .before .before .if1 .left) (c .before .if2 .left) (c .if3 .taken) ∙ ap (wayOf (c .before .before .before .before .before .before .before .before .before .args .minus)) (sym (c .before .before .before .before .t .given .1) ∙ c .before .before .before .before .before .before .symbol-at .ensures)
+    let c4 = c .before .before .before .before in
+    let c6 = c4 .before .before in
+    let c9 = c6 .before .before .before in
+    way-inv _ _ _ _ (c .before .before .if1 .left) (c .before .if2 .left) (c .if3 .taken) ∙ ap (wayOf (c9 .args .minus))
+    (sym (c4 .t .given .1) ∙ c6 .symbol-at .ensures)
 
--- src/lib.rt:146:26
 enum-told-2 : tie.Need-enum-told-2
 enum-told-2 c = search needs
 
--- src/lib.rt:129:1
 returns-4 : tie.Need-returns-4
 returns-4 c =
     ap (wayOf (c .before .before .before .before .before .args .minus)) (sym (c .enum-told .given .1) ∙ c .before .before .symbol-at .ensures)
 
--- src/lib.rt:129:1
 returns-5 : tie.Need-returns-5
 returns-5 c =
-    way-other (c .before .before .before .before .before .before .before .before .before .args .minus) _ (c .before .before .before .before .t .given .0 .1 .0) (c .before .before .before .before .t .given .0 .1 .1 .0) (c .before .before .if1 .left) (c .before .if2 .left) (c .if3 .left) ∙ ap (wayOf (c .before .before .before .before .before .before .before .before .before .args .minus)) (sym (c .before .before .before .before .t .given .1) ∙ c .before .before .before .before .before .before .symbol-at .ensures)
+    let c4 = c .before .before .before .before in
+    let c6 = c4 .before .before in
+    let c9 = c6 .before .before .before in
+    way-other (c9 .args .minus) _ (c4 .t .given .0 .1 .0) (c4 .t .given .0 .1 .1 .0) (c .before .before .if1 .left) (c .before .if2 .left) (c .if3 .left) ∙ ap
+    (wayOf (c9 .args .minus)) (sym (c4 .t .given .1) ∙ c6 .symbol-at .ensures)
 
--- src/lib.rt:129:1
 returns-6 : tie.Need-returns-6
 returns-6 c =
     ap (wayOf (c .before .before .before .before .before .args .minus)) (sym (c .enum-told2 .given .1) ∙ c .before .before .symbol-at .ensures)

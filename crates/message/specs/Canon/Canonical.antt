@@ -10,14 +10,16 @@ use Rattle.message.specs.Functions.{one, exp}
 use Rattle.message.specs.Product.{Exps, empty, part, Ascending, build}
 use Rattle.message.specs.Substitution.{sub, subs, Occurs, Occurss}
 use Rattle.message.specs.Canonical.{CanonicalBy, Factor, name, node, Canonicals, noArg, arg}
-use Rattle.message.specs.Canonical.Laws.{entries-atoms, canonical-build, factor-canonical, factor-args, two-args, canonical-is, canonical-entries, sums-entries, canonical-factor}
+use Rattle.message.specs.Canonical.Laws.{entries-atoms, canonical-build, factor-canonical, factor-args, two-args}
+use Rattle.message.specs.Canonical.Laws.{canonical-is, canonical-entries, sums-entries, canonical-factor}
 use Rattle.message.specs.Rules.{Rule, Ordinary, Constructors, Constructorss, Result, aVariable, aConstant, Theory, WF, WFs, Irreducible}
 use Rattle.message.specs.Parts.{add, neg, Role, role, parts, sums}
 use Rattle.message.specs.Parts.Ascending.{asc-add, asc-neg, parts-asc, sums-asc}
 use Rattle.message.specs.Parts.Entries.{Entries, entries-add, entries-neg}
 use Rattle.message.specs.Parts.Laws.{formed-parts, parts-build}
 use Rattle.message.specs.Canon.{Two, not, two, as2, baseOf, expoOf, raise, mkExp, reduceAt, mkAt, mk, canonBy, canonsBy}
-use Rattle.message.specs.Canon.Views.{tag, RoleOf, is-one, is-exp, is-inv, is-mul, is-plain, roleOf, ordinary-role, As2, isTwo, isNot, as2-view, on2-ind, Plainly, stays, reduces, plainly}
+use Rattle.message.specs.Canon.Views.{tag, RoleOf, is-one, is-exp, is-inv, is-mul, is-plain, roleOf, ordinary-role}
+use Rattle.message.specs.Canon.Views.{As2, isTwo, isNot, as2-view, on2-ind, Plainly, stays, reduces, plainly}
 use Rattle.message.specs.Canon.Keeps.{formed-kept, expo-in, app-formed}
 
 pub expo-asc : (o : Two) → Ascending (expoOf o)

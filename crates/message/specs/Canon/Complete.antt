@@ -11,12 +11,14 @@ use Rattle.message.specs.Product.{Exps, empty, part, Ascending, build}
 use Rattle.message.specs.Substitution.{sub, subs}
 use Rattle.message.specs.Canonical.{CanonicalBy}
 use Rattle.message.specs.Canonical.Laws.{entries-atoms, canonical-is}
-use Rattle.message.specs.Rules.{Rule, Ordinary, Constructors, Constructorss, Result, aVariable, aConstant, Theory, WF, Tabled, reduce, assoc, comm, unit, cancel, double, tower, first, SameIn, SamesIn, Irreducible}
+use Rattle.message.specs.Rules.{Rule, Ordinary, Constructors, Constructorss, Result, aVariable, aConstant, Theory, WF, Tabled, reduce}
+use Rattle.message.specs.Rules.{assoc, comm, unit, cancel, double, tower, first, SameIn, SamesIn, Irreducible}
 use Rattle.message.specs.Parts.{add, Role, parts}
 use Rattle.message.specs.Parts.Coefficients.{coef, add-coef}
 use Rattle.message.specs.Parts.Ascending.{asc-add, parts-asc}
 use Rattle.message.specs.Parts.Entries.{Entries, Atom, entries-add, parts-atoms}
-use Rattle.message.specs.Parts.Laws.{mul-coef, inv-coef, build-coef, ext, formed-one, formed-inv, formed-mul, formed-build, formed-parts, parts-build, parts-ext}
+use Rattle.message.specs.Parts.Laws.{mul-coef, inv-coef, build-coef, ext, formed-one, formed-inv}
+use Rattle.message.specs.Parts.Laws.{formed-mul, formed-build, formed-parts, parts-build, parts-ext}
 use Rattle.message.specs.Canon.{Two, not, as2, baseOf, expoOf, raise, mkExp, reduceAt, mkAt, mk, canonBy, canonsBy}
 use Rattle.message.specs.Canon.Views.{ordinary-role, As2, isTwo, isNot, as2-view, reduce-hit}
 use Rattle.message.specs.Canon.Keeps.{canon-formed}

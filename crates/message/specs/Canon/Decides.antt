@@ -16,7 +16,8 @@ use Rattle.message.specs.Parts.Coefficients.{coef}
 use Rattle.message.specs.Parts.Entries.{Each, Entries, each-ups, each-downs}
 use Rattle.message.specs.Parts.Laws.{mul-coef, inv-coef, parts-build, parts-ext}
 use Rattle.message.specs.Canon.{Two, as2, baseOf, expoOf, raise, mkExp, reduceAt, mkAt, mk, canonBy, canonsBy}
-use Rattle.message.specs.Canon.Views.{RoleOf, is-one, is-exp, is-inv, is-mul, is-plain, roleOf, As2, isTwo, isNot, as2-view, on2-ind, Plainly, stays, reduces, plainly}
+use Rattle.message.specs.Canon.Views.{RoleOf, is-one, is-exp, is-inv, is-mul, is-plain, roleOf, As2}
+use Rattle.message.specs.Canon.Views.{isTwo, isNot, as2-view, on2-ind, Plainly, stays, reduces, plainly}
 use Rattle.message.specs.Canon.Keeps.{canon-formed}
 use Rattle.message.specs.Canon.Canonical.{canon-canonical, arity-count}
 use Rattle.message.specs.Canon.Complete.{complete, norm-coef}

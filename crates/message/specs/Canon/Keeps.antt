@@ -15,7 +15,8 @@ use Rattle.message.specs.Parts.{add, neg, Role, role, parts, sums}
 use Rattle.message.specs.Parts.Entries.{Each, Entries, entries-add, entries-neg, of-build, parts-each, sums-each}
 use Rattle.message.specs.Parts.Laws.{formed-each, formed-exp, formed-inv, formed-mul}
 use Rattle.message.specs.Canon.{Two, as2, baseOf, expoOf, raise, on2, mkExp, reduceAt, mkAt, mk, canonBy, canonsBy}
-use Rattle.message.specs.Canon.Views.{RoleOf, is-one, is-exp, is-inv, is-mul, is-plain, roleOf, As2, isTwo, isNot, as2-view, Plainly, stays, reduces, plainly}
+use Rattle.message.specs.Canon.Views.{RoleOf, is-one, is-exp, is-inv, is-mul, is-plain, roleOf, As2}
+use Rattle.message.specs.Canon.Views.{isTwo, isNot, as2-view, Plainly, stays, reduces, plainly}
 
 pub canons-count : (rule : ℕ → Option Rule) (ts : Terms) → count (canonsBy rule ts) ≡ count ts
 canons-count rule nil = refl

@@ -11,7 +11,8 @@ use Rattle.message.specs.Parts.{add, Role, role, parts}
 use Rattle.message.specs.Parts.Entries.{Entries, entries-add}
 use Rattle.message.specs.Parts.Laws.{formed-each, formed-one, formed-exp, formed-parts}
 use Rattle.message.specs.Canon.{Two, as2, baseOf, expoOf, raise, mkExp, reduceAt, mkAt, mk, canonBy, canonsBy}
-use Rattle.message.specs.Canon.Views.{RoleOf, is-one, is-exp, is-inv, is-mul, is-plain, roleOf, As2, isTwo, isNot, as2-view, on2-ind, Plainly, stays, reduces, plainly}
+use Rattle.message.specs.Canon.Views.{RoleOf, is-one, is-exp, is-inv, is-mul, is-plain, roleOf, As2}
+use Rattle.message.specs.Canon.Views.{isTwo, isNot, as2-view, on2-ind, Plainly, stays, reduces, plainly}
 use Rattle.message.specs.Canon.Keeps.{formed-kept, base-in, result-in, app-formed}
 use Rattle.message.specs.Canon.Canonical.{arity-count, expo-formed}
 use Rattle.message.specs.Canon.Group.{W, _⊗_, cge}

@@ -16,7 +16,8 @@ use Rattle.message.specs.Parts.Entries.{Each, Entries, entries-add, each
 use Rattle.message.specs.Parts.Laws.{order-eq, formed-one, formed-mul, formed-parts, formed-sums}
 use Rattle.message.specs.Canon.Views.{RoleOf, is-one, is-exp, is-inv, is-mul, is-plain, roleOf}
 use Rattle.message.specs.Canon.Canonical.{arity-count}
-use Rattle.message.specs.Canon.Group.{powN, pow, W, _⊗_, i, 𝟙, rf, cg, cgi, ⊗-assoc, ⊗-unit, ⊗-inv, ⊗-unitl, ⊗-swap, i-one, i-⊗, powN-formed, pow-formed, N, Z, pow-add, pow-neg}
+use Rattle.message.specs.Canon.Group.{powN, pow, W, _⊗_, i, 𝟙, rf, cg, cgi, ⊗-assoc, ⊗-unit}
+use Rattle.message.specs.Canon.Group.{⊗-inv, ⊗-unitl, ⊗-swap, i-one, i-⊗, powN-formed, pow-formed, N, Z, pow-add, pow-neg}
 
 -- the product, before it is laid out
 abbrev pub val : Exps → Term

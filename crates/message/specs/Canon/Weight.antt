@@ -17,7 +17,8 @@ use Rattle.message.specs.Parts.{keep, place, insert, add, neg, Role, rol
 use Rattle.message.specs.Parts.Entries.{Entries, entries-add}
 use Rattle.message.specs.Parts.Laws.{order-eq, formed-parts, formed-sums}
 use Rattle.message.specs.Canon.{Two, as2, baseOf, expoOf, raise, mkExp, reduceAt, mkAt, mk, canonBy, canonsBy}
-use Rattle.message.specs.Canon.Views.{RoleOf, is-one, is-exp, is-inv, is-mul, is-plain, roleOf, As2, isTwo, isNot, as2-view, on2-ind, Plainly, stays, reduces, plainly}
+use Rattle.message.specs.Canon.Views.{RoleOf, is-one, is-exp, is-inv, is-mul, is-plain, roleOf, As2}
+use Rattle.message.specs.Canon.Views.{isTwo, isNot, as2-view, on2-ind, Plainly, stays, reduces, plainly}
 use Rattle.message.specs.Canon.Keeps.{app-formed}
 use Rattle.message.specs.Canon.Canonical.{arity-count}
 

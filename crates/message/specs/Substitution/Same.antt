@@ -4,7 +4,8 @@ use Prim.Native.Nat.{ℕ}
 use mathlib.Core.Path.{_≡_, refl, ap, ap₂}
 use mathlib.Core.Option.{Option}
 use Rattle.term.specs.Term.{variable, public, fresh, Term, leaf, app, Terms, nil, _&_, Formed}
-use Rattle.message.specs.Equations.{Figure2, dec-enc, fst-pair, snd-pair, mul-assoc, mul-comm, mul-one, mul-inv, inv-inv, exp-exp, exp-one, Congruences, equation, reflexive, symmetric, transitive, congruent, same-none, same-more, Same}
+use Rattle.message.specs.Equations.{Figure2, dec-enc, fst-pair, snd-pair, mul-assoc, mul-comm, mul-one, mul-inv, inv-inv, exp-exp}
+use Rattle.message.specs.Equations.{exp-one, Congruences, equation, reflexive, symmetric, transitive, congruent, same-none, same-more, Same}
 use Rattle.message.specs.Substitution.{sub, subs, Ground, Grounds}
 use Rattle.message.specs.Substitution.Laws.{sub-formed}
 

@@ -13,7 +13,8 @@ use Rattle.message.specs.Functions.{enc, pair}
 use Rattle.message.specs.Equations.{Figure2, dec-enc, fst-pair, snd-pair, mul-assoc, mul-comm, mul-one, mul-inv, inv-inv, exp-exp, exp-one}
 use Rattle.message.specs.Substitution.{sub}
 use Rattle.message.specs.Canonical.{Settled}
-use Rattle.message.specs.Rules.{Rule, Ordinary, aVariable, FitRule, FitArities, Theory, Tabled, reduce, assoc, comm, unit, cancel, double, tower, first, Irreducible}
+use Rattle.message.specs.Rules.{Rule, Ordinary, aVariable, FitRule, FitArities, Theory, Tabled, reduce}
+use Rattle.message.specs.Rules.{assoc, comm, unit, cancel, double, tower, first, Irreducible}
 use Rattle.message.specs.Table.{Table, end, row, lookup, x, y, figure, rules}
 
 -- ── what holds of every row ──

@@ -27,7 +27,6 @@ abbrev read-groups-below : ℕ → In 1 read-groups-kinds.ps
 read-groups-below t =
     and 1 read-groups-kinds.ps (falls 1 read-groups-kinds.ps _<_ μ-read-groups t) read-groups.Pre
 
--- src/lib.rt:41:9
 read-groups-returns : (t : ℕ) → read-groups-lts.Need-returns (
   read-groups-below t,
   read-groups.Post,
@@ -37,7 +36,6 @@ read-groups-returns : (t : ℕ) → read-groups-lts.Need-returns (
 read-groups-returns t c =
     sym (now-none (c .before .before .args .left) (now (c .before .before .args .s)) (c .before .before .args .at) (c .if1 .taken))
 
--- src/lib.rt:44:9
 read-groups-returns-2 : (t : ℕ) → read-groups-lts.Need-returns-2 (
   read-groups-below t,
   read-groups.Post,
@@ -45,9 +43,9 @@ read-groups-returns-2 : (t : ℕ) → read-groups-lts.Need-returns-2 (
   longer-reads.Learnt,
 ) (read-groups-at t) read-groups.Post
 read-groups-returns-2 t c =
-    sym (now-end (now (c .before .before .before .args .s)) (c .before .before .before .args .at) (c .before .before .before .args .left) (c .if2 .taken))
+    let c3 = c .before .before .before in
+    sym (now-end (now (c3 .args .s)) (c3 .args .at) (c3 .args .left) (c .if2 .taken))
 
--- src/lib.rt:46:13
 read-groups-shared-slice-read-b : (t : ℕ) → read-groups-lts.Need-shared-slice-read-b (
   read-groups-below t,
   read-groups.Post,
@@ -57,7 +55,6 @@ read-groups-shared-slice-read-b : (t : ℕ) → read-groups-lts.Need-shared-slic
 read-groups-shared-slice-read-b t c =
     search needs
 
--- src/lib.rt:48:30
 read-groups-cast-t11 : (t : ℕ) → read-groups-lts.Need-cast-t11 (
   read-groups-below t,
   read-groups.Post,
@@ -67,7 +64,6 @@ read-groups-cast-t11 : (t : ℕ) → read-groups-lts.Need-cast-t11 (
 read-groups-cast-t11 t c =
     omega arith
 
--- src/lib.rt:48:40
 read-groups-add-t12 : (t : ℕ) → read-groups-lts.Need-add-t12 (
   read-groups-below t,
   read-groups.Post,
@@ -77,7 +73,6 @@ read-groups-add-t12 : (t : ℕ) → read-groups-lts.Need-add-t12 (
 read-groups-add-t12 t c =
     omega arith
 
--- src/lib.rt:48:9
 read-groups-returns-3 : (t : ℕ) → read-groups-lts.Need-returns-3 (
   read-groups-below t,
   read-groups.Post,
@@ -85,9 +80,10 @@ read-groups-returns-3 : (t : ℕ) → read-groups-lts.Need-returns-3 (
   longer-reads.Learnt,
 ) (read-groups-at t) read-groups.Post
 read-groups-returns-3 t c =
-    sym (now-one (now (c .before .before .before .before .before .args .s)) (c .before .before .before .before .before .args .at) (c .before .before .before .before .before .args .left) (c .before .before .before .if1 .left) (omega arith) (c .if3 .taken))
+    let c3 = c .before .before .before in
+    let c5 = c3 .before .before in
+    sym (now-one (now (c5 .args .s)) (c5 .args .at) (c5 .args .left) (c3 .if1 .left) (omega arith) (c .if3 .taken))
 
--- src/lib.rt:50:26
 read-groups-add-read-groups : (t : ℕ) → read-groups-lts.Need-add-read-groups (
   read-groups-below t,
   read-groups.Post,
@@ -97,7 +93,6 @@ read-groups-add-read-groups : (t : ℕ) → read-groups-lts.Need-add-read-groups
 read-groups-add-read-groups t c =
     omega arith
 
--- src/lib.rt:50:34
 read-groups-sub-read-groups : (t : ℕ) → read-groups-lts.Need-sub-read-groups (
   read-groups-below t,
   read-groups.Post,
@@ -107,7 +102,6 @@ read-groups-sub-read-groups : (t : ℕ) → read-groups-lts.Need-sub-read-groups
 read-groups-sub-read-groups t c =
     omega arith
 
--- src/lib.rt:50:11
 read-groups-read-groups-requires : (t : ℕ) → read-groups-lts.Need-read-groups-requires (
   read-groups-below t,
   read-groups.Post,
@@ -117,7 +111,6 @@ read-groups-read-groups-requires : (t : ℕ) → read-groups-lts.Need-read-group
 read-groups-read-groups-requires t c κs =
     (omega arith, omega arith)
 
--- src/lib.rt:51:23
 read-groups-enum-known-v : (t : ℕ) → read-groups-lts.Need-enum-known-v (
   read-groups-below t,
   read-groups.Post,
@@ -127,7 +120,6 @@ read-groups-enum-known-v : (t : ℕ) → read-groups-lts.Need-enum-known-v (
 read-groups-enum-known-v t c =
     search needs
 
--- src/lib.rt:51:32
 read-groups-longer-requires : (t : ℕ) → read-groups-lts.Need-longer-requires (
   read-groups-below t,
   read-groups.Post,
@@ -135,9 +127,15 @@ read-groups-longer-requires : (t : ℕ) → read-groups-lts.Need-longer-requires
   longer-reads.Learnt,
 ) (read-groups-at t) read-groups.Post
 read-groups-longer-requires t c κs =
-    (c .before .before .before .before .if3 .left, in-small (now (c .before .before .before .before .before .before .before .before .before .args .s)) (λ i. omega (arith, c .before .before .before .before .before .shared-slice-known2 .given i)) (c .before .before .before .before .before .before .before .before .before .args .left - 1) (c .before .before .before .before .before .before .before .before .before .args .at + 1) _ _ (omega arith) (sym (c .before .before .before .read-groups .ensures) ∙ ap asRead (c .before .v .given .1)))
+    let c3 = c .before .before .before in
+    let c4 = c3 .before in
+    let c5 = c4 .before in
+    let c9 = c5 .before .before .before .before in (
+      c4 .if3 .left,
+      in-small (now (c9 .args .s)) (λ i. omega (arith, c5 .shared-slice-known2 .given i)) (c9 .args .left - 1) (c9 .args .at + 1) _ _
+          (omega arith) (sym (c3 .read-groups .ensures) ∙ ap asRead (c .before .v .given .1)),
+    )
 
--- src/lib.rt:52:26
 read-groups-enum-told : (t : ℕ) → read-groups-lts.Need-enum-told (
   read-groups-below t,
   read-groups.Post,
@@ -147,7 +145,6 @@ read-groups-enum-told : (t : ℕ) → read-groups-lts.Need-enum-told (
 read-groups-enum-told t c =
     search needs
 
--- src/lib.rt:36:1
 read-groups-returns-4 : (t : ℕ) → read-groups-lts.Need-returns-4 (
   read-groups-below t,
   read-groups.Post,
@@ -155,10 +152,14 @@ read-groups-returns-4 : (t : ℕ) → read-groups-lts.Need-returns-4 (
   longer-reads.Learnt,
 ) (read-groups-at t) read-groups.Post
 read-groups-returns-4 t c =
-    let a = c .before .before .before .before .before .before .before .before .before .before .args in
-    c .longer .ensures ∙ sym (now-more (now (a .s)) (a .at) (a .left) (c .before .before .before .before .before .before .before .before .if1 .left) (omega arith) (c .before .before .before .before .before .if3 .left) ∙ ap (longer _) (sym (c .before .before .before .before .read-groups .ensures) ∙ ap asRead (c .before .before .v .given .1)))
+    let c4 = c .before .before .before .before in
+    let c5 = c4 .before in
+    let c8 = c5 .before .before .before in
+    let c10 = c8 .before .before in
+    let a = c10 .args in
+    c .longer .ensures ∙ sym (now-more (now (a .s)) (a .at) (a .left) (c8 .if1 .left) (omega arith) (c5 .if3 .left) ∙ ap (longer _)
+    (sym (c4 .read-groups .ensures) ∙ ap asRead (c .before .before .v .given .1)))
 
--- src/lib.rt:36:1
 read-groups-returns-5 : (t : ℕ) → read-groups-lts.Need-returns-5 (
   read-groups-below t,
   read-groups.Post,
@@ -166,8 +167,12 @@ read-groups-returns-5 : (t : ℕ) → read-groups-lts.Need-returns-5 (
   longer-reads.Learnt,
 ) (read-groups-at t) read-groups.Post
 read-groups-returns-5 t c =
-    let a = c .before .before .before .before .before .before .before .before .args in
-    sym (now-more (now (a .s)) (a .at) (a .left) (c .before .before .before .before .before .before .if1 .left) (omega arith) (c .before .before .before .if3 .left) ∙ ap (longer _) (sym (c .before .before .read-groups .ensures) ∙ ap asRead (c .enum-told .given .1)))
+    let c3 = c .before .before .before in
+    let c6 = c3 .before .before .before in
+    let c8 = c6 .before .before in
+    let a = c8 .args in
+    sym (now-more (now (a .s)) (a .at) (a .left) (c6 .if1 .left) (omega arith) (c3 .if3 .left) ∙ ap (longer _)
+    (sym (c .before .before .read-groups .ensures) ∙ ap asRead (c .enum-told .given .1)))
 
 pub +read-groups-spec : {M : Type 1} → statement M
 +read-groups-spec = close μ-read-groups λ t. read-groups-lts.spec (

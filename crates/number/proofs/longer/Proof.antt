@@ -3,31 +3,23 @@ use Rattle.number.specs.Reading.Numbers.{longer-zero, longer-some}
 use borrow.Author.Needs.{needs}
 use Rattle.number.proofs.longer.Statement.{statement}
 use Rattle.number.proofs.longer.Tie as tie
-use Rattle.number.proofs.longer.Reads as reads
-use Rattle.number.proofs.longer.Lts as lts
 
--- src/lib.rt:30:9
 returns : tie.Need-returns
 returns c =
     sym (longer-zero (c .before .args .b) (c .before .args .v) (c .before .args .e) (c .if1 .taken))
 
--- src/lib.rt:32:20
 sub-t5 : tie.Need-sub-t5
 sub-t5 c = search needs
 
--- src/lib.rt:32:19
 cast-t6 : tie.Need-cast-t6
 cast-t6 c = search needs
 
--- src/lib.rt:32:38
 mul-t7 : tie.Need-mul-t7
 mul-t7 c = search needs
 
--- src/lib.rt:32:19
 add-t8 : tie.Need-add-t8
 add-t8 c = search needs
 
--- src/lib.rt:25:1
 returns-2 : tie.Need-returns-2
 returns-2 c =
     sym (longer-some (c .before .args .b) (c .before .args .v) (c .before .args .e) (c .if1 .left))

@@ -6,8 +6,6 @@ use lib.ListN.{length}
 use Prim.Native.Nat.{_+_}
 use Rattle.number.proofs.number_len.Statement.{statement}
 use Rattle.number.proofs.number_len.Tie as tie
-use Rattle.number.proofs.number_len.Reads as reads
-use Rattle.number.proofs.number_len.Lts as lts
 
 abbrev Inv-loop : tie.InvT-loop
 Inv-loop n rest₀ len₀ rest len =
@@ -17,27 +15,22 @@ abbrev μ-loop : tie.MeasureT-loop
 μ-loop n rest₀ len₀ rest len =
     rest
 
--- src/lib.rt:84:5
 loop-holds : tie.Need-loop-holds Inv-loop μ-loop
 loop-holds c =
     omega arith
 
--- src/lib.rt:86:9
 add-len : tie.Need-add-len Inv-loop μ-loop
 add-len c =
     omega (arith, groups-short (c .before .before .args .n))
 
--- src/lib.rt:84:5
 loop-less : tie.Need-loop-less Inv-loop μ-loop
 loop-less c =
     omega arith
 
--- src/lib.rt:84:5
 loop-again : tie.Need-loop-again Inv-loop μ-loop
 loop-again c =
     omega (arith, ap length (groups-more (c .before .loop .rest) (c .loop-test .taken)))
 
--- src/lib.rt:79:1
 returns : tie.Need-returns Inv-loop μ-loop
 returns c =
     omega (arith, ap length (groups-one (c .before .loop .rest) (c .loop-test .left)))

@@ -9,8 +9,6 @@ use lib.ListN.{length, length-set}
 use Prim.Native.Nat.{_+_}
 use Rattle.number.proofs.write_number.Statement.{statement}
 use Rattle.number.proofs.write_number.Tie as tie
-use Rattle.number.proofs.write_number.Reads as reads
-use Rattle.number.proofs.write_number.Lts as lts
 
 abbrev Inv-loop : tie.InvT-loop
 Inv-loop out₀ at n rest₀ i₀ out rest i =
@@ -20,34 +18,27 @@ abbrev μ-loop : tie.MeasureT-loop
 μ-loop out₀ at n rest₀ i₀ out rest i =
     rest
 
--- src/lib.rt:99:5
 loop-holds : tie.Need-loop-holds Inv-loop μ-loop
 loop-holds c =
     (refl, refl, refl)
 
--- src/lib.rt:100:19
 add-out : tie.Need-add-out Inv-loop μ-loop
 add-out c = search needs
 
--- src/lib.rt:100:18
 cast-out : tie.Need-cast-out Inv-loop μ-loop
 cast-out c = search needs
 
--- src/lib.rt:100:9
 slice-write-out : tie.Need-slice-write-out Inv-loop μ-loop
 slice-write-out c =
     omega (arith, groups-some (c .before .loop .rest))
 
--- src/lib.rt:102:9
 add-i : tie.Need-add-i Inv-loop μ-loop
 add-i c =
     omega (arith, groups-some (c .before .loop .rest))
 
--- src/lib.rt:99:5
 loop-less : tie.Need-loop-less Inv-loop μ-loop
 loop-less c = search needs
 
--- src/lib.rt:99:5
 loop-again : tie.Need-loop-again Inv-loop μ-loop
 loop-again c =
     let l = c .before .loop in
@@ -55,26 +46,21 @@ loop-again c =
     let len = ap length g in
     (simp length-set (l .inv .0), omega arith, splice-cons (l .out) (l .i) _ _ (omega arith) ∙ ap (splice (l .out) (l .i)) (sym g) ∙ l .inv .2)
 
--- src/lib.rt:104:14
 cast-out-2 : tie.Need-cast-out-2 Inv-loop μ-loop
 cast-out-2 c = search needs
 
--- src/lib.rt:104:5
 slice-write-out-2 : tie.Need-slice-write-out-2 Inv-loop μ-loop
 slice-write-out-2 c =
     omega (arith, groups-some (c .before .loop .rest))
 
--- src/lib.rt:105:5
 add-result : tie.Need-add-result Inv-loop μ-loop
 add-result c =
     omega (arith, groups-some (c .before .loop .rest))
 
--- src/lib.rt:92:1
 same-length : tie.Need-same-length Inv-loop μ-loop
 same-length c =
     simp length-set (c .before .loop .inv .0)
 
--- src/lib.rt:92:1
 returns : tie.Need-returns Inv-loop μ-loop
 returns c =
     let l = c .before .loop in

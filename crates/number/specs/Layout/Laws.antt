@@ -23,7 +23,8 @@ below-exact s bytes n = record {
 -- ── several ──
 module _ {A : Type 0} (s : List ℕ) (p : ℕ → Read A) (Good : A → Type 0) (code : A → List ℕ) where
   module _ (back : (x : A) (at : ℕ) (rest : List ℕ) → Good x → drop at s ≡ code x ++ rest → p at ≡ got x (at + length (code x))) where
-    pub many-back : (xs : List A) (at : ℕ) (rest : List ℕ) → All Good xs → drop at s ≡ flat code xs ++ rest → many p (length xs) at ≡ got xs (at + length (flat code xs))
+    pub many-back : (xs : List A) (at : ℕ) (rest : List ℕ) → All Good xs → drop at s ≡ flat code xs ++ rest → many p (length xs) at ≡ got xs
+        (at + length (flat code xs))
     unfolding many
     many-back [] at rest good there = ap (got []) (omega arith)
     many-back (x ∷ xs) at rest good there =

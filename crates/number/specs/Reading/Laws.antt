@@ -8,7 +8,8 @@ use Rattle.number.specs.Reading.{Read, got, fault, andThen, seen}
 
 module _ {A B : Type 0} where
   -- a reading in two parts, from its value
-  pub cut-got : {C : Type 0} {y : B} {e : ℕ} (r : Read A) (f : A → ℕ → Read B) → andThen r f ≡ got y e → ((x : A) (d : ℕ) → r ≡ got x d → f x d ≡ got y e → C) → C
+  pub cut-got : {C : Type 0} {y : B} {e : ℕ} (r : Read A) (f : A → ℕ → Read B) → andThen r f ≡ got y e → ((x : A) (d : ℕ) → r ≡ got x d → f x d ≡ got y e → C)
+      → C
   cut-got (got x d) f h k = k x d refl h
   cut-got fault f h k = clash (cc)
 

@@ -62,7 +62,17 @@ module _ {A : Type 0} (p : ℕ → Read A) where
       cut-got (p at₀) _ h (λ y d hy h′. cut-got (many p n d) _ h′ (λ ys c hys h″.
       let r = many-nth n d c i ys hys (omega arith) in
       let w : xs ≡ y ∷ ys = cc in
-      record { front = y ∷ r .front; item = r .item; back = r .back; place = r .place; next = r .next; whole = w ∙ ap (λ (l : List A). y ∷ l) (r .whole); number = ap suc (r .number); before = many-cons i at₀ d (r .place) y (r .front) hy (r .before); here = r .here }))
+      record {
+        front = y ∷ r .front;
+        item = r .item;
+        back = r .back;
+        place = r .place;
+        next = r .next;
+        whole = w ∙ ap (λ (l : List A). y ∷ l) (r .whole);
+        number = ap suc (r .number);
+        before = many-cons i at₀ d (r .place) y (r .front) hy (r .before);
+        here = r .here;
+      }))
 
   pub many-length : (n at₀ e : ℕ) (xs : List A) → many p n at₀ ≡ got xs e → length xs ≡ n
   unfolding many
@@ -91,12 +101,14 @@ module _ {A : Type 0} (p : ℕ → Read A) where
     any-snoc [] x = or-false (q x)
     any-snoc (y ∷ xs) x = ap (λ (b : Bool). q y || b) (any-snoc xs x) ∙ sym (or-assoc (q y) (any q xs) (q x))
 
-    pub walk-more : (i at₀ at e : ℕ) (b c : Bool) → seen (any q) (many p i at₀) ≡ sn.End at b → seen q (p at) ≡ sn.End e c → seen (any q) (many p (i + 1) at₀) ≡ sn.End e (b || c)
+    pub walk-more : (i at₀ at e : ℕ) (b c : Bool) → seen (any q) (many p i at₀) ≡ sn.End at b → seen q (p at) ≡ sn.End e c → seen (any q) (many p (i + 1) at₀)
+        ≡ sn.End e (b || c)
     walk-more i at₀ at e b c h k =
         rw add-one (cut-seen (any q) (many p i at₀) h (λ xs g hb. cut-seen q (p at) k (λ x g′ hc.
         ap (seen (any q)) (many-snoc i at₀ at e xs x g g′) ∙ ap (sn.End e) (any-snoc xs x ∙ ap₂ _||_ hb hc))))
 
-    pub walk-stop : (i n at₀ at : ℕ) (b : Bool) → seen (any q) (many p i at₀) ≡ sn.End at b → seen q (p at) ≡ sn.Fault → i < n → seen (any q) (many p n at₀) ≡ sn.Fault
+    pub walk-stop : (i n at₀ at : ℕ) (b : Bool) → seen (any q) (many p i at₀) ≡ sn.End at b → seen q (p at) ≡ sn.Fault → i < n → seen (any q) (many p n at₀) ≡
+        sn.Fault
     walk-stop i n at₀ at b h k l =
         cut-seen (any q) (many p i at₀) h (λ xs g hb. ap (seen (any q)) (many-stop i n at₀ at xs g (cut-fault q (p at) k) l))
 
@@ -115,7 +127,8 @@ module _ {A : Type 0} (q : ℕ → Read A) (forward : (at : ℕ) (x : A) (e : �
   many-agree p lo same zero at l = refl
   many-agree p lo same (suc n) at l =
       ap (λ (r : Read A). andThen r (λ x e. andThen (many p n e) (λ xs f. got (x ∷ xs) f))) (same at l)
-      ∙ then-same-at (q at) _ _ (λ x e h. ap (λ (r : Read (List A)). andThen r (λ xs f. got (x ∷ xs) f)) (many-agree p lo same n e (omega (arith, forward at x e h))))
+      ∙ then-same-at (q at) _ _ (λ x e h. ap (λ (r : Read (List A)). andThen r (λ xs f. got (x ∷ xs) f))
+      (many-agree p lo same n e (omega (arith, forward at x e h))))
 
 -- a loop that has read j of them and stands at i
 module _ {A : Type 0} (p : ℕ → Read A) where

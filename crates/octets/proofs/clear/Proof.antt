@@ -7,8 +7,6 @@ use mathlib.Core.Path.{_≡_}
 use Prim.Native.Nat.{_≤_, _-_}
 use Rattle.octets.proofs.clear.Statement.{statement}
 use Rattle.octets.proofs.clear.Tie as tie
-use Rattle.octets.proofs.clear.Reads as reads
-use Rattle.octets.proofs.clear.Lts as lts
 
 abbrev Inv-loop : tie.InvT-loop
 Inv-loop out₀ i₀ out i =
@@ -18,36 +16,34 @@ abbrev μ-loop : tie.MeasureT-loop
 μ-loop out₀ i₀ out i =
     length out - i
 
--- src/lib.rt:104:5
 loop-holds : tie.Need-loop-holds Inv-loop μ-loop
 loop-holds c = search needs
 
--- src/lib.rt:105:9
 slice-write-out : tie.Need-slice-write-out Inv-loop μ-loop
 slice-write-out c = search needs
 
--- src/lib.rt:106:9
 add-i : tie.Need-add-i Inv-loop μ-loop
 add-i c = search needs
 
--- src/lib.rt:104:5
 loop-less : tie.Need-loop-less Inv-loop μ-loop
 loop-less c =
     simp length-set (omega arith)
 
--- src/lib.rt:104:5
 loop-again : tie.Need-loop-again Inv-loop μ-loop
-loop-again c =
-    (simp length-set (search needs), simp length-set (c .before .loop .inv .1), zeros-more (c .before .loop .out) (c .before .loop .i) (omega arith) (c .before .loop .inv .2))
+loop-again c = (
+  simp length-set (search needs),
+  simp length-set (c .before .loop .inv .1),
+  zeros-more (c .before .loop .out) (c .before .loop .i) (omega arith)
+      (c .before .loop .inv .2),
+)
 
--- src/lib.rt:100:1
 same-length : tie.Need-same-length Inv-loop μ-loop
 same-length c = search needs
 
--- src/lib.rt:100:1
 returns : tie.Need-returns Inv-loop μ-loop
 returns c =
-    zeros-all (c .before .loop .out) (c .before .loop .i) (length (now (c .before .before .args .out))) (c .loop-test .left) (omega arith) (c .before .loop .inv .2)
+    zeros-all (c .before .loop .out) (c .before .loop .i) (length (now (c .before .before .args .out))) (c .loop-test .left) (omega arith)
+    (c .before .loop .inv .2)
 
 pub clear-spec : {M : Type 1} → statement M
 clear-spec =

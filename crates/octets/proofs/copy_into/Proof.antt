@@ -13,8 +13,6 @@ use borrow.Author.Needs.{needs}
 use Rattle.octets.specs.Splice.{splice}
 use Rattle.octets.proofs.copy_into.Statement.{statement}
 use Rattle.octets.proofs.copy_into.Tie as tie
-use Rattle.octets.proofs.copy_into.Reads as reads
-use Rattle.octets.proofs.copy_into.Lts as lts
 
 abbrev Inv-loop : tie.InvT-loop
 Inv-loop out₀ at src i₀ out i = (i ≤ length src) × (length out ≡ length out₀) × (out ≡ splice out₀ at (take i src))
@@ -22,31 +20,24 @@ Inv-loop out₀ at src i₀ out i = (i ≤ length src) × (length out ≡ length
 abbrev μ-loop : tie.MeasureT-loop
 μ-loop out₀ at src i₀ out i = length src - i
 
--- src/lib.rt:67:5
 loop-holds : tie.Need-loop-holds Inv-loop μ-loop
 loop-holds c = (search needs, search needs, sym (splice-nil _ _))
 
--- src/lib.rt:68:23
 shared-slice-read-out : tie.Need-shared-slice-read-out Inv-loop μ-loop
 shared-slice-read-out c = search needs
 
--- src/lib.rt:68:13
 add-out : tie.Need-add-out Inv-loop μ-loop
 add-out c = search needs
 
--- src/lib.rt:68:9
 slice-write-out : tie.Need-slice-write-out Inv-loop μ-loop
 slice-write-out c = search needs
 
--- src/lib.rt:69:9
 add-i : tie.Need-add-i Inv-loop μ-loop
 add-i c = search needs
 
--- src/lib.rt:67:5
 loop-less : tie.Need-loop-less Inv-loop μ-loop
 loop-less c = search needs
 
--- src/lib.rt:67:5
 loop-again : tie.Need-loop-again Inv-loop μ-loop
 loop-again c =
     let a = c .before .before .before .args in
@@ -57,15 +48,12 @@ loop-again c =
           ∙ splice-copy 0 (now (a .out)) (a .at) (now (a .src)) (l .i) (omega arith) (omega arith),
     )
 
--- src/lib.rt:71:5
 add-result : tie.Need-add-result Inv-loop μ-loop
 add-result c = search needs
 
--- src/lib.rt:61:1
 same-length : tie.Need-same-length Inv-loop μ-loop
 same-length c = search needs
 
--- src/lib.rt:61:1
 returns : tie.Need-returns Inv-loop μ-loop
 returns c =
     let a = c .before .before .args in

@@ -13,8 +13,6 @@ use borrow.Author.Needs.{needs}
 use Rattle.octets.specs.Splice.{splice}
 use Rattle.octets.proofs.move_down.Statement.{statement}
 use Rattle.octets.proofs.move_down.Tie as tie
-use Rattle.octets.proofs.move_down.Reads as reads
-use Rattle.octets.proofs.move_down.Lts as lts
 
 abbrev Inv-loop : tie.InvT-loop
 Inv-loop out₀ from to len i₀ out i = (i ≤ len) × (length out ≡ length out₀) × (out ≡ splice out₀ to (take i (drop from out₀)))
@@ -22,35 +20,27 @@ Inv-loop out₀ from to len i₀ out i = (i ≤ len) × (length out ≡ length o
 abbrev μ-loop : tie.MeasureT-loop
 μ-loop out₀ from to len i₀ out i = len - i
 
--- src/lib.rt:54:5
 loop-holds : tie.Need-loop-holds Inv-loop μ-loop
 loop-holds c = (search needs, search needs, sym (splice-nil _ _))
 
--- src/lib.rt:55:27
 add-out : tie.Need-add-out Inv-loop μ-loop
 add-out c = search needs
 
--- src/lib.rt:55:23
 slice-read-out : tie.Need-slice-read-out Inv-loop μ-loop
 slice-read-out c = search needs
 
--- src/lib.rt:55:13
 add-out-2 : tie.Need-add-out-2 Inv-loop μ-loop
 add-out-2 c = search needs
 
--- src/lib.rt:55:9
 slice-write-out : tie.Need-slice-write-out Inv-loop μ-loop
 slice-write-out c = search needs
 
--- src/lib.rt:56:9
 add-i : tie.Need-add-i Inv-loop μ-loop
 add-i c = search needs
 
--- src/lib.rt:54:5
 loop-less : tie.Need-loop-less Inv-loop μ-loop
 loop-less c = search needs
 
--- src/lib.rt:54:5
 loop-again : tie.Need-loop-again Inv-loop μ-loop
 loop-again c =
     let a = c .before .before .before .args in
@@ -68,11 +58,9 @@ loop-again c =
       ap₂ (λ (m : List ℕ) (x : ℕ). set m (a .to + l .i) x) (l .inv .2) v ∙ splice-copy 0 s (a .to) src (l .i) (omega arith) (omega arith),
     )
 
--- src/lib.rt:49:1
 same-length : tie.Need-same-length Inv-loop μ-loop
 same-length c = search needs
 
--- src/lib.rt:49:1
 returns : tie.Need-returns Inv-loop μ-loop
 returns c =
     let a = c .before .before .args in

@@ -10,8 +10,6 @@ use mathlib.Core.Path.{_≡_, ap, ap₂, sym, _∙_}
 use Prim.Native.Nat.{ℕ, _≤_, _-_, _+_}
 use Rattle.octets.proofs.move_up.Statement.{statement}
 use Rattle.octets.proofs.move_up.Tie as tie
-use Rattle.octets.proofs.move_up.Reads as reads
-use Rattle.octets.proofs.move_up.Lts as lts
 
 abbrev Inv-loop : tie.InvT-loop
 Inv-loop out₀ from to len i₀ out i =
@@ -21,7 +19,6 @@ abbrev μ-loop : tie.MeasureT-loop
 μ-loop out₀ from to len i₀ out i =
     i
 
--- src/lib.rt:81:5
 loop-holds : tie.Need-loop-holds Inv-loop μ-loop
 loop-holds c =
     let a = c .args in
@@ -31,31 +28,24 @@ loop-holds c =
     let e : drop (a .len) src ≡ drop (length src) src = ap (λ (k : ℕ). drop k src) (sym n) in
     (search needs, search needs, sym (ap (splice (now (a .out)) (a .to + a .len)) (e ∙ drop-length src) ∙ splice-nil _ _))
 
--- src/lib.rt:82:9
 sub-i : tie.Need-sub-i Inv-loop μ-loop
 sub-i c = search needs
 
--- src/lib.rt:83:27
 add-out : tie.Need-add-out Inv-loop μ-loop
 add-out c = search needs
 
--- src/lib.rt:83:23
 slice-read-out : tie.Need-slice-read-out Inv-loop μ-loop
 slice-read-out c = search needs
 
--- src/lib.rt:83:13
 add-out-2 : tie.Need-add-out-2 Inv-loop μ-loop
 add-out-2 c = search needs
 
--- src/lib.rt:83:9
 slice-write-out : tie.Need-slice-write-out Inv-loop μ-loop
 slice-write-out c = search needs
 
--- src/lib.rt:81:5
 loop-less : tie.Need-loop-less Inv-loop μ-loop
 loop-less c = search needs
 
--- src/lib.rt:81:5
 loop-again : tie.Need-loop-again Inv-loop μ-loop
 loop-again c =
     let a = c .before .before .before .args in
@@ -70,14 +60,16 @@ loop-again c =
     ap (λ (q : List ℕ). getD q (a .from + j) 0) (l .inv .2)
     ∙ splice-before s (a .to + l .i) (drop (l .i) src) (omega arith) 0 (a .from + j) (omega arith)
     ∙ sym (getD-drop (a .from) s j 0)
-    ∙ sym (getD-take (a .len) (drop (a .from) s) j 0 (omega arith)) in
-    (search needs, simp length-set (l .inv .1), ap₂ (λ (q : List ℕ) (x : ℕ). set q (a .to + j) x) (l .inv .2) v ∙ splice-copy-back 0 s (a .to) src (l .i) j (omega arith) (omega arith) (omega arith))
+    ∙ sym (getD-take (a .len) (drop (a .from) s) j 0 (omega arith)) in (
+      search needs,
+      simp length-set (l .inv .1),
+      ap₂ (λ (q : List ℕ) (x : ℕ). set q (a .to + j) x) (l .inv .2) v ∙ splice-copy-back 0 s (a .to) src (l .i) j
+          (omega arith) (omega arith) (omega arith),
+    )
 
--- src/lib.rt:76:1
 same-length : tie.Need-same-length Inv-loop μ-loop
 same-length c = search needs
 
--- src/lib.rt:76:1
 returns : tie.Need-returns Inv-loop μ-loop
 returns c =
     let a = c .before .before .args in

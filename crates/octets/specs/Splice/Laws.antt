@@ -7,7 +7,8 @@ use native.Mathlib.Numerals.{add-one}
 use native.Mathlib.Nat.{add-zero, add-assoc}
 use lib.ListN.{length, take, drop, set, getD, length-append, length-drop, take-append-drop}
 use borrow.Rule.Slice.PartMut.{putMid, midOf}
-use lib.Seq.{length-take-le, take-at, drop-at, take-append-le, drop-append-le, take-take, drop-drop, sets, sets-eq, take-suc, drop-cons, getD-drop, getD-take, take-add}
+use lib.Seq.{length-take-le, take-at, drop-at, take-append-le, drop-append-le, take-take, drop-drop}
+use lib.Seq.{sets, sets-eq, take-suc, drop-cons, getD-drop, getD-take, take-add}
 use Rattle.octets.specs.Splice.{splice}
 
 module _ {A : Type 0} where

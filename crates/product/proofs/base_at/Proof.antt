@@ -4,42 +4,32 @@ use Rattle.product.specs.Base.{baseOf}
 use borrow.Author.Needs.{needs}
 use Rattle.product.proofs.base_at.Statement.{statement}
 use Rattle.product.proofs.base_at.Tie as tie
-use Rattle.product.proofs.base_at.Reads as reads
-use Rattle.product.proofs.base_at.Lts as lts
-use Rattle.term.proofs.symbol_at.Reads as symbol-at-reads
 
--- src/lib.rt:210:11
 symbol-at-requires : tie.Need-symbol-at-requires
 symbol-at-requires c κs = search needs
 
--- src/lib.rt:211:34
 enum-told : tie.Need-enum-told
 enum-told c = search needs
 
--- src/lib.rt:212:20
 enum-known-t : tie.Need-enum-known-t
 enum-known-t c = search needs
 
--- src/lib.rt:214:17
 returns : tie.Need-returns
 returns c =
     base-exp _ _ (c .if1 .taken) ∙ ap baseOf (sym (c .before .before .t .given .1) ∙ c .before .before .before .before .symbol-at .ensures)
 
--- src/lib.rt:218:26
 enum-told-2 : tie.Need-enum-told-2
 enum-told-2 c = search needs
 
--- src/lib.rt:207:1
 returns-2 : tie.Need-returns-2
 returns-2 c =
     ap baseOf (sym (c .enum-told .given .1) ∙ c .before .before .symbol-at .ensures)
 
--- src/lib.rt:207:1
 returns-3 : tie.Need-returns-3
 returns-3 c =
-    base-other _ (c .before .before .t .given .0 .1 .1 .0) (c .if1 .left) ∙ ap baseOf (sym (c .before .before .t .given .1) ∙ c .before .before .before .before .symbol-at .ensures)
+    base-other _ (c .before .before .t .given .0 .1 .1 .0) (c .if1 .left) ∙ ap baseOf
+    (sym (c .before .before .t .given .1) ∙ c .before .before .before .before .symbol-at .ensures)
 
--- src/lib.rt:207:1
 returns-4 : tie.Need-returns-4
 returns-4 c =
     ap baseOf (sym (c .enum-told2 .given .1) ∙ c .before .before .symbol-at .ensures)

@@ -3,23 +3,20 @@ use Rattle.product.proofs.PowerPaths.{behind-is, behind-within}
 use borrow.Author.Needs.{needs}
 use Rattle.product.proofs.behind.Statement.{statement}
 use Rattle.product.proofs.behind.Tie as tie
-use Rattle.product.proofs.behind.Reads as reads
-use Rattle.product.proofs.behind.Lts as lts
-use Rattle.term.proofs.term_part.Reads as term-part-reads
 
--- src/lib.rt:227:10
 term-part-requires : tie.Need-term-part-requires
 term-part-requires c κs = search needs
 
--- src/lib.rt:227:5
 add-result : tie.Need-add-result
 add-result c =
-    let r = c .before .before .before .args in let w = behind-within (r .arities .now) (r .s .now) (r .at) (λ i. c .before .before .shared-slice-known .given i .fits) _ (c .term-part .ensures) (c .before .before .before .pre) in omega arith
+    let c3 = c .before .before .before in
+    let r = c3 .args in let w = behind-within (r .arities .now) (r .s .now) (r .at) (λ i. c .before .before .shared-slice-known .given i .fits) _
+    (c .term-part .ensures) (c3 .pre) in omega arith
 
--- src/lib.rt:223:1
 returns : tie.Need-returns
 returns c =
-    let r = c .before .before .before .args in behind-is (r .arities .now) (r .s .now) (r .at) (λ i. c .before .before .shared-slice-known .given i .fits) _ (c .term-part .ensures)
+    let r = c .before .before .before .args in behind-is (r .arities .now) (r .s .now) (r .at) (λ i. c .before .before .shared-slice-known .given i .fits) _
+    (c .term-part .ensures)
 
 pub behind-spec : {M : Type 1} → statement M
 behind-spec = tie.close (tie.spec term-part-requires add-result returns)

@@ -4,66 +4,71 @@ use Rattle.product.proofs.ExponentPaths.{raise-inside, inner-asks, inne
 use borrow.Author.Needs.{needs}
 use Rattle.product.proofs.exponent.Statement.{statement}
 use Rattle.product.proofs.exponent.Tie as tie
-use Rattle.product.proofs.exponent.Reads as reads
-use Rattle.product.proofs.exponent.Lts as lts
-use Rattle.product.proofs.base_at.Reads as base-at-reads
-use Rattle.product.proofs.behind.Reads as behind-reads
-use Rattle.product.proofs.power_at.Reads as power-at-reads
 
--- src/lib.rt:235:13
 add-a : tie.Need-add-a
 add-a c =
     let r = c .before .before .args in let z = raise-inside (r .arities .now) (r .out .now) (r .o) (r .e) (c .before .before .pre) in omega arith
 
--- src/lib.rt:236:11
 base-at-requires : tie.Need-base-at-requires
 base-at-requires c κs = search needs
 
--- src/lib.rt:237:21
 enum-known-b : tie.Need-enum-known-b
 enum-known-b c = search needs
 
--- src/lib.rt:238:17
 behind-requires : tie.Need-behind-requires
 behind-requires c κs =
-    let r = c .before .before .before .before .before .before .before .before .args in inner-asks (r .arities .now) (r .out .now) (r .o) (r .e) _ (sym (c .before .before .before .before .base-at .ensures) ∙ c .before .before .b .given .1) (c .before .before .before .before .before .before .before .before .pre)
+    let c4 = c .before .before .before .before in
+    let c8 = c4 .before .before .before .before in
+    let r = c8 .args in inner-asks (r .arities .now) (r .out .now) (r .o) (r .e) _ (sym (c4 .base-at .ensures) ∙ c .before .before .b .given .1) (c8 .pre)
 
--- src/lib.rt:239:13
 power-at-requires : tie.Need-power-at-requires
 power-at-requires c κs =
-    let r = c .before .before .before .before .before .before .before .before .before .before .args in inner-powers (r .arities .now) (r .out .now) (r .o) (r .e) _ (sym (c .before .before .before .before .before .before .base-at .ensures) ∙ c .before .before .before .before .b .given .1) _ (c .before .behind .ensures) (c .before .before .before .before .before .before .before .before .before .before .pre)
+    let c4 = c .before .before .before .before in
+    let c6 = c4 .before .before in
+    let c10 = c6 .before .before .before .before in
+    let r = c10 .args in inner-powers (r .arities .now) (r .out .now) (r .o) (r .e) _ (sym (c6 .base-at .ensures) ∙ c4 .b .given .1) _
+    (c .before .behind .ensures) (c10 .pre)
 
--- src/lib.rt:242:28
 enum-told : tie.Need-enum-told
 enum-told c = search needs
 
--- src/lib.rt:242:17
 behind-requires-2 : tie.Need-behind-requires-2
 behind-requires-2 c κs =
-    let r = c .before .before .before .before .before .before .before .args in outer-asks (r .arities .now) (r .out .now) (r .o) (r .e) (sym (c .before .before .before .base-at .ensures) ∙ c .before .enum-told .given .1) (c .before .before .before .before .before .before .before .pre)
+    let c3 = c .before .before .before in
+    let c7 = c3 .before .before .before .before in
+    let r = c7 .args in outer-asks (r .arities .now) (r .out .now) (r .o) (r .e) (sym (c3 .base-at .ensures) ∙ c .before .enum-told .given .1) (c7 .pre)
 
--- src/lib.rt:243:13
 power-at-requires-2 : tie.Need-power-at-requires-2
 power-at-requires-2 c κs =
-    let r = c .before .before .before .before .before .before .before .before .before .args in outer-powers (r .arities .now) (r .out .now) (r .o) (r .e) (sym (c .before .before .before .before .before .base-at .ensures) ∙ c .before .before .before .enum-told .given .1) _ (c .before .behind2 .ensures) (c .before .before .before .before .before .before .before .before .before .pre)
+    let c3 = c .before .before .before in
+    let c5 = c3 .before .before in
+    let c9 = c5 .before .before .before .before in
+    let r = c9 .args in outer-powers (r .arities .now) (r .out .now) (r .o) (r .e) (sym (c5 .base-at .ensures) ∙ c3 .enum-told .given .1) _
+    (c .before .behind2 .ensures) (c9 .pre)
 
--- src/lib.rt:231:1
 same-length : tie.Need-same-length
 same-length c = search needs
 
--- src/lib.rt:231:1
 returns : tie.Need-returns
 returns c =
-    let r = c .before .before .before .before .before .before .before .before .before .before .before .before .before .args in inner-raised (r .arities .now) (r .out .now) (r .o) (r .e) _ (sym (c .before .before .before .before .before .before .before .before .before .base-at .ensures) ∙ c .before .before .before .before .before .before .before .b .given .1) _ (c .before .before .before .before .behind .ensures) _ _ (c .before .before .power-at .ensures)
+    let c4 = c .before .before .before .before in
+    let c7 = c4 .before .before .before in
+    let c9 = c7 .before .before in
+    let c13 = c9 .before .before .before .before in
+    let r = c13 .args in inner-raised (r .arities .now) (r .out .now) (r .o) (r .e) _ (sym (c9 .base-at .ensures) ∙ c7 .b .given .1) _ (c4 .behind .ensures) _
+    _ (c .before .before .power-at .ensures)
 
--- src/lib.rt:231:1
 same-length-2 : tie.Need-same-length-2
 same-length-2 c = search needs
 
--- src/lib.rt:231:1
 returns-2 : tie.Need-returns-2
 returns-2 c =
-    let r = c .before .before .before .before .before .before .before .before .before .before .before .before .args in outer-raised (r .arities .now) (r .out .now) (r .o) (r .e) (sym (c .before .before .before .before .before .before .before .before .base-at .ensures) ∙ c .before .before .before .before .before .before .enum-told .given .1) _ (c .before .before .before .before .behind2 .ensures) _ _ (c .before .before .power-at2 .ensures)
+    let c4 = c .before .before .before .before in
+    let c6 = c4 .before .before in
+    let c8 = c6 .before .before in
+    let c12 = c8 .before .before .before .before in
+    let r = c12 .args in outer-raised (r .arities .now) (r .out .now) (r .o) (r .e) (sym (c8 .base-at .ensures) ∙ c6 .enum-told .given .1) _
+    (c4 .behind2 .ensures) _ _ (c .before .before .power-at2 .ensures)
 
 pub exponent-spec : {M : Type 1} → statement M
 exponent-spec =

@@ -8,9 +8,6 @@ use Rattle.product.specs.Side.{rise}
 use Rattle.product.proofs.RisePaths.{rises-asks, next-here, next-more, next-end}
 use Rattle.product.proofs.next_row.Statement.{statement}
 use Rattle.product.proofs.next_row.Tie as tie
-use Rattle.product.proofs.next_row.Reads as reads
-use Rattle.product.proofs.next_row.Lts as lts
-use Rattle.product.proofs.rises.Reads as rises-reads
 
 abbrev Inv-loop : tie.InvT-loop
 Inv-loop powers i n minus j₀ j =
@@ -20,46 +17,51 @@ abbrev μ-loop : tie.MeasureT-loop
 μ-loop powers i n minus j₀ j =
     n - j
 
--- src/lib.rt:44:5
 loop-holds : tie.Need-loop-holds Inv-loop μ-loop
 loop-holds c =
     (omega arith, c .pre .0, λ m h g. absurd (omega arith))
 
--- src/lib.rt:45:17
 mul-p : tie.Need-mul-p Inv-loop μ-loop
 mul-p c = search needs
 
--- src/lib.rt:45:17
 shared-slice-copy-out-p : tie.Need-shared-slice-copy-out-p Inv-loop μ-loop
 shared-slice-copy-out-p c = search needs
 
--- src/lib.rt:46:13
 rises-requires : tie.Need-rises-requires Inv-loop μ-loop
 rises-requires c κs =
-    let r = c .before .before .before .args in rises-asks (r .powers .now) (r .i) (r .n) (r .minus) (c .before .before .before .pre) _ (c .before .loop-test .taken)
+    let c3 = c .before .before .before in
+    let r = c3 .args in rises-asks (r .powers .now) (r .i) (r .n) (r .minus) (c3 .pre) _ (c .before .loop-test .taken)
 
--- src/lib.rt:48:13
 returns : tie.Need-returns Inv-loop μ-loop
 returns c =
-    let r = c .before .before .before .before .before .args in next-here (r .powers .now) (r .i) (r .n) (r .minus) (c .before .before .before .before .before .pre) _ (c .before .before .before .loop-test .taken) _ (c .before .rises .ensures) (c .before .before .before .before .loop .inv .0) (c .before .before .before .before .loop .inv .2) (c .if1 .taken)
+    let c3 = c .before .before .before in
+    let c4 = c3 .before in
+    let c5 = c4 .before in
+    let r = c5 .args in next-here (r .powers .now) (r .i) (r .n) (r .minus) (c5 .pre) _ (c3 .loop-test .taken) _ (c .before .rises .ensures) (c4 .loop .inv .0)
+    (c4 .loop .inv .2) (c .if1 .taken)
 
--- src/lib.rt:50:9
 add-j : tie.Need-add-j Inv-loop μ-loop
 add-j c = search needs
 
--- src/lib.rt:44:5
 loop-less : tie.Need-loop-less Inv-loop μ-loop
 loop-less c = search needs
 
--- src/lib.rt:44:5
 loop-again : tie.Need-loop-again Inv-loop μ-loop
 loop-again c =
-    let r = c .before .before .before .before .before .args in (omega arith, omega arith, next-more (r .powers .now) (r .i) (r .n) (r .minus) (c .before .before .before .before .before .pre) _ (c .before .before .before .loop-test .taken) _ (c .before .rises .ensures) (c .before .before .before .before .loop .inv .0) (c .before .before .before .before .loop .inv .2) (c .if1 .left))
+    let c3 = c .before .before .before in
+    let c4 = c3 .before in
+    let c5 = c4 .before in
+    let r = c5 .args in (
+      omega arith,
+      omega arith,
+      next-more (r .powers .now) (r .i) (r .n) (r .minus) (c5 .pre) _ (c3 .loop-test .taken) _
+          (c .before .rises .ensures) (c4 .loop .inv .0) (c4 .loop .inv .2) (c .if1 .left),
+    )
 
--- src/lib.rt:39:1
 returns-2 : tie.Need-returns-2 Inv-loop μ-loop
 returns-2 c =
-    let r = c .before .before .args in next-end (r .powers .now) (r .i) (r .n) (r .minus) (c .before .before .pre) _ (c .before .loop .inv .0) (c .before .loop .inv .1) (c .loop-test .left) (c .before .loop .inv .2)
+    let r = c .before .before .args in next-end (r .powers .now) (r .i) (r .n) (r .minus) (c .before .before .pre) _ (c .before .loop .inv .0)
+    (c .before .loop .inv .1) (c .loop-test .left) (c .before .loop .inv .2)
 
 pub next-row-spec : {M : Type 1} → statement M
 next-row-spec =

@@ -8,9 +8,6 @@ use Rattle.product.specs.Chain.{repeated}
 use Rattle.product.proofs.PutPaths.{many-first, many-room, many-more}
 use Rattle.product.proofs.put_many.Statement.{statement}
 use Rattle.product.proofs.put_many.Tie as tie
-use Rattle.product.proofs.put_many.Reads as reads
-use Rattle.product.proofs.put_many.Lts as lts
-use Rattle.octets.proofs.copy_into.Reads as copy-into-reads
 
 abbrev Inv-loop : tie.InvT-loop
 Inv-loop out₀ o x m p₀ i₀ out p i =
@@ -20,45 +17,50 @@ abbrev μ-loop : tie.MeasureT-loop
 μ-loop out₀ o x m p₀ i₀ out p i =
     m - i
 
--- src/lib.rt:62:5
 loop-holds : tie.Need-loop-holds Inv-loop μ-loop
 loop-holds c =
     let r = c .before .before .args in (refl, omega arith, many-first (r .x .now) (r .o) (r .m) (r .out .now) (c .before .before .pre))
 
--- src/lib.rt:63:9
 slice-write-out : tie.Need-slice-write-out Inv-loop μ-loop
 slice-write-out c =
-    let r = c .before .before .before .before .args in let z = many-room (r .x .now) (r .o) (r .m) (r .out .now) (c .before .before .before .before .pre) _ _ _ (c .before .loop .inv) (c .loop-test .taken) in omega arith
+    let c4 = c .before .before .before .before in
+    let r = c4 .args in let z = many-room (r .x .now) (r .o) (r .m) (r .out .now) (c4 .pre) _ _ _ (c .before .loop .inv) (c .loop-test .taken) in omega arith
 
--- src/lib.rt:64:36
 add-copy-into : tie.Need-add-copy-into Inv-loop μ-loop
 add-copy-into c =
-    let r = c .before .before .before .before .before .args in let z = many-room (r .x .now) (r .o) (r .m) (r .out .now) (c .before .before .before .before .before .pre) _ _ _ (c .before .before .loop .inv) (c .before .loop-test .taken) in omega arith
+    let c5 = c .before .before .before .before .before in
+    let r = c5 .args in let z = many-room (r .x .now) (r .o) (r .m) (r .out .now) (c5 .pre) _ _ _ (c .before .before .loop .inv) (c .before .loop-test .taken)
+    in omega arith
 
--- src/lib.rt:64:9
 copy-into-requires : tie.Need-copy-into-requires Inv-loop μ-loop
 copy-into-requires c κs =
-    let r = c .before .before .before .before .before .args in let z = many-room (r .x .now) (r .o) (r .m) (r .out .now) (c .before .before .before .before .before .pre) _ _ _ (c .before .before .loop .inv) (c .before .loop-test .taken) in rw length-set z
+    let c5 = c .before .before .before .before .before in
+    let r = c5 .args in let z = many-room (r .x .now) (r .o) (r .m) (r .out .now) (c5 .pre) _ _ _ (c .before .before .loop .inv) (c .before .loop-test .taken)
+    in rw length-set z
 
--- src/lib.rt:65:9
 add-i : tie.Need-add-i Inv-loop μ-loop
 add-i c = search needs
 
--- src/lib.rt:62:5
 loop-less : tie.Need-loop-less Inv-loop μ-loop
 loop-less c = search needs
 
--- src/lib.rt:62:5
 loop-again : tie.Need-loop-again Inv-loop μ-loop
 loop-again c =
-    let r = c .before .before .before .before .before .before .before .before .args in (c .before .before .copy-into .kept .0 ∙ length-set (c .before .before .before .before .before .loop .out) (c .before .before .before .before .before .loop .p) 12 ∙ c .before .before .before .before .before .loop .inv .0, omega arith, many-more (r .x .now) (r .o) (r .m) (r .out .now) (c .before .before .before .before .before .before .before .before .pre) _ _ _ (c .before .before .before .before .before .loop .inv) (c .before .before .before .before .loop-test .taken) _ _ (c .before .before .copy-into .ensures .0) (c .before .before .copy-into .ensures .1))
+    let c4 = c .before .before .before .before in
+    let c5 = c4 .before in
+    let c8 = c5 .before .before .before in
+    let r = c8 .args in (
+      c .before .before .copy-into .kept .0 ∙ length-set (c5 .loop .out) (c5 .loop .p) 12 ∙ c5 .loop .inv .0,
+      omega arith,
+      many-more
+          (r .x .now) (r .o) (r .m) (r .out .now) (c8 .pre) _ _ _ (c5 .loop .inv) (c4 .loop-test .taken) _ _ (c .before .before .copy-into .ensures .0)
+          (c .before .before .copy-into .ensures .1),
+    )
 
--- src/lib.rt:56:1
 same-length : tie.Need-same-length Inv-loop μ-loop
 same-length c =
     c .before .loop .inv .0
 
--- src/lib.rt:56:1
 returns : tie.Need-returns Inv-loop μ-loop
 returns c =
     let z : c .before .loop .i ≡ c .before .before .before .before .args .m = omega arith in rw (sym z) (c .before .loop .inv .2)

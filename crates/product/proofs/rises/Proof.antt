@@ -1,40 +1,31 @@
 use Rattle.product.proofs.RisePaths.{turn-fits, down-casts, down-is, down-not, up-casts, up-is, up-not}
 use Rattle.product.proofs.rises.Statement.{statement}
 use Rattle.product.proofs.rises.Tie as tie
-use Rattle.product.proofs.rises.Reads as reads
-use Rattle.product.proofs.rises.Lts as lts
 
--- src/lib.rt:27:21
 sub-q : tie.Need-sub-q
 sub-q c =
     turn-fits (c .before .before .args .p) (c .before .before .pre)
 
--- src/lib.rt:28:20
 cast-result : tie.Need-cast-result
 cast-result c =
     down-casts (c .before .before .args .p) (c .before .before .pre) (c .if2 .taken)
 
--- src/lib.rt:28:13
 returns : tie.Need-returns
 returns c =
     down-is (c .before .before .args .p) (c .before .before .pre) (c .if2 .taken) _ (c .before .if1 .taken)
 
--- src/lib.rt:30:9
 returns-2 : tie.Need-returns-2
 returns-2 c =
     down-not (c .before .before .args .p) (c .before .before .pre) (c .if2 .left) _ (c .before .if1 .taken)
 
--- src/lib.rt:33:16
 cast-result-2 : tie.Need-cast-result-2
 cast-result-2 c =
     up-casts (c .before .before .args .p) (c .before .before .pre) (c .if3 .taken)
 
--- src/lib.rt:33:9
 returns-3 : tie.Need-returns-3
 returns-3 c =
     up-is (c .before .before .args .p) (c .before .before .pre) (c .if3 .taken) _ (c .before .if1 .left)
 
--- src/lib.rt:21:1
 returns-4 : tie.Need-returns-4
 returns-4 c =
     up-not (c .before .before .args .p) (c .before .before .pre) (c .if3 .left) _ (c .before .if1 .left)

@@ -9,11 +9,6 @@ use Rattle.product.proofs.RisePaths.{rises-asks}
 use Rattle.product.proofs.LayPaths.{lay-held, next-asks, Laying, laying-first, laying-done, part-ends, lay-put, laying-next}
 use Rattle.product.proofs.write_rows.Statement.{statement}
 use Rattle.product.proofs.write_rows.Tie as tie
-use Rattle.product.proofs.write_rows.Reads as reads
-use Rattle.product.proofs.write_rows.Lts as lts
-use Rattle.product.proofs.next_row.Reads as next-row-reads
-use Rattle.product.proofs.put_factor.Reads as put-factor-reads
-use Rattle.product.proofs.rises.Reads as rises-reads
 
 abbrev Inv-loop : tie.InvT-loop
 Inv-loop out₀ s starts ends powers n minus i₀ p₀ out i p =
@@ -23,99 +18,130 @@ abbrev μ-loop : tie.MeasureT-loop
 μ-loop out₀ s starts ends powers n minus i₀ p₀ out i p =
     n - i
 
--- src/lib.rt:95:9
 next-row-requires : tie.Need-next-row-requires Inv-loop μ-loop
 next-row-requires c κs =
-    let r = c .before .before .before .before .args in let h = lay-held (r .s .now) (r .starts .now) (r .ends .now) (r .powers .now) (r .n) (r .minus) 0 _ (c .before .before .before .before .pre) in next-asks (r .s .now) (r .starts .now) (r .ends .now) (r .powers .now) (r .n) 0 (omega arith) h
+    let c4 = c .before .before .before .before in
+    let r = c4 .args in let h = lay-held (r .s .now) (r .starts .now) (r .ends .now) (r .powers .now) (r .n) (r .minus) 0 _ (c4 .pre) in next-asks (r .s .now)
+    (r .starts .now) (r .ends .now) (r .powers .now) (r .n) 0 (omega arith) h
 
--- src/lib.rt:97:5
 loop-holds : tie.Need-loop-holds Inv-loop μ-loop
 loop-holds c =
-    let r = c .before .before .before .before .before .args in (refl, λ l L. laying-first (r .s .now) (r .starts .now) (r .ends .now) (r .powers .now) (r .n) (r .minus) (r .out .now) _ (c .next-row .ensures) l L)
+    let r = c .before .before .before .before .before .args in (
+      refl,
+      λ l L. laying-first (r .s .now) (r .starts .now) (r .ends .now) (r .powers .now) (r .n)
+          (r .minus) (r .out .now) _ (c .next-row .ensures) l L,
+    )
 
--- src/lib.rt:98:17
 mul-a : tie.Need-mul-a Inv-loop μ-loop
 mul-a c =
-    let r = c .before .before .before .before .before .before .before .args in let h = lay-held (r .s .now) (r .starts .now) (r .ends .now) (r .powers .now) (r .n) (r .minus) 0 _ (c .before .before .before .before .before .before .before .pre) in omega arith
+    let c7 = c .before .before .before .before .before .before .before in
+    let r = c7 .args in let h = lay-held (r .s .now) (r .starts .now) (r .ends .now) (r .powers .now) (r .n) (r .minus) 0 _ (c7 .pre) in omega arith
 
--- src/lib.rt:98:17
 shared-slice-read-a : tie.Need-shared-slice-read-a Inv-loop μ-loop
 shared-slice-read-a c =
-    let r = c .before .before .before .before .before .before .before .before .args in let h = lay-held (r .s .now) (r .starts .now) (r .ends .now) (r .powers .now) (r .n) (r .minus) 0 _ (c .before .before .before .before .before .before .before .before .pre) in omega arith
+    let c8 = c .before .before .before .before .before .before .before .before in
+    let r = c8 .args in let h = lay-held (r .s .now) (r .starts .now) (r .ends .now) (r .powers .now) (r .n) (r .minus) 0 _ (c8 .pre) in omega arith
 
--- src/lib.rt:99:17
 mul-e : tie.Need-mul-e Inv-loop μ-loop
 mul-e c =
-    let r = c .before .before .before .before .before .before .before .before .args in let h = lay-held (r .s .now) (r .starts .now) (r .ends .now) (r .powers .now) (r .n) (r .minus) 0 _ (c .before .before .before .before .before .before .before .before .pre) in omega arith
+    let c8 = c .before .before .before .before .before .before .before .before in
+    let r = c8 .args in let h = lay-held (r .s .now) (r .starts .now) (r .ends .now) (r .powers .now) (r .n) (r .minus) 0 _ (c8 .pre) in omega arith
 
--- src/lib.rt:99:17
 shared-slice-read-e : tie.Need-shared-slice-read-e Inv-loop μ-loop
 shared-slice-read-e c =
-    let r = c .before .before .before .before .before .before .before .before .before .args in let h = lay-held (r .s .now) (r .starts .now) (r .ends .now) (r .powers .now) (r .n) (r .minus) 0 _ (c .before .before .before .before .before .before .before .before .before .pre) in omega arith
+    let c9 = c .before .before .before .before .before .before .before .before .before in
+    let r = c9 .args in let h = lay-held (r .s .now) (r .starts .now) (r .ends .now) (r .powers .now) (r .n) (r .minus) 0 _ (c9 .pre) in omega arith
 
--- src/lib.rt:100:17
 mul-w : tie.Need-mul-w Inv-loop μ-loop
 mul-w c =
-    let r = c .before .before .before .before .before .before .before .before .before .args in let h = lay-held (r .s .now) (r .starts .now) (r .ends .now) (r .powers .now) (r .n) (r .minus) 0 _ (c .before .before .before .before .before .before .before .before .before .pre) in omega arith
+    let c9 = c .before .before .before .before .before .before .before .before .before in
+    let r = c9 .args in let h = lay-held (r .s .now) (r .starts .now) (r .ends .now) (r .powers .now) (r .n) (r .minus) 0 _ (c9 .pre) in omega arith
 
--- src/lib.rt:100:17
 shared-slice-copy-out-w : tie.Need-shared-slice-copy-out-w Inv-loop μ-loop
 shared-slice-copy-out-w c =
-    let r = c .before .before .before .before .before .before .before .before .before .args in let h = lay-held (r .s .now) (r .starts .now) (r .ends .now) (r .powers .now) (r .n) (r .minus) 0 _ (c .before .before .before .before .before .before .before .before .before .pre) in omega arith
+    let c9 = c .before .before .before .before .before .before .before .before .before in
+    let r = c9 .args in let h = lay-held (r .s .now) (r .starts .now) (r .ends .now) (r .powers .now) (r .n) (r .minus) 0 _ (c9 .pre) in omega arith
 
--- src/lib.rt:101:13
 rises-requires : tie.Need-rises-requires Inv-loop μ-loop
 rises-requires c κs =
-    let r = c .before .before .before .before .before .before .before .before .before .before .args in let h = lay-held (r .s .now) (r .starts .now) (r .ends .now) (r .powers .now) (r .n) (r .minus) 0 _ (c .before .before .before .before .before .before .before .before .before .before .pre) in rises-asks (r .powers .now) 0 (r .n) (r .minus) (next-asks (r .s .now) (r .starts .now) (r .ends .now) (r .powers .now) (r .n) 0 (omega arith) h) _ (c .before .before .before .loop-test .taken)
+    let c3 = c .before .before .before in
+    let c10 = c3 .before .before .before .before .before .before .before in
+    let r = c10 .args in let h = lay-held (r .s .now) (r .starts .now) (r .ends .now) (r .powers .now) (r .n) (r .minus) 0 _ (c10 .pre) in rises-asks
+    (r .powers .now) 0 (r .n) (r .minus) (next-asks (r .s .now) (r .starts .now) (r .ends .now) (r .powers .now) (r .n) 0 (omega arith) h) _
+    (c3 .loop-test .taken)
 
--- src/lib.rt:102:34
 add-next-row : tie.Need-add-next-row Inv-loop μ-loop
 add-next-row c = search needs
 
--- src/lib.rt:102:13
 next-row-requires-2 : tie.Need-next-row-requires-2 Inv-loop μ-loop
 next-row-requires-2 c κs =
-    let r = c .before .before .before .before .before .before .before .before .before .before .before .args in let h = lay-held (r .s .now) (r .starts .now) (r .ends .now) (r .powers .now) (r .n) (r .minus) 0 _ (c .before .before .before .before .before .before .before .before .before .before .before .pre) in next-asks (r .s .now) (r .starts .now) (r .ends .now) (r .powers .now) (r .n) _ (omega arith) h
+    let c11 = c .before .before .before .before .before .before .before .before .before .before .before in
+    let r = c11 .args in let h = lay-held (r .s .now) (r .starts .now) (r .ends .now) (r .powers .now) (r .n) (r .minus) 0 _ (c11 .pre) in next-asks
+    (r .s .now) (r .starts .now) (r .ends .now) (r .powers .now) (r .n) _ (omega arith) h
 
--- src/lib.rt:104:32
 sub-put-factor : tie.Need-sub-put-factor Inv-loop μ-loop
 sub-put-factor c =
-    let r = c .before .before .before .before .before .before .before .before .before .before .before .before .before .args in let g = c .before .before .before .before .before .before .before .loop in let b = part-ends (r .s .now) (r .starts .now) (r .ends .now) (r .powers .now) (r .n) (r .minus) (r .out .now) (g .out) (g .p) (g .i) (c .before .before .before .before .before .before .loop-test .taken) _ (g .inv .1 _ (c .before .before .before .before .before .before .before .before .before .before .before .before .before .pre .1)) in omega arith
+    let c6 = c .before .before .before .before .before .before in
+    let c7 = c6 .before in
+    let c13 = c7 .before .before .before .before .before .before in
+    let r = c13 .args in let g = c7 .loop in let b = part-ends (r .s .now) (r .starts .now) (r .ends .now) (r .powers .now) (r .n) (r .minus) (r .out .now)
+    (g .out) (g .p) (g .i) (c6 .loop-test .taken) _ (g .inv .1 _ (c13 .pre .1)) in omega arith
 
--- src/lib.rt:104:32
 part-put-factor-start : tie.Need-part-put-factor-start Inv-loop μ-loop
 part-put-factor-start c =
-    let r = c .before .before .before .before .before .before .before .before .before .before .before .before .before .args in let g = c .before .before .before .before .before .before .before .loop in let b = part-ends (r .s .now) (r .starts .now) (r .ends .now) (r .powers .now) (r .n) (r .minus) (r .out .now) (g .out) (g .p) (g .i) (c .before .before .before .before .before .before .loop-test .taken) _ (g .inv .1 _ (c .before .before .before .before .before .before .before .before .before .before .before .before .before .pre .1)) in omega arith
+    let c6 = c .before .before .before .before .before .before in
+    let c7 = c6 .before in
+    let c13 = c7 .before .before .before .before .before .before in
+    let r = c13 .args in let g = c7 .loop in let b = part-ends (r .s .now) (r .starts .now) (r .ends .now) (r .powers .now) (r .n) (r .minus) (r .out .now)
+    (g .out) (g .p) (g .i) (c6 .loop-test .taken) _ (g .inv .1 _ (c13 .pre .1)) in omega arith
 
--- src/lib.rt:104:32
 part-put-factor-end : tie.Need-part-put-factor-end Inv-loop μ-loop
 part-put-factor-end c =
-    let r = c .before .before .before .before .before .before .before .before .before .before .before .before .before .args in let g = c .before .before .before .before .before .before .before .loop in let b = part-ends (r .s .now) (r .starts .now) (r .ends .now) (r .powers .now) (r .n) (r .minus) (r .out .now) (g .out) (g .p) (g .i) (c .before .before .before .before .before .before .loop-test .taken) _ (g .inv .1 _ (c .before .before .before .before .before .before .before .before .before .before .before .before .before .pre .1)) in omega arith
+    let c6 = c .before .before .before .before .before .before in
+    let c7 = c6 .before in
+    let c13 = c7 .before .before .before .before .before .before in
+    let r = c13 .args in let g = c7 .loop in let b = part-ends (r .s .now) (r .starts .now) (r .ends .now) (r .powers .now) (r .n) (r .minus) (r .out .now)
+    (g .out) (g .p) (g .i) (c6 .loop-test .taken) _ (g .inv .1 _ (c13 .pre .1)) in omega arith
 
--- src/lib.rt:104:9
 put-factor-requires : tie.Need-put-factor-requires Inv-loop μ-loop
 put-factor-requires c κs =
-    let r = c .before .before .before .before .before .before .before .before .before .before .before .before .before .before .args in let h = lay-held (r .s .now) (r .starts .now) (r .ends .now) (r .powers .now) (r .n) (r .minus) 0 _ (c .before .before .before .before .before .before .before .before .before .before .before .before .before .before .pre) in let g = c .before .before .before .before .before .before .before .before .loop in lay-put (r .s .now) (r .starts .now) (r .ends .now) (r .powers .now) (r .n) (r .minus) (r .out .now) (g .out) (g .p) (g .i) (c .before .before .before .before .before .before .before .loop-test .taken) h _ (c .before .before .before .rises .ensures) _ (c .before .before .next-row2 .ensures) _ (g .inv .1 _ (c .before .before .before .before .before .before .before .before .before .before .before .before .before .before .pre .1)) (c .before .before .before .before .before .before .before .before .before .before .before .before .before .before .pre .1) (g .inv .0)
+    let c3 = c .before .before .before in
+    let c7 = c3 .before .before .before .before in
+    let c8 = c7 .before in
+    let c14 = c8 .before .before .before .before .before .before in
+    let r = c14 .args in let h = lay-held (r .s .now) (r .starts .now) (r .ends .now) (r .powers .now) (r .n) (r .minus) 0 _ (c14 .pre) in let g = c8 .loop in
+    lay-put (r .s .now) (r .starts .now) (r .ends .now) (r .powers .now) (r .n) (r .minus) (r .out .now) (g .out) (g .p) (g .i) (c7 .loop-test .taken) h _
+    (c3 .rises .ensures) _ (c .before .before .next-row2 .ensures) _ (g .inv .1 _ (c14 .pre .1)) (c14 .pre .1) (g .inv .0)
 
--- src/lib.rt:97:5
 loop-less : tie.Need-loop-less Inv-loop μ-loop
 loop-less c =
-    let z = c .before .before .before .before .before .next-row2 .ensures .from in omega (arith, c .before .before .before .before .before .next-row2 .ensures .within)
+    let c5 = c .before .before .before .before .before in
+    let z = c5 .next-row2 .ensures .from in omega (arith, c5 .next-row2 .ensures .within)
 
--- src/lib.rt:97:5
 loop-again : tie.Need-loop-again Inv-loop μ-loop
 loop-again c =
-    let r = c .before .before .before .before .before .before .before .before .before .before .before .before .before .before .before .before .before .args in let h = lay-held (r .s .now) (r .starts .now) (r .ends .now) (r .powers .now) (r .n) (r .minus) 0 _ (c .before .before .before .before .before .before .before .before .before .before .before .before .before .before .before .before .before .pre) in let g = c .before .before .before .before .before .before .before .before .before .before .before .loop in (c .before .before .put-factor .kept .0 ∙ g .inv .0, λ l L. laying-next (r .s .now) (r .starts .now) (r .ends .now) (r .powers .now) (r .n) (r .minus) (r .out .now) (g .out) (g .p) (g .i) (c .before .before .before .before .before .before .before .before .before .before .loop-test .taken) h _ (c .before .before .before .before .before .before .rises .ensures) _ (c .before .before .before .before .before .next-row2 .ensures) l (g .inv .1 l L) _ _ (g .inv .0) (c .before .before .put-factor .ensures))
+    let c5 = c .before .before .before .before .before in
+    let c6 = c5 .before in
+    let c10 = c6 .before .before .before .before in
+    let c11 = c10 .before in
+    let c17 = c11 .before .before .before .before .before .before in
+    let r = c17 .args in
+    let h = lay-held (r .s .now) (r .starts .now) (r .ends .now) (r .powers .now) (r .n) (r .minus) 0 _ (c17 .pre) in
+    let g = c11 .loop in (
+      c .before .before .put-factor .kept .0 ∙ g .inv .0,
+      λ l L. laying-next (r .s .now) (r .starts .now) (r .ends .now) (r .powers .now) (r .n) (r .minus)
+          (r .out .now) (g .out) (g .p) (g .i) (c10 .loop-test .taken) h _ (c6 .rises .ensures) _ (c5 .next-row2 .ensures) l (g .inv .1 l L) _ _ (g .inv .0)
+          (c .before .before .put-factor .ensures),
+    )
 
--- src/lib.rt:83:1
 same-length : tie.Need-same-length Inv-loop μ-loop
 same-length c =
     c .before .loop .inv .0
 
--- src/lib.rt:83:1
 returns : tie.Need-returns Inv-loop μ-loop
 returns c =
-    let r = c .before .before .before .before .before .before .before .args in λ l L. laying-done (r .s .now) (r .starts .now) (r .ends .now) (r .powers .now) (r .n) (r .minus) (r .out .now) _ _ _ l (c .before .loop .inv .1 l L) (c .loop-test .left)
+    let r = c .before .before .before .before .before .before .before .args in λ l L. laying-done (r .s .now) (r .starts .now) (r .ends .now) (r .powers .now)
+    (r .n) (r .minus) (r .out .now) _ _ _ l (c .before .loop .inv .1 l L) (c .loop-test .left)
 
 pub write-rows-spec : {M : Type 1} → statement M
 write-rows-spec =

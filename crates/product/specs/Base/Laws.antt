@@ -40,7 +40,14 @@ args-two {slots} {s} {at} {e} x y O =
     let L = subst (λ (j : ℕ). Laid slots s (at + j) (x & y & nil)) g (args-of O) in
     let M = others-of L in
     let ends : at + 1 + length (encode x) + length (encode y) ≡ e =
-    omega (arith, O .there .ends, length-append (groups 10) (encodes (x & y & nil)), length-append (encode x) (encodes (y & nil)), length-append (encode y) (encodes nil)) in
+    omega (
+      arith,
+      O .there .ends,
+      length-append (groups 10) (encodes (x & y & nil)),
+      length-append (encode x) (encodes (y & nil)),
+      length-append (encode y)
+          (encodes nil),
+    ) in
     record {
       middle = at + 1 + length (encode x);
       first = first-of L;

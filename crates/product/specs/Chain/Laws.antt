@@ -139,6 +139,7 @@ module _ (ts : Terms) where
   unfolding written multiplied
   written-short = go (sides-written (ups (gather ts)) (ups (neg (gather ts))))
     where
-      go : Written (ups (gather ts)) (ups (neg (gather ts))) → length (sides (ups (gather ts)) (ups (neg (gather ts)))) ≤ length (encode (quotient (ups (gather ts)) (ups (neg (gather ts)))))
+      go : Written (ups (gather ts)) (ups (neg (gather ts))) → length (sides (ups (gather ts)) (ups (neg (gather ts)))) ≤ length
+          (encode (quotient (ups (gather ts)) (ups (neg (gather ts)))))
       go (nothing e p n b) = omega (arith, ap length e)
       go (something l p b) = omega (arith, ap length b)

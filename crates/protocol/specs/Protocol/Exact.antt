@@ -20,7 +20,8 @@ use Rattle.term.specs.Term.{encode, symbols}
 use Rattle.term.specs.Arity.{slots}
 use Rattle.term.specs.Reader.{term}
 use Rattle.term.specs.Reader.Exact.{Good, term-exact}
-use Rattle.protocol.specs.Protocol.{Rule, Own, Protocol, fact-of, rule-of, own-of, protocol-of, factArities, declared, encodeFact, encodeRule, encodeOwn, encodeProtocol, ruleTerm, fact, facts, layout, rule, own, protocol}
+use Rattle.protocol.specs.Protocol.{Rule, Own, Protocol, fact-of, rule-of, own-of, protocol-of, factArities, declared, encodeFact}
+use Rattle.protocol.specs.Protocol.{encodeRule, encodeOwn, encodeProtocol, ruleTerm, fact, facts, layout, rule, own, protocol}
 use Rattle.protocol.specs.Protocol.Limits.{TermWithin, FactWithin, FactsWithin, LayoutWithin, RuleWithin, OwnWithin, Within}
 
 pick-true : {A : Type 0} {b : Bool} (x y : A) → b ≡ true → pick b x y ≡ x

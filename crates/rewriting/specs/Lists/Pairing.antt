@@ -46,7 +46,8 @@ module _ {A B : Type 0} (key : A → B → Bool) where
       rest e k t =
           let (x, i, u, v) = h e k (and-split _ _ t .0) in
           ⊎-elim
-          (λ (j : x ≡ m). true-false (key m e && r m) (and-both _ _ (ap (λ y. key y e) (sym j) ∙ v) (ap r (sym j) ∙ u)) (not-split (key m e && r m) (and-split (q e) (not (key m e && r m)) t .1)))
+          (λ (j : x ≡ m). true-false (key m e && r m) (and-both _ _ (ap (λ y. key y e) (sym j) ∙ v) (ap r (sym j) ∙ u))
+          (not-split (key m e && r m) (and-split (q e) (not (key m e && r m)) t .1)))
           (λ j. (x, j, u, v))
           (List·Memᴰ·cases-cons i)
 
@@ -60,5 +61,6 @@ module _ {A B : Type 0} (key : A → B → Bool) where
           (λ f.
           ⊎-elim
           (λ z. omega arith)
-          (λ l. let (e, k, t) = count-pos (λ e. q e && (key m e && r m)) es l in true-false (r m) (and-split (key m e) (r m) (and-split (q e) (key m e && r m) t .1) .1) f)
+          (λ l. let (e, k, t) = count-pos (λ e. q e && (key m e && r m)) es l in true-false (r m)
+          (and-split (key m e) (r m) (and-split (q e) (key m e && r m) t .1) .1) f)
           (zero-or-pos (countBy (λ e. q e && (key m e && r m)) es)))

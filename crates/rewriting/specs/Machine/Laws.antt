@@ -79,7 +79,8 @@ module _ (F : Facts) where
   stop-scan k s [] = refl
   stop-scan k s (x ∷ xs) = by-bool (fails F s x) (λ t. rw t) (λ f. rw f (stop-scan (suc k) (after F s x) xs))
 
-  pub clear-ran : (k : ℕ) (s : State Fact) (xs : List (Node Fact)) → scan (λ j s x. fails F s x) (after F) k s xs ≡ none → runFrom F k s xs ≡ ran (leaves (after F) s xs)
+  pub clear-ran : (k : ℕ) (s : State Fact) (xs : List (Node Fact)) → scan (λ j s x. fails F s x) (after F) k s xs ≡ none → runFrom F k s xs ≡ ran
+      (leaves (after F) s xs)
   clear-ran k s [] h = refl
   clear-ran k s (x ∷ xs) h =
       by-bool (fails F s x) (λ t. absurd (Option·some-ne-none k (rw t at h))) (λ f. rw f (clear-ran (suc k) (after F s x) xs (rw f at h)))
@@ -97,9 +98,17 @@ module _ (F : Facts) where
   left-respects : (s : State Fact) (xs : List (Node Fact)) → Respects s → Respects (leaves (after F) s xs)
   left-respects s [] r = r
   left-respects s (x ∷ xs) r =
-      left-respects (after F s x) xs (λ f g lf e. rw (r f g lf e, count-same F f g e (linears F (x .premises)), count-same F f g e (linears F (x .conclusions))))
+      left-respects (after F s x) xs (λ f g lf e. rw (
+        r f g lf e,
+        count-same F f g e (linears F (x .premises)),
+        count-same F f g e
+            (linears F (x .conclusions)),
+      ))
 
   -- In each state that the machine reaches, the premises are lacking just where some linear fact stands more often among them
   -- than in the bag, or some persistent one is not in the set.
   pub lacks-exact : (nodes : List (Node Fact)) (s : State Fact) → run F nodes ≡ ran s → (ps : List Fact) → (lacks F s ps ≡ false) ↔ Enough s ps
-  lacks-exact nodes s h ps = (lacks-enough s ps (subst (λ e. Respects e) (ran-left 1 start nodes s h) (left-respects start nodes (λ f g lf e. refl))), enough-lacks s ps)
+  lacks-exact nodes s h ps = (
+    lacks-enough s ps (subst (λ e. Respects e) (ran-left 1 start nodes s h) (left-respects start nodes (λ f g lf e. refl))),
+    enough-lacks s ps,
+  )

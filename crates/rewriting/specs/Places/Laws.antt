@@ -2,7 +2,8 @@
 use mathlib.Core.Path.{_≡_, refl, sym, _∙_, ap}
 use mathlib.Core.Logic.{⊎-elim}
 use mathlib.Core.Bool.{true}
-use mathlib.Core.List.{List, [], _∷_, List·Memᴰ·head, List·Memᴰ·tail, List·Memᴰ·not-nil, List·Memᴰ·cases-cons, List·Memᴰ·append-cases, Memᴰ·append-left, Memᴰ·append-right}
+use mathlib.Core.List.{List, [], _∷_, List·Memᴰ·head, List·Memᴰ·tail}
+use mathlib.Core.List.{List·Memᴰ·not-nil, List·Memᴰ·cases-cons, List·Memᴰ·append-cases, Memᴰ·append-left, Memᴰ·append-right}
 use mathlib.Core.Option.{Option, some, Option·none-ne-some, Option·some-injective}
 use Prim.Native.Nat.{ℕ, zero, suc, _+_, _≤_}
 use native.Mathlib.Omega.{arith}
@@ -76,7 +77,8 @@ module _ {Fact : Type 0} where
         (λ h. let (j, a, b) = placedAll-mem (suc k) xs t h in (suc j, omega arith, b))
         (List·Memᴰ·append-cases (placed k 1 (part x)) m)
 
-    placedAll-has : (k : ℕ) (xs : List (Node Fact)) (t : Placed Fact) (j : ℕ) → t .place .node ≡ k + j → inNode part (t .place .index) (getElem? xs j) ≡ some (t .fact) →
+    placedAll-has : (k : ℕ) (xs : List (Node Fact)) (t : Placed Fact) (j : ℕ) → t .place .node ≡ k + j → inNode part (t .place .index) (getElem? xs j) ≡ some
+        (t .fact) →
         t ∈ placedAll part k xs
     placedAll-has k [] t j a b = absurd (Option·none-ne-some _ b)
     placedAll-has k (x ∷ xs) t zero a b = Memᴰ·append-left _ (placed-of k (part x) t (omega arith) b)

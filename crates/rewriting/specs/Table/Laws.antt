@@ -7,7 +7,8 @@ use Prim.Native.Nat.{ℕ, suc}
 use native.Mathlib.Omega.{arith}
 use lib.Dec.{ltb}
 use Rattle.rewriting.specs.Tests.{by-bool, leb-le, leb-gt}
-use Rattle.rewriting.specs.Table.{Ruling, passed, refused, Row, Least, Nowhere, Absent, Ruled, Says, Finds, Pass, orRefuse, rowsThen, rulingThen, rowsOf, rulingOf, andThen, rowsAfter}
+use Rattle.rewriting.specs.Table.{Ruling, passed, refused, Row, Least, Nowhere, Absent, Ruled, Says}
+use Rattle.rewriting.specs.Table.{Finds, Pass, orRefuse, rowsThen, rulingThen, rowsOf, rulingOf, andThen, rowsAfter}
 
 pub refused-passed : {A : Type 0} (n k : ℕ) (a : A) → Path (Ruling A) (refused n k) (passed a) → ⊥
 refused-passed n k a e = let z : _≡_ {A = ℕ} 0 1 = cc in omega arith
@@ -39,7 +40,8 @@ pub finds-iff : (P Q : ℕ → Type 0) → ((k : ℕ) → P k → Q k) → ((k :
 finds-iff P Q f g o h = finds-least P Q (λ k l. f k (l .here)) g o h
 
 module _ {A : Type 0} (Good : A → Type 0) where
-  row-ruled : (c : Row) (cs : List Row) (o : Option ℕ) (r : Ruling A) → Finds (c .has) o → (Nowhere c → Ruled cs Good r) → Ruled (c ∷ cs) Good (orRefuse (c .number) o r)
+  row-ruled : (c : Row) (cs : List Row) (o : Option ℕ) (r : Ruling A) → Finds (c .has) o → (Nowhere c → Ruled cs Good r) → Ruled (c ∷ cs) Good
+      (orRefuse (c .number) o r)
   row-ruled c cs none r h g = inl (h, g h)
   row-ruled c cs (some k) r h g = inr (k, h, refl)
 

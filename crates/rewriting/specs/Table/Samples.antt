@@ -53,7 +53,17 @@ canonical-ruled c = ruled (λ n. n ≡ c .need) (canonicalPasses c) (c .need) (�
 
 abbrev call : ℕ → ℕ → ℕ → List Bool → Bool → ℕ → ℕ → Call
 call work protocol term rules broken symbols room =
-    record { work = work; protocol = protocol; term = term; protocol-broken = false; rules = rules; term-broken = broken; symbols = symbols; room = room; need = 9 }
+    record {
+      work = work;
+      protocol = protocol;
+      term = term;
+      protocol-broken = false;
+      rules = rules;
+      term-broken = broken;
+      symbols = symbols;
+      room = room;
+      need = 9;
+    }
 
 written : canonical (call 65536 4096 1024 (true ∷ []) false 256 9) ≡ passed 9
 written = refl

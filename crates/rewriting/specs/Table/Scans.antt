@@ -29,7 +29,8 @@ module _ {S A : Type 0} (bad : ℕ → S → A → Bool) (step : S → A → S) 
   later-hit : (b : ℕ) (s : S) (x : A) (xs : List A) → bad b s x ≡ false → (k : ℕ) → HitFrom b s (x ∷ xs) k → HitFrom (suc b) (step s x) xs k
   later-hit b s x xs f k h = go (h .off) refl (h .stands) (h .is-bad)
     where
-      go : (o : ℕ) → h .off ≡ o → getElem? (x ∷ xs) o ≡ some (h .which) → bad k (leaves step s (take o (x ∷ xs))) (h .which) ≡ true → HitFrom (suc b) (step s x) xs k
+      go : (o : ℕ) → h .off ≡ o → getElem? (x ∷ xs) o ≡ some (h .which) → bad k (leaves step s (take o (x ∷ xs))) (h .which) ≡ true → HitFrom (suc b)
+          (step s x) xs k
       go zero e p t =
           let n : b ≡ k = omega (arith, h .far) in
           true-false (bad b s x) (ap₂ (λ j y. bad j s y) n (Option·some-injective x (h .which) p) ∙ t) f
@@ -41,7 +42,8 @@ module _ {S A : Type 0} (bad : ℕ → S → A → Bool) (step : S → A → S) 
       by-bool (bad b s x)
       (λ t. rw t (record { here = hit-first b s x xs t; below = λ j l h. omega (arith, h .far) }))
       (λ f. rw f
-      (finds-iff (HitFrom (suc b) (step s x) xs) (HitFrom b s (x ∷ xs)) (hit-later b s x xs) (later-hit b s x xs f) (scan bad step (suc b) (step s x) xs) (from-finds (suc b) (step s x) xs)))
+      (finds-iff (HitFrom (suc b) (step s x) xs) (HitFrom b s (x ∷ xs)) (hit-later b s x xs) (later-hit b s x xs f) (scan bad step (suc b) (step s x) xs)
+      (from-finds (suc b) (step s x) xs)))
 
   -- Where nothing is bad below a number, the pass over the elements below it finds nothing.
   from-clear : (b : ℕ) (s : S) (xs : List A) (o : ℕ) → ((j : ℕ) → j < b + o → HitFrom b s xs j → ⊥) → scan bad step b s (take o xs) ≡ none

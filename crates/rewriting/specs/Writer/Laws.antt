@@ -51,7 +51,8 @@ module _ (F : Facts) where
         }
 
   -- A linear fact takes one of its own out of the list.
-  pub takeOne-counts : (p : Fact) (l : List (Placed Fact)) → linear p ≡ true → 1 ≤ countPlaced F p l → (f : Fact) → countPlaced F f l ≡ bit (same f p) + countPlaced F f (takeOne F p l)
+  pub takeOne-counts : (p : Fact) (l : List (Placed Fact)) → linear p ≡ true → 1 ≤ countPlaced F p l → (f : Fact) → countPlaced F f l ≡ bit (same f p) +
+      countPlaced F f (takeOne F p l)
   takeOne-counts p l lp h f =
       let (a, e) = first-some (λ a. same p (a .fact)) l h in
       let c = count-remove (λ a. same p (a .fact)) (λ a. same f (a .fact)) l a e in
@@ -61,7 +62,8 @@ module _ (F : Facts) where
   pub takeOne-keeps : (p : Fact) (l : List (Placed Fact)) (f : Fact) → linear f ≡ false → countPlaced F f (takeOne F p l) ≡ countPlaced F f l
   takeOne-keeps p l f lf =
       by-bool (linear p)
-      (λ lp. rw lp (count-remove-other (λ a. same p (a .fact)) (λ a. same f (a .fact)) (λ a t. not-same′ F f (a .fact) lf (sym (same-linear p (a .fact) t) ∙ lp)) l))
+      (λ lp. rw lp (count-remove-other (λ a. same p (a .fact)) (λ a. same f (a .fact))
+      (λ a t. not-same′ F f (a .fact) lf (sym (same-linear p (a .fact) t) ∙ lp)) l))
       (λ lp. rw lp)
 
   pub takeAll-keeps : (ps : List Fact) (l : List (Placed Fact)) (f : Fact) → linear f ≡ false → countPlaced F f (takeAll F ps l) ≡ countPlaced F f l
@@ -127,7 +129,8 @@ module _ (F : Facts) where
 
   -- What a step does to the counts of the writer's free conclusions.
   module _ (k : ℕ) (free : List (Placed Fact)) (x : Node Fact) (h : Sources (x .premises) free) where
-    pub free-linear : (f : Fact) → linear f ≡ true → countPlaced F f (freeAfter F k free x) + count F f (x .premises) ≡ countPlaced F f free + count F f (x .conclusions)
+    pub free-linear : (f : Fact) → linear f ≡ true → countPlaced F f (freeAfter F k free x) + count F f (x .premises) ≡ countPlaced F f free + count F f
+        (x .conclusions)
     free-linear f lf =
         omega (
           arith,
@@ -145,8 +148,10 @@ module _ (F : Facts) where
           placed-count F f k 1 (x .conclusions),
         )
 
-  pub tracks-next : (k : ℕ) (x : Node Fact) (free : List (Placed Fact)) (s : State Fact) → Tracks free s → Sources (x .premises) free → Tracks (freeAfter F k free x) (after F s x)
+  pub tracks-next : (k : ℕ) (x : Node Fact) (free : List (Placed Fact)) (s : State Fact) → Tracks free s → Sources (x .premises) free → Tracks
+      (freeAfter F k free x) (after F s x)
   tracks-next k x free s r h = record {
     in-bag = λ f lf. omega (arith, free-linear k free x h f lf, h .linears f lf, r .in-bag f lf, bag-after F s x f lf);
-    in-set = λ f lf. leb-sum (countPlaced F f free) (count F f (x .conclusions)) (countPlaced F f (freeAfter F k free x)) (free-persistent k free x h f lf) ∙ (ap (λ b. b || leb 1 (count F f (x .conclusions))) (r .in-set f lf) ∙ sym (set-after F s x f lf));
+    in-set = λ f lf. leb-sum (countPlaced F f free) (count F f (x .conclusions)) (countPlaced F f (freeAfter F k free x)) (free-persistent k free x h f lf) ∙
+        (ap (λ b. b || leb 1 (count F f (x .conclusions))) (r .in-set f lf) ∙ sym (set-after F s x f lf));
   }

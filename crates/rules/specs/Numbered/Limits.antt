@@ -168,12 +168,14 @@ module _ (slots : List ℕ) where
         (by-test (eqb n 1)
         (simple-within 0 (first 2) [] (first 3) (omega arith) (first-within 2 (omega arith)) none-within (first-within 3 (omega arith)) refl)
         (by-test (eqb n 2)
-        (simple-within 0 (first 3) (first 3) (first 1) (omega arith) (first-within 3 (omega arith)) (first-within 3 (omega arith)) (first-within 1 (omega arith)) refl)
+        (simple-within 0 (first 3) (first 3) (first 1) (omega arith) (first-within 3 (omega arith)) (first-within 3 (omega arith))
+        (first-within 1 (omega arith)) refl)
         (by-test (eqb n 3)
         (simple-within 2 [] [] (first 3) (omega arith) none-within none-within (first-within 3 (omega arith)) refl)
         (simple-within 1 (first 0) [] (first 3) (omega arith) (first-within 0 (omega arith)) none-within (first-within 3 (omega arith)) refl))))
       where
-        by-test : (b : Bool) {x y : Rule} → RuleWithin slots (factArities os) x → RuleWithin slots (factArities os) y → RuleWithin slots (factArities os) (pick b x y)
+        by-test : (b : Bool) {x y : Rule} → RuleWithin slots (factArities os) x → RuleWithin slots (factArities os) y → RuleWithin slots (factArities os)
+            (pick b x y)
         by-test b {x} {y} p q = elim b [ true ↦ p | false ↦ q ]
 
     pub applies-within : (t k : ℕ) → arity slots t ≡ some k → t < 256 → k ≤ 4 → RuleWithin slots (factArities os) (applies t k)

@@ -98,7 +98,8 @@ module _ (p : Protocol) where
 
   pub part-within : (u : Rule) → RuleWithin (slots (p .functions)) (factArities (p .symbols)) u → (w : ℕ) → All Fitting (part w u)
   part-within u r w =
-      all-at (All Fitting) [] tt (u .parts) (all-map (FactsWithin (slots (p .functions)) (factArities (p .symbols))) (All Fitting) (λ fs b. b .each) (u .parts) (r .laid .each)) w
+      all-at (All Fitting) [] tt (u .parts) (all-map (FactsWithin (slots (p .functions)) (factArities (p .symbols))) (All Fitting) (λ fs b. b .each) (u .parts)
+      (r .laid .each)) w
 
 module _ (p : Protocol) (fit : Within p) where
   pub facts-formed : (x : Node) → NodeWithin p x → (w : ℕ) → All (FactFormed p) (factsOf p w x)
@@ -119,14 +120,17 @@ module _ (p : Protocol) (fit : Within p) where
       (λ f h. fact-ground (x .values) (length (b .is .sorts)) g (omega (arith, b .takes)) f (h .0) (h .1)) (part w (b .is))
       (all-both (Fitting p) (λ f. leafIn 0 (length (b .is .sorts)) numberLimit f ≡ false) (part w (b .is)) (part-within p (b .is) fits w)
       (all-at (All (λ f. leafIn 0 (length (b .is .sorts)) numberLimit f ≡ false)) [] tt (b .is .parts)
-      (all-map (λ fs. any (leafIn 0 (length (b .is .sorts)) numberLimit) fs ≡ false) (All (λ f. leafIn 0 (length (b .is .sorts)) numberLimit f ≡ false)) (λ fs h. none-all (leafIn 0 (length (b .is .sorts)) numberLimit) fs h)
+      (all-map (λ fs. any (leafIn 0 (length (b .is .sorts)) numberLimit) fs ≡ false) (All (λ f. leafIn 0 (length (b .is .sorts)) numberLimit f ≡ false))
+      (λ fs h. none-all (leafIn 0 (length (b .is .sorts)) numberLimit) fs h)
       (b .is .parts) (none-all (any (leafIn 0 (length (b .is .sorts)) numberLimit)) (b .is .parts) (not-split _ (fits .bound)))) w)))
     where
       fits : RuleWithin (slots (p .functions)) (factArities (p .symbols)) (b .is)
       fits = rule-within p fit (x .rule) (b .is) (b .known)
 
-      fact-ground : (vs : List Term) (n : ℕ) → All Ground vs → n ≤ length vs → (f : Fact) → Fitting p f → leafIn 0 n numberLimit f ≡ false → All Ground (filledFact vs f .terms)
+      fact-ground : (vs : List Term) (n : ℕ) → All Ground vs → n ≤ length vs → (f : Fact) → Fitting p f → leafIn 0 n numberLimit f ≡ false → All Ground
+          (filledFact vs f .terms)
       fact-ground vs n g l f h k =
           map-all (λ t. TermWithin (slots (p .functions)) t × (holds t 0 n numberLimit ≡ false)) Ground (sub (valueAt vs))
           (λ t b. sub-ground (valueAt vs) t (λ v o. value-ground vs g v (omega (arith, occurs-below t v n (b .0 .range) (b .1) o)))) (f .terms)
-          (all-both (TermWithin (slots (p .functions))) (λ t. holds t 0 n numberLimit ≡ false) (f .terms) (h .each) (none-all (λ t. holds t 0 n numberLimit) (f .terms) k))
+          (all-both (TermWithin (slots (p .functions))) (λ t. holds t 0 n numberLimit ≡ false) (f .terms) (h .each)
+          (none-all (λ t. holds t 0 n numberLimit) (f .terms) k))

@@ -62,7 +62,8 @@ pub zero-sorts : (p : Protocol) (n : ℕ) → n ≡ 0 → (u : Rule) × (ruleOf 
 unfolding fixed
 zero-sorts p n h = (fixed n, of-fixed p n (omega arith), ap (λ (k : ℕ). fixed k .sorts) h)
 
-module _ {protocol table rules : List ℕ} {nr : ℕ} {p : Protocol} (i : IndexOf protocol table rules nr p) (s : List ℕ) (bytes : Bytes s) (r d : ℕ) (x : Node) (e : ℕ) (from : NodeFrom p s r d x e) where
+module _ {protocol table rules : List ℕ} {nr : ℕ} {p : Protocol} (i : IndexOf protocol table rules nr p) (s : List ℕ) (bytes : Bytes s) (r d : ℕ) (x : Node)
+    (e : ℕ) (from : NodeFrom p s r d x e) where
   pub zero-name : r ≡ 0 → (m : Made) → NumberIs (symbolAt s table d) m → MadeIs (facts.makes x) m
   unfolding many
   zero-name z m h =

@@ -132,7 +132,8 @@ module _ (p : Protocol) (d : Node) (xs : List Node) where
       ≡ cond b (some (j + 1)) (nameTwiceFrom (suc (j + 1)) (madeBy (take j xs) ++ nameOf (makes (getD xs j d))) (rewrittens p (drop (suc j) xs)))
   step j b l t h =
       h ∙ ap (λ (ys : List Node). nameTwiceFrom (j + 1) (madeBy (take j xs)) (rewrittens p ys)) (drop-cons xs j d l)
-      ∙ ap (λ (a : Bool). cond a (some (j + 1)) (nameTwiceFrom (suc (j + 1)) (madeBy (take j xs) ++ nameOf (makes (getD xs j d))) (rewrittens p (drop (suc j) xs))))
+      ∙ ap (λ (a : Bool). cond a (some (j + 1)) (nameTwiceFrom (suc (j + 1)) (madeBy (take j xs) ++ nameOf (makes (getD xs j d)))
+      (rewrittens p (drop (suc j) xs))))
       (again-already (take j xs) (makes (getD xs j d)) ∙ t)
 
   pub names-more : (j : ℕ) → j < length xs → againIn (take j xs) (makes (getD xs j d)) ≡ false → NamesLeft j → NamesLeft (j + 1)
@@ -143,7 +144,8 @@ module _ (p : Protocol) (d : Node) (xs : List Node) where
       ∙ ap (λ (m : List ℕ). nameTwiceFrom (suc (j + 1)) m (rewrittens p (drop (suc j) xs))) (sym (made-more xs j d l))
       ∙ ap₂ (λ (k i : ℕ). nameTwiceFrom k (madeBy (take i xs)) (rewrittens p (drop i xs))) a b
 
-  pub names-twice : (j : ℕ) → j < length xs → againIn (take j xs) (makes (getD xs j d)) ≡ true → NamesLeft j → asFound (j + 1) ≡ firstNameTwice (rewrittens p xs)
+  pub names-twice : (j : ℕ) → j < length xs → againIn (take j xs) (makes (getD xs j d)) ≡ true → NamesLeft j → asFound (j + 1) ≡ firstNameTwice
+      (rewrittens p xs)
   names-twice j l t h = found-is j ∙ sym (step j true l t h)
 
   pub names-none : (j : ℕ) → length xs ≤ j → NamesLeft j → none ≡ firstNameTwice (rewrittens p xs)

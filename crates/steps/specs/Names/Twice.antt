@@ -81,7 +81,18 @@ module _ (p : Protocol) where
   twice-made xs (suc k) h =
       let f = from-map xs k (some (h .name)) (h .node) (h .stands) (h .made) in
       let (i, l, g) = early xs k (h .name) (h .earlier) in
-      record { later = f .its; earlier = g .its; place = suc i; name = h .name; stands = f .there; stood = g .there; before-it = omega arith; makes-it = f .name; made-it = g .name }
+      record {
+        later = f .its;
+        earlier = g .its;
+        place = suc i;
+        name = h .name;
+        stands = f .there;
+        stood = g .there;
+        before-it = omega arith;
+        makes-it = f
+            .name;
+        made-it = g .name;
+      }
 
   pub made-twice : (xs : List Node) (k : ℕ) → MadeTwice xs k → NameTwice (rewrittens p xs) k
   made-twice xs zero h = absurd (Option·none-ne-some (h .later) (h .stands))
@@ -90,7 +101,14 @@ module _ (p : Protocol) where
       go : (j : ℕ) → nth xs j ≡ some (h .earlier) → j < suc k → NameTwice (rewrittens p xs) (suc k)
       go zero s l = absurd (Option·none-ne-some (h .earlier) s)
       go (suc j) s l =
-          record { node = rewritten p (h .later); name = h .name; stands = at-map xs k (h .later) (h .stands); made = h .makes-it; earlier = late xs k (h .name) j (h .earlier) (omega arith) s (h .made-it) }
+          record {
+            node = rewritten p (h .later);
+            name = h .name;
+            stands = at-map xs k (h .later) (h .stands);
+            made = h .makes-it;
+            earlier = late xs k
+                (h .name) j (h .earlier) (omega arith) s (h .made-it);
+          }
 
   pub twice-exactly : (xs : List Node) (k : ℕ) → NameTwice (rewrittens p xs) k ↔ MadeTwice xs k
   twice-exactly xs k = (twice-made xs k, made-twice xs k)

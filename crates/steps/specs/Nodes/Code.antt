@@ -37,7 +37,8 @@ use Rattle.steps.specs.declared.nodes.NodeEnd.{NodeEnd}
 use Rattle.steps.specs.declared.nodes.NodeEnd.the-variants as end
 use Rattle.steps.specs.declared.nodes.Nodes.{Nodes}
 use Rattle.steps.specs.declared.nodes.Nodes.the-variants as all
-use Rattle.steps.specs.Nodes.{Node, node-of, mostNodes, Reading, read, broken, no-rule, plainly, absent, unknown, values, node, nodesFrom, nodes, allOf, steps}
+use Rattle.steps.specs.Nodes.{Node, node-of, mostNodes, Reading, read, broken, no-rule, plainly}
+use Rattle.steps.specs.Nodes.{absent, unknown, values, node, nodesFrom, nodes, allOf, steps}
 use Rattle.steps.specs.Nodes.Exact.{many-from}
 use Rattle.steps.specs.Nodes.Unknown.{stops-unknown, stops-broken}
 

@@ -22,7 +22,8 @@ use Rattle.term.specs.Reader.{term}
 use Rattle.term.specs.Reader.Exact.{Good, term-exact}
 use Rattle.protocol.specs.Protocol.{Rule, Protocol}
 use Rattle.rules.specs.Numbered.{ruleOf}
-use Rattle.steps.specs.Nodes.{Node, node-of, mostNodes, encodeNode, encodeNodes, Reading, read, broken, no-rule, onward, plainly, allOf, NodeWithin, NodesWithin, values, node, absent, unknown, nodesFrom, nodes, steps}
+use Rattle.steps.specs.Nodes.{Node, node-of, mostNodes, encodeNode, encodeNodes, Reading, read, broken, no-rule, onward, plainly}
+use Rattle.steps.specs.Nodes.{allOf, NodeWithin, NodesWithin, values, node, absent, unknown, nodesFrom, nodes, steps}
 
 -- ── readings in parts ──
 module _ {A B : Type 0} where

@@ -66,7 +66,18 @@ module _ (p : Protocol) (s : List ℕ) where
       cut _ _ _ (unknown p (readNumber s at)) h
       (λ t h. cut-unknown (readNumber s at) t (λ r e hr q.
       let i : b ≡ k = cc in
-      record { before = []; many-before = 0; place = at; rule = r; next = e; reads = refl; number = omega arith; fewer = omega arith; tells = hr; no-such = q }))
+      record {
+        before = [];
+        many-before = 0;
+        place = at;
+        rule = r;
+        next = e;
+        reads = refl;
+        number = omega arith;
+        fewer = omega arith;
+        tells = hr;
+        no-such = q;
+      }))
       (λ t h. cut-plain-rule (node p s at) _ h (λ x d hx h. cut-rule (nodesFrom p s (suc b) n d) _ h
       (λ g.
       let f = from-norule (suc b) n d k g in
@@ -99,7 +110,8 @@ module _ (p : Protocol) (s : List ℕ) where
       cut-got (node p s at) _ h (λ x d hx h. cut-got (many (node p s) j d) _ h (λ ys c hys h.
       let a : c ≡ place = cc in
       let i : suc b + j ≡ b + suc j = omega arith in
-      ap (λ (t : Bool). pick t (no-rule b) (plainly (node p s at) (λ x e. onward (nodesFrom p s (suc b) n e) (λ xs f. read (x ∷ xs) f)))) (node-known p s at d x hx)
+      ap (λ (t : Bool). pick t (no-rule b) (plainly (node p s at) (λ x e. onward (nodesFrom p s (suc b) n e) (λ xs f. read (x ∷ xs) f))))
+      (node-known p s at d x hx)
       ∙ ap (λ (o : Read Node). plainly o (λ x e. onward (nodesFrom p s (suc b) n e) (λ xs f. read (x ∷ xs) f))) hx
       ∙ ap (λ (o : Reading (List Node)). onward o (λ xs f. read (x ∷ xs) f))
       (ends-there o stays place here j (suc b) n d ys (hys ∙ ap (got ys) a) (omega arith))
@@ -130,6 +142,7 @@ module _ (p : Protocol) (s : List ℕ) where
     (λ h.
         let f = h .there in
         ap (λ (o : Read ℕ). plainly o (λ n e. nodesFrom p s 1 n e)) (h .counts)
-        ∙ stops-unknown (f .place) (ap (unknown p) (f .tells) ∙ ap absent (f .no-such)) (f .many-before) 1 (h .count) (h .start) (f .before) (f .reads) (f .fewer)
+        ∙ stops-unknown (f .place) (ap (unknown p) (f .tells) ∙ ap absent (f .no-such)) (f .many-before) 1 (h .count) (h .start) (f .before) (f .reads)
+        (f .fewer)
         ∙ ap no-rule (sym (f .number))),
   )

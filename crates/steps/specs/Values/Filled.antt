@@ -123,7 +123,8 @@ module _ {table ars s src : List ℕ} {place at : ℕ} {u : Rule} {vs : List Ter
 
 -- ── as the code finds its rule: at the start of some bytes ──
 -- these are few
-pub part-short : (file out : List ℕ) (r : Found) → Fits file out r → length file ≤ 2 ^ 32 → length out ≡ 30 → (src : List ℕ) → src ≡ partOf file out r → length src ≤ 2 ^ 32
+pub part-short : (file out : List ℕ) (r : Found) → Fits file out r → length file ≤ 2 ^ 32 → length out ≡ 30 → (src : List ℕ) → src ≡ partOf file out r → length
+    src ≤ 2 ^ 32
 part-short file out (fd.Written len) f short h src e = omega (arith, ap length e, length-take-le len out f)
 part-short file out (fd.At place) f short h src e = omega (arith, ap length e, length-drop place file)
 part-short file out fd.Nothing f short h src e = omega (arith, ap length e)

@@ -105,7 +105,8 @@ values-fail (s ∷ ss) (v ∷ vs) h =
     record { index = suc (b .index); sort = b .sort; value = b .value; sorted = b .sorted; valued = b .valued; is-false = b .is-false })
     (λ f. record { index = 0; sort = s; value = v; sorted = refl; valued = refl; is-false = f })
 
-pub fail-values : (ss : List ℕ) (vs : List Term) (i s : ℕ) (v : Term) → getElem? ss i ≡ some s → getElem? vs i ≡ some v → valueOk s v ≡ false → valuesOk ss vs ≡ false
+pub fail-values : (ss : List ℕ) (vs : List Term) (i s : ℕ) (v : Term) → getElem? ss i ≡ some s → getElem? vs i ≡ some v → valueOk s v ≡ false → valuesOk ss vs
+    ≡ false
 fail-values [] vs i s v a b f = absurd (Option·none-ne-some s a)
 fail-values (r ∷ ss) [] i s v a b f = absurd (Option·none-ne-some v b)
 fail-values (r ∷ ss) (w ∷ vs) zero s v a b f =

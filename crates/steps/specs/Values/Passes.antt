@@ -70,13 +70,15 @@ module _ (p : Protocol) (xs : List Node) where
           value = b .value;
           there = record { sorted = b .sorted; valued = b .valued };
           wrong = λ g.
-              let d = value-decides slots-of (declared (p .functions)) (b .sort) (b .value) (good-at k (h .which) (h .stands) (b .index) (b .value) (b .valued)) in
+              let d = value-decides slots-of (declared (p .functions)) (b .sort) (b .value)
+              (good-at k (h .which) (h .stands) (b .index) (b .value) (b .valued)) in
               true-false (valueOk (b .sort) (b .value)) (d .1 g) (b .is-false);
         })
 
     pub wrong-fails : (k : ℕ) → WrongValue p xs k → Fails (λ j x. nodeValuesOk p x) xs k
     wrong-fails k h =
-        let d = value-decides slots-of (declared (p .functions)) (h .sort) (h .value) (good-at k (h .node) (h .stands) (h .variable-is) (h .value) (h .there .valued)) in
+        let d = value-decides slots-of (declared (p .functions)) (h .sort) (h .value)
+        (good-at k (h .node) (h .stands) (h .variable-is) (h .value) (h .there .valued)) in
         record {
           which = h .node;
           stands = h .stands;
@@ -124,7 +126,8 @@ module _ (p : Protocol) (xs : List Node) where
         (λ k h.
             let n = all-nth (NodeRight p) xs r k (h .node) (h .stands) in
             let i : h .is ≡ n .is = Option·some-injective (h .is) (n .is) (sym (h .known) ∙ n .known) in
-            h .wrong (n .fits (h .variable-is) (h .sort) (h .value) (subst (λ (u : Rule). ValueAt u (h .node) (h .variable-is) (h .sort) (h .value)) i (h .there)))),
+            h .wrong (n .fits (h .variable-is) (h .sort) (h .value) (subst (λ (u : Rule). ValueAt u (h .node) (h .variable-is) (h .sort) (h .value)) i
+            (h .there)))),
         (
           (λ k h.
               let n = all-nth (NodeRight p) xs r k (h .node) (h .stands) in

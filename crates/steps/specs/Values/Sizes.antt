@@ -46,7 +46,8 @@ module _ (s table : List ℕ) (k at : ℕ) (vs : List Term) (e : ℕ) (all : man
           let r : k - (v + 1) ≡ m = omega arith in
           c t d ht y (ap (λ (j : ℕ). many (term s table) j d) r ∙ hts ∙ ap₂ got (w ∙ ap (λ (j : ℕ). drop j vs) o) f)))
 
-  pub sized-more : (v i d n : ℕ) (sizes : List ℕ) → v < k → v < length sizes → Sized v i sizes → ended (term s table i) ≡ part.End d n → Sized (v + 1) d (set sizes v n)
+  pub sized-more : (v i d n : ℕ) (sizes : List ℕ) → v < k → v < length sizes → Sized v i sizes → ended (term s table i) ≡ part.End d n → Sized (v + 1) d
+      (set sizes v n)
   sized-more v i d n sizes l room g h =
       head v i sizes l g (λ t b ht y more.
       let p : part.End b (symbols t) ≡ part.End d n = sym (ap ended ht) ∙ h in
@@ -58,7 +59,8 @@ module _ (s table : List ℕ) (k at : ℕ) (vs : List Term) (e : ℕ) (all : man
             (λ q. getD-set-other sizes v j n 1 (λ e. omega arith) ∙ g .done j q)
             (λ q.
             let z : j ≡ v = omega arith in
-            ap (λ (a : ℕ). getD (set sizes v n) a 1) z ∙ getD-set-same sizes v n 1 room ∙ sym pn ∙ ap symbols y ∙ ap (λ (a : ℕ). symbols (getD vs a noTerm)) (sym z));
+            ap (λ (a : ℕ). getD (set sizes v n) a 1) z ∙ getD-set-same sizes v n 1 room ∙ sym pn ∙ ap symbols y ∙ ap (λ (a : ℕ). symbols (getD vs a noTerm))
+            (sym z));
       })
 
   pub sized-fault : {C : Type 0} (v i : ℕ) (sizes : List ℕ) → v < k → Sized v i sizes → ended (term s table i) ≡ part.Fault → C

@@ -113,12 +113,14 @@ module _ (s slots : List ℕ) (bytes : Bytes s) (w : ℕ → ℕ) (t : Term) whe
   going-fault sum (suc n) i l g h =
       cut-got (term s slots i) _ (g .reads) (λ u d hu q. go (symbolAt s slots i) refl (sym (term-build s slots bytes i) ∙ hu) h)
     where
-      go : {C : Type 0} {u : Term} {d : ℕ} (y : Symbol) → symbolAt s slots i ≡ y → build (term s slots) (symbolAt s slots i) ≡ got u d → weightOf w (symbolAt s slots i) ≡ wt.Fault → C
+      go : {C : Type 0} {u : Term} {d : ℕ} (y : Symbol) → symbolAt s slots i ≡ y → build (term s slots) (symbolAt s slots i) ≡ got u d → weightOf w
+          (symbolAt s slots i) ≡ wt.Fault → C
       go (sy.Leaf f m b) y hu h = let q : wt.Takes (leafWeight w (kindOf f) m) 0 b ≡ wt.Fault = sym (ap (weightOf w) y) ∙ h in clash (cc)
       go (sy.Op f m b) y hu h = let q : wt.Takes 1 m b ≡ wt.Fault = sym (ap (weightOf w) y) ∙ h in clash (cc)
       go {C} {u} {d} sy.Fault y hu h = let q : fault ≡ got u d = sym (ap (build (term s slots)) y) ∙ hu in clash (cc)
 
-  pub going-more : (sum pending i a k e : ℕ) → 0 < pending → Going s slots w t sum pending i → weightOf w (symbolAt s slots i) ≡ wt.Takes a k e → Stepped s slots w t sum pending i a k e
+  pub going-more : (sum pending i a k e : ℕ) → 0 < pending → Going s slots w t sum pending i → weightOf w (symbolAt s slots i) ≡ wt.Takes a k e → Stepped s
+      slots w t sum pending i a k e
   unfolding many
   going-more sum zero i a k e l g h = absurd (omega arith)
   going-more sum (suc n) i a k e l g h =
@@ -128,7 +130,8 @@ module _ (s slots : List ℕ) (bytes : Bytes s) (w : ℕ → ℕ) (t : Term) whe
       go (symbolAt s slots i) refl u d us c (sym (term-build s slots bytes i) ∙ hu) hus z h))
     where
       go : (y : Symbol) → symbolAt s slots i ≡ y → (u : Term) (d : ℕ) (us : List Term) (c : ℕ) → build (term s slots) (symbolAt s slots i) ≡ got u d
-          → many (term s slots) n d ≡ got us c → sum + (weigh w u + total w us) ≡ weigh w t → weightOf w (symbolAt s slots i) ≡ wt.Takes a k e → Stepped s slots w t sum (suc n) i a k e
+          → many (term s slots) n d ≡ got us c → sum + (weigh w u + total w us) ≡ weigh w t → weightOf w (symbolAt s slots i) ≡ wt.Takes a k e → Stepped s
+          slots w t sum (suc n) i a k e
       go (sy.Leaf f m b) y u d us c hu hus z h =
           let p : got (leaf (kindOf f) m) b ≡ got u d = sym (ap (build (term s slots)) y) ∙ hu in
           let q : wt.Takes (leafWeight w (kindOf f) m) 0 b ≡ wt.Takes a k e = sym (ap (weightOf w) y) ∙ h in

@@ -5,18 +5,14 @@ use Rattle.term.specs.Walk.Laws.{walks-one}
 use borrow.Author.Needs.{needs}
 use Rattle.term.proofs.walk_term.Statement.{statement}
 use Rattle.term.proofs.walk_term.Tie as tie
-use Rattle.term.proofs.walk_term.Reads as reads
-use Rattle.term.proofs.walk_term.Lts as lts
-use Rattle.term.proofs.walk_terms.Reads as walk-terms-reads
 
--- src/lib.rt:139:5
 walk-terms-requires : tie.Need-walk-terms-requires
 walk-terms-requires c κs = search needs
 
--- src/lib.rt:135:1
 returns : tie.Need-returns
 returns c =
-    c .walk-terms .ensures ∙ walks-one (c .before .before .before .args .kind) (c .before .before .before .args .lo) (c .before .before .before .args .hi) (term (now (c .before .before .before .args .s)) (now (c .before .before .before .args .arities))) (c .before .before .before .args .at)
+    let c3 = c .before .before .before in
+    c .walk-terms .ensures ∙ walks-one (c3 .args .kind) (c3 .args .lo) (c3 .args .hi) (term (now (c3 .args .s)) (now (c3 .args .arities))) (c3 .args .at)
 
 pub walk-term-spec : {M : Type 1} → statement M
 walk-term-spec = tie.close (tie.spec walk-terms-requires returns)

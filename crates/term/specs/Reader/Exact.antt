@@ -16,7 +16,8 @@ use Rattle.number.specs.Layout.{flat, All, Exact}
 use Rattle.number.specs.Layout.Laws.{many-form}
 use Rattle.term.specs.declared.Symbol.{Symbol}
 use Rattle.term.specs.declared.Symbol.the-variants as sy
-use Rattle.term.specs.Term.{Kind, variable, public, fresh, Term, leaf, app, Terms, nil, _&_, tagOf, count, encode, encodes, Formed, Formeds, InRange, InRanges}
+use Rattle.term.specs.Term.{Kind, variable, public, fresh, Term, leaf, app, Terms, nil}
+use Rattle.term.specs.Term.{_&_, tagOf, count, encode, encodes, Formed, Formeds, InRange, InRanges}
 use Rattle.term.specs.Term.Laws.{tag-small}
 use Rattle.term.specs.Arity.{arity}
 use Rattle.term.specs.Arity.Laws.{no-leaf}
@@ -127,7 +128,8 @@ module _ (s slots : List ℕ) (bytes : Bytes s) where
   abbrev Form : (ℕ → Read Term) → Type 0
   Form p = (t : Term) (at e : ℕ) → p at ≡ got t e → Good slots t × Stands s at (encode t) e
 
-  build-form : (p : ℕ → Read Term) → Form p → (t : Term) (at e : ℕ) (y : Symbol) → symbolAt s slots at ≡ y → build p y ≡ got t e → Good slots t × Stands s at (encode t) e
+  build-form : (p : ℕ → Read Term) → Form p → (t : Term) (at e : ℕ) (y : Symbol) → symbolAt s slots at ≡ y → build p y ≡ got t e → Good slots t × Stands s at
+      (encode t) e
   build-form p form t at e (sy.Leaf u n d) h g =
       let l = leaf-at s slots at u n d h in
       let a = read-form s bytes at u (l .middle) (l .tag) in

@@ -7,7 +7,8 @@ use native.Mathlib.Omega.{arith}
 use lib.ListN.{length, length-append}
 use Rattle.number.specs.Groups.{groups}
 use Rattle.number.specs.Groups.Laws.{groups-prefix, groups-some}
-use Rattle.term.specs.Term.{Kind, variable, public, fresh, Term, leaf, app, Terms, nil, _&_, tagOf, count, encode, encodes, symbols, symbolss, Formed, Formeds}
+use Rattle.term.specs.Term.{Kind, variable, public, fresh, Term, leaf, app, Terms, nil}
+use Rattle.term.specs.Term.{_&_, tagOf, count, encode, encodes, symbols, symbolss, Formed, Formeds}
 
 -- ── leaves ──
 pub tag-small : (k : Kind) → tagOf k < 3

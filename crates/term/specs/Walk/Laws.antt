@@ -128,7 +128,8 @@ module _ (kind lo hi : ℕ) where
     unfolding many
     walk-turn at zero count k e found b l h = absurd (omega arith)
     walk-turn at (suc pending) count k e found b l h =
-        sym (ap (λ (r : Read Term). tally count found (andThen r (λ x d. andThen (many (term s slots) pending d) (λ xs f. got (x ∷ xs) f)))) (term-build s slots bytes at)
+        sym (ap (λ (r : Read Term). tally count found (andThen r (λ x d. andThen (many (term s slots) pending d) (λ xs f. got (x ∷ xs) f))))
+        (term-build s slots bytes at)
         ∙ turned count pending at k e (suc pending - 1 + k) found b (symbolAt s slots at) refl (omega arith) h)
 
     stopped : (y : Symbol) → stepOf y ≡ st.Fault → build (term s slots) y ≡ fault

@@ -6,9 +6,6 @@ use lib.ListN.{length}
 use Rattle.facts.specs.Owed.{room-kept}
 use Rattle.cases_facts.proofs.outcome.first_fact.Statement.{statement}
 use Rattle.cases_facts.proofs.outcome.first_fact.Tie as tie
-use Rattle.cases_facts.proofs.outcome.first_fact.Reads as reads
-use Rattle.cases_facts.proofs.outcome.first_fact.Lts as lts
-use Rattle.facts.proofs.compare.same_fact.Reads as same-fact-reads
 
 abbrev Inv-loop : tie.InvT-loop
 Inv-loop k out₀ s protocol arities ars rules nr places n x i₀ out i =
@@ -18,66 +15,61 @@ abbrev μ-loop : tie.MeasureT-loop
 μ-loop k out₀ s protocol arities ars rules nr places n x i₀ out i =
     n - i
 
--- src/outcome.rt:36:13
 mul-x : tie.Need-mul-x Inv-loop μ-loop
 mul-x c =
     omega (arith, c .before .before .before .before .before .before .before .pre .5 .few)
 
--- src/outcome.rt:36:13
 array-copy-out-x : tie.Need-array-copy-out-x Inv-loop μ-loop
 array-copy-out-x c =
     omega (arith, c .before .before .before .before .before .before .before .pre .5 .few)
 
--- src/outcome.rt:38:5
 loop-holds : tie.Need-loop-holds Inv-loop μ-loop
 loop-holds c = search needs
 
--- src/outcome.rt:39:17
 mul-y : tie.Need-mul-y Inv-loop μ-loop
 mul-y c =
     omega (arith, c .before .before .before .before .before .before .before .before .before .before .pre .5 .few)
 
--- src/outcome.rt:39:17
 array-copy-out-y : tie.Need-array-copy-out-y Inv-loop μ-loop
 array-copy-out-y c =
     omega (arith, c .before .before .before .before .before .before .before .before .before .before .pre .5 .few)
 
--- src/outcome.rt:40:12
 same-fact-requires : tie.Need-same-fact-requires Inv-loop μ-loop
 same-fact-requires c κs =
-    (room-kept _ _ _ (search needs) (c .before .before .before .before .before .before .before .before .before .before .before .before .pre .1), c .before .before .before .before .before .before .before .before .before .before .before .before .pre .2, c .before .before .before .before .before .before .before .before .before .before .before .before .pre .3, c .before .before .before .before .before .before .before .before .before .before .before .before .pre .4, c .before .before .before .before .before .before .before .before .before .before .before .before .pre .5 .each _ (omega arith), c .before .before .before .before .before .before .before .before .before .before .before .before .pre .5 .each _ (c .before .before .before .before .before .before .before .before .before .before .before .before .pre .0))
+    let c12 = c .before .before .before .before .before .before .before .before .before .before .before .before in
+    (room-kept _ _ _ (search needs) (c12 .pre .1), c12 .pre .2, c12 .pre .3, c12 .pre .4, c12 .pre .5 .each _ (omega arith), c12 .pre .5 .each _ (c12 .pre .0))
 
--- src/outcome.rt:41:20
 add-result : tie.Need-add-result Inv-loop μ-loop
 add-result c =
-    omega (arith, c .before .before .before .before .before .before .before .before .before .before .before .before .before .before .before .before .pre .5 .few)
+    omega (
+      arith,
+      c .before .before .before .before .before .before .before .before .before .before .before .before .before .before .before .before .pre .5
+          .few,
+    )
 
--- src/outcome.rt:41:13
 same-length : tie.Need-same-length Inv-loop μ-loop
 same-length c = search needs
 
--- src/outcome.rt:41:13
 returns : tie.Need-returns Inv-loop μ-loop
 returns c = search needs
 
--- src/outcome.rt:43:9
 add-i : tie.Need-add-i Inv-loop μ-loop
 add-i c =
-    omega (arith, c .before .before .before .before .before .before .before .before .before .before .before .before .before .before .before .before .pre .5 .few)
+    omega (
+      arith,
+      c .before .before .before .before .before .before .before .before .before .before .before .before .before .before .before .before .pre .5
+          .few,
+    )
 
--- src/outcome.rt:38:5
 loop-less : tie.Need-loop-less Inv-loop μ-loop
 loop-less c = search needs
 
--- src/outcome.rt:38:5
 loop-again : tie.Need-loop-again Inv-loop μ-loop
 loop-again c = search needs
 
--- src/outcome.rt:21:1
 same-length-2 : tie.Need-same-length-2 Inv-loop μ-loop
 same-length-2 c = search needs
 
--- src/outcome.rt:21:1
 returns-2 : tie.Need-returns-2 Inv-loop μ-loop
 returns-2 c = search needs
 

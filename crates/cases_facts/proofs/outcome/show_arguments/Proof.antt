@@ -6,10 +6,6 @@ use lib.ListN.{length}
 use Rattle.facts.specs.Owed.{room-kept}
 use Rattle.cases_facts.proofs.outcome.show_arguments.Statement.{statement}
 use Rattle.cases_facts.proofs.outcome.show_arguments.Tie as tie
-use Rattle.cases_facts.proofs.outcome.show_arguments.Reads as reads
-use Rattle.cases_facts.proofs.outcome.show_arguments.Lts as lts
-use Rattle.cases_facts.proofs.outcome.first_argument.Reads as first-argument-reads
-use Rattle.cases_facts.proofs.outcome.show_number.Reads as show-number-reads
 
 abbrev Inv-loop : tie.InvT-loop
 Inv-loop arguments out₀ s protocol arities ars rules nr n k₀ out k =
@@ -19,37 +15,30 @@ abbrev μ-loop : tie.MeasureT-loop
 μ-loop arguments out₀ s protocol arities ars rules nr n k₀ out k =
     n - k
 
--- src/outcome.rt:124:5
 loop-holds : tie.Need-loop-holds Inv-loop μ-loop
 loop-holds c = search needs
 
--- src/outcome.rt:125:21
 first-argument-requires : tie.Need-first-argument-requires Inv-loop μ-loop
 first-argument-requires c κs =
-    (search needs, room-kept _ _ _ (search needs) (c .before .before .before .before .before .before .before .before .before .pre .0), c .before .before .before .before .before .before .before .before .before .pre .1, c .before .before .before .before .before .before .before .before .before .pre .2, c .before .before .before .before .before .before .before .before .before .pre .3, c .before .before .before .before .before .before .before .before .before .pre .4)
+    let c9 = c .before .before .before .before .before .before .before .before .before in
+    (search needs, room-kept _ _ _ (search needs) (c9 .pre .0), c9 .pre .1, c9 .pre .2, c9 .pre .3, c9 .pre .4)
 
--- src/outcome.rt:125:9
 show-number-requires : tie.Need-show-number-requires Inv-loop μ-loop
 show-number-requires c κs = search needs
 
--- src/outcome.rt:126:9
 add-k : tie.Need-add-k Inv-loop μ-loop
 add-k c =
     omega (arith, c .before .before .before .before .before .before .before .before .before .before .before .before .before .pre .4 .few)
 
--- src/outcome.rt:124:5
 loop-less : tie.Need-loop-less Inv-loop μ-loop
 loop-less c = search needs
 
--- src/outcome.rt:124:5
 loop-again : tie.Need-loop-again Inv-loop μ-loop
 loop-again c = search needs
 
--- src/outcome.rt:110:1
 same-length : tie.Need-same-length Inv-loop μ-loop
 same-length c = search needs
 
--- src/outcome.rt:110:1
 returns : tie.Need-returns Inv-loop μ-loop
 returns c = search needs
 

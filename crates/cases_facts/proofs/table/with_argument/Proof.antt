@@ -3,26 +3,19 @@ use Rattle.cases_facts.specs.Table.{noArgument, IsArgument, filled-more}
 use borrow.Author.Needs.{needs}
 use Rattle.cases_facts.proofs.table.with_argument.Statement.{statement}
 use Rattle.cases_facts.proofs.table.with_argument.Tie as tie
-use Rattle.cases_facts.proofs.table.with_argument.Reads as reads
-use Rattle.cases_facts.proofs.table.with_argument.Lts as lts
 
--- src/table.rt:180:9
 returns : tie.Need-returns
 returns c = search needs
 
--- src/table.rt:182:5
 mul-each : tie.Need-mul-each
 mul-each c = search needs
 
--- src/table.rt:182:5
 array-set-from-each : tie.Need-array-set-from-each
 array-set-from-each c = search needs
 
--- src/table.rt:185:12
 add-t11 : tie.Need-add-t11
 add-t11 c = search needs
 
--- src/table.rt:165:1
 returns-2 : tie.Need-returns-2
 returns-2 c =
     filled-more (IsArgument _ _ _ _ _) noArgument 256 _ _ _ (c .before .before .pre .0) (omega arith) (c .before .before .pre .1)

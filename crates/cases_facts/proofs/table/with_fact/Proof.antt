@@ -4,26 +4,19 @@ use Rattle.cases_facts.specs.Table.{noPlace, filled-more}
 use borrow.Author.Needs.{needs}
 use Rattle.cases_facts.proofs.table.with_fact.Statement.{statement}
 use Rattle.cases_facts.proofs.table.with_fact.Tie as tie
-use Rattle.cases_facts.proofs.table.with_fact.Reads as reads
-use Rattle.cases_facts.proofs.table.with_fact.Lts as lts
 
--- src/table.rt:40:9
 returns : tie.Need-returns
 returns c = search needs
 
--- src/table.rt:42:5
 mul-places : tie.Need-mul-places
 mul-places c = search needs
 
--- src/table.rt:42:5
 array-set-from-places : tie.Need-array-set-from-places
 array-set-from-places c = search needs
 
--- src/table.rt:45:12
 add-t11 : tie.Need-add-t11
 add-t11 c = search needs
 
--- src/table.rt:25:1
 returns-2 : tie.Need-returns-2
 returns-2 c =
     filled-more (HasFact _ _ _ _ _) noPlace 64 _ _ _ (c .before .before .pre .0) (omega arith) (c .before .before .pre .1)

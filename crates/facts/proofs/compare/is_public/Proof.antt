@@ -3,36 +3,37 @@ use Rattle.facts.specs.Calls.Two.{next-room, parts-inside, parts-test}
 use borrow.Author.Needs.{needs}
 use Rattle.facts.proofs.compare.is_public.Statement.{statement}
 use Rattle.facts.proofs.compare.is_public.Tie as tie
-use Rattle.facts.proofs.compare.is_public.Reads as reads
-use Rattle.facts.proofs.compare.is_public.Lts as lts
-use Rattle.facts.proofs.compare.put_public.Reads as put-public-reads
-use Rattle.facts.proofs.compare.same_parts.Reads as same-parts-reads
-use Rattle.facts.proofs.nodes.node_fact.Reads as node-fact-reads
 
--- src/compare.rt:149:9
 node-fact-requires : tie.Need-node-fact-requires
 node-fact-requires c κs = search needs
 
--- src/compare.rt:150:9
 put-public-requires : tie.Need-put-public-requires
 put-public-requires c κs =
-    let f = c .before .before .before .before .before .before .before .before .before .before .before .pre .4 in
-    next-room _ _ _ _ (c .before .before .before .before .before .before .before .before .before .before .before .pre .0) (c .before .before .before .node-fact .ensures (f .of) (f .its) (f .index) (f .is) .put) (search needs)
+    let c3 = c .before .before .before in
+    let c11 = c3 .before .before .before .before .before .before .before .before in
+    let f = c11 .pre .4 in
+    next-room _ _ _ _ (c11 .pre .0) (c3 .node-fact .ensures (f .of) (f .its) (f .index) (f .is) .put) (search needs)
 
--- src/compare.rt:151:5
 same-parts-requires : tie.Need-same-parts-requires
 same-parts-requires c κs =
-    let f = c .before .before .before .before .before .before .before .before .before .before .before .before .before .before .before .pre .4 in
-    parts-inside _ _ _ _ _ _ _ (c .before .before .before .before .before .before .before .before .before .before .before .before .before .before .before .pre .0) (c .before .before .before .before .before .before .before .node-fact .ensures (f .of) (f .its) (f .index) (f .is) .put) (c .before .before .before .put-public .ensures) (search needs) (search needs)
+    let c3 = c .before .before .before in
+    let c7 = c3 .before .before .before .before in
+    let c15 = c7 .before .before .before .before .before .before .before .before in
+    let f = c15 .pre .4 in
+    parts-inside _ _ _ _ _ _ _ (c15 .pre .0) (c7 .node-fact .ensures (f .of) (f .its) (f .index) (f .is) .put) (c3 .put-public .ensures) (search needs)
+    (search needs)
 
--- src/compare.rt:134:1
 same-length : tie.Need-same-length
 same-length c = search needs
 
--- src/compare.rt:134:1
 returns : tie.Need-returns
 returns c =
-    λ p m i x. public-test p (c .before .before .before .before .before .before .before .before .before .before .before .before .before .before .before .before .args .x) (c .before .before .before .before .before .before .before .before .before .before .before .before .before .before .before .before .args .i) m (c .before .before .before .before .before .before .before .before .before .before .before .before .before .before .before .before .args .name .0) _ (parts-test _ _ _ _ _ _ _ (c .before .before .before .before .before .before .before .before .before .before .before .before .before .before .before .before .pre .0) (c .before .before .before .before .before .before .before .before .node-fact .ensures p m i x .put) (c .before .before .before .before .put-public .ensures) (search needs) (search needs) _ (c .same-parts .ensures))
+    let c4 = c .before .before .before .before in
+    let c8 = c4 .before .before .before .before in
+    let c16 = c8 .before .before .before .before .before .before .before .before in
+    λ p m i x. public-test p (c16 .args .x) (c16 .args .i) m (c16 .args .name .0) _
+    (parts-test _ _ _ _ _ _ _ (c16 .pre .0) (c8 .node-fact .ensures p m i x .put) (c4 .put-public .ensures) (search needs) (search needs) _
+    (c .same-parts .ensures))
 
 pub is-public-spec : {M : Type 1} → statement M
 is-public-spec =

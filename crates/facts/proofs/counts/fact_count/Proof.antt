@@ -5,39 +5,28 @@ use mathlib.Core.Path.{ap, sym, _∙_}
 use borrow.Author.Needs.{needs}
 use Rattle.facts.proofs.counts.fact_count.Statement.{statement}
 use Rattle.facts.proofs.counts.fact_count.Tie as tie
-use Rattle.facts.proofs.counts.fact_count.Reads as reads
-use Rattle.facts.proofs.counts.fact_count.Lts as lts
-use Rattle.facts.proofs.counts.count_from.Reads as count-from-reads
-use Rattle.number.proofs.read_number.Reads as read-number-reads
 
--- src/counts.rt:58:11
 read-number-requires : tie.Need-read-number-requires
 read-number-requires c κs = search needs
 
--- src/counts.rt:59:23
 enum-known-r : tie.Need-enum-known-r
 enum-known-r c = search needs
 
--- src/counts.rt:59:78
 cast-count-from : tie.Need-cast-count-from
 cast-count-from c = search needs
 
--- src/counts.rt:59:32
 count-from-requires : tie.Need-count-from-requires
 count-from-requires c κs = search needs
 
--- src/counts.rt:60:26
 enum-told : tie.Need-enum-told
 enum-told c = search needs
 
--- src/counts.rt:45:1
 returns : tie.Need-returns
 returns c =
     λ p x i h.
     let (u, is, known) = node-rule p _ _ _ _ x (sym (c .before .before .before .before .read-number .ensures) ∙ ap asRead (c .before .before .r .given .1)) h in
     c .count-from .ensures p u i is ∙ sym (facts-counted p x u known _)
 
--- src/counts.rt:45:1
 returns-2 : tie.Need-returns-2
 returns-2 c =
     λ p x i h. no-node-from p _ _ x (sym (c .before .before .read-number .ensures) ∙ ap asRead (c .enum-told .given .1)) h

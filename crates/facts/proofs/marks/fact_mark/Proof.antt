@@ -8,48 +8,51 @@ use Rattle.facts.specs.Marks.{fact-marked, symbol-small, put-inside}
 use borrow.Author.Needs.{needs}
 use Rattle.facts.proofs.marks.fact_mark.Statement.{statement}
 use Rattle.facts.proofs.marks.fact_mark.Tie as tie
-use Rattle.facts.proofs.marks.fact_mark.Reads as reads
-use Rattle.facts.proofs.marks.fact_mark.Lts as lts
-use Rattle.facts.proofs.marks.mark_bytes.Reads as mark-bytes-reads
-use Rattle.facts.proofs.nodes.node_fact.Reads as node-fact-reads
 
--- src/marks.rt:43:9
 node-fact-requires : tie.Need-node-fact-requires
 node-fact-requires c κs = search needs
 
--- src/marks.rt:44:16
 slice-reshare-prefix-mark-bytes : tie.Need-slice-reshare-prefix-mark-bytes
 slice-reshare-prefix-mark-bytes c =
-    let f = c .before .before .before .before .before .before .before .before .before .before .pre .4 in
-    put-inside _ _ _ _ (c .before .before .node-fact .ensures (f .of) (f .its) (f .index) (f .is) .put) (omega (arith, c .before .before .before .before .before .before .before .before .before .before .pre .0 .enough))
+    let c10 = c .before .before .before .before .before .before .before .before .before .before in
+    let f = c10 .pre .4 in
+    put-inside _ _ _ _ (c .before .before .node-fact .ensures (f .of) (f .its) (f .index) (f .is) .put) (omega (arith, c10 .pre .0 .enough))
 
--- src/marks.rt:44:16
 slice-aggregate-mark-bytes : tie.Need-slice-aggregate-mark-bytes
 slice-aggregate-mark-bytes c =
-    let f = c .before .before .before .before .before .before .before .before .before .before .before .pre .4 in
-    sym (length-take-le _ _ (put-inside _ _ _ _ (c .before .before .before .node-fact .ensures (f .of) (f .its) (f .index) (f .is) .put) (omega (arith, c .before .before .before .before .before .before .before .before .before .before .before .pre .0 .enough))))
+    let c3 = c .before .before .before in
+    let c11 = c3 .before .before .before .before .before .before .before .before in
+    let f = c11 .pre .4 in
+    sym (length-take-le _ _ (put-inside _ _ _ _ (c3 .node-fact .ensures (f .of) (f .its) (f .index) (f .is) .put) (omega (arith, c11 .pre .0 .enough))))
 
--- src/marks.rt:44:31
 cast-mark-bytes : tie.Need-cast-mark-bytes
 cast-mark-bytes c =
-    let f = c .before .before .before .before .before .before .before .before .before .before .before .before .pre .4 in
-    let b = symbol-small (f .of) (index-within (f .index)) _ (fact-of-formed (f .of) _ (index-within (f .index)) (λ k. c .before .before .before .before .before .before .before .before .before .before .shared-slice-known .given k .fits) _ _ (f .its) (f .is)) _ (c .before .before .before .before .node-fact .ensures (f .of) (f .its) (f .index) (f .is) .symbols) in
+    let c4 = c .before .before .before .before in
+    let c10 = c4 .before .before .before .before .before .before in
+    let c12 = c10 .before .before in
+    let f = c12 .pre .4 in
+    let b = symbol-small (f .of) (index-within (f .index)) _ (fact-of-formed (f .of) _ (index-within (f .index)) (λ k. c10 .shared-slice-known .given k .fits)
+    _ _ (f .its) (f .is)) _ (c4 .node-fact .ensures (f .of) (f .its) (f .index) (f .is) .symbols) in
     omega (arith, b)
 
--- src/marks.rt:44:5
 mark-bytes-requires : tie.Need-mark-bytes-requires
 mark-bytes-requires c κs =
-    let f = c .before .before .before .before .before .before .before .before .before .before .before .before .pre .4 in
-    symbol-small (f .of) (index-within (f .index)) _ (fact-of-formed (f .of) _ (index-within (f .index)) (λ k. c .before .before .before .before .before .before .before .before .before .before .shared-slice-known .given k .fits) _ _ (f .its) (f .is)) _ (c .before .before .before .before .node-fact .ensures (f .of) (f .its) (f .index) (f .is) .symbols)
+    let c4 = c .before .before .before .before in
+    let c10 = c4 .before .before .before .before .before .before in
+    let c12 = c10 .before .before in
+    let f = c12 .pre .4 in
+    symbol-small (f .of) (index-within (f .index)) _ (fact-of-formed (f .of) _ (index-within (f .index)) (λ k. c10 .shared-slice-known .given k .fits) _ _
+    (f .its) (f .is)) _ (c4 .node-fact .ensures (f .of) (f .its) (f .index) (f .is) .symbols)
 
--- src/marks.rt:30:1
 same-length : tie.Need-same-length
 same-length c = search needs
 
--- src/marks.rt:30:1
 returns : tie.Need-returns
 returns c =
-    λ p m i h. fact-marked (factAt p (c .before .before .before .before .before .before .before .before .before .before .before .before .before .args .x .part) (c .before .before .before .before .before .before .before .before .before .before .before .before .before .args .x .number) m) _ _ _ _ _ (c .before .before .before .before .before .node-fact .ensures p m i h .put) (c .before .before .before .before .before .node-fact .ensures p m i h .symbols) (c .mark-bytes .ensures)
+    let c5 = c .before .before .before .before .before in
+    let c13 = c5 .before .before .before .before .before .before .before .before in
+    λ p m i h. fact-marked (factAt p (c13 .args .x .part) (c13 .args .x .number) m) _ _ _ _ _ (c5 .node-fact .ensures p m i h .put)
+    (c5 .node-fact .ensures p m i h .symbols) (c .mark-bytes .ensures)
 
 pub fact-mark-spec : {M : Type 1} → statement M
 fact-mark-spec =

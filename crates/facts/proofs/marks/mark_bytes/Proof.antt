@@ -1,12 +1,10 @@
 use borrow.Author.Needs.{needs}
 use lib.ListN.{length}
-use Prim.Native.Nat.{ℕ, _-_, _≤_, _<_}
+use Prim.Native.Nat.{_-_, _≤_, _<_}
 use native.Mathlib.Omega.{arith}
 use Rattle.facts.specs.Marks.{markLimit, Marked, marked-none, marked-more, marked-all, mark-small}
 use Rattle.facts.proofs.marks.mark_bytes.Statement.{statement}
 use Rattle.facts.proofs.marks.mark_bytes.Tie as tie
-use Rattle.facts.proofs.marks.mark_bytes.Reads as reads
-use Rattle.facts.proofs.marks.mark_bytes.Lts as lts
 
 abbrev Inv-loop : tie.InvT-loop
 Inv-loop s from h₀ i₀ h i =
@@ -16,45 +14,36 @@ abbrev μ-loop : tie.MeasureT-loop
 μ-loop s from h₀ i₀ h i =
     length s - i
 
--- src/marks.rt:22:5
 loop-holds : tie.Need-loop-holds Inv-loop μ-loop
 loop-holds c =
     (c .pre, omega arith, marked-none _ _)
 
--- src/marks.rt:23:14
 mul-h : tie.Need-mul-h Inv-loop μ-loop
 mul-h c =
     omega (arith, c .before .loop .inv .0)
 
--- src/marks.rt:23:24
 shared-slice-read-h : tie.Need-shared-slice-read-h Inv-loop μ-loop
 shared-slice-read-h c = search needs
 
--- src/marks.rt:23:24
 cast-h : tie.Need-cast-h Inv-loop μ-loop
 cast-h c =
     omega (arith, c .shared-slice-known .given (c .before .before .loop .i))
 
--- src/marks.rt:23:14
 add-h : tie.Need-add-h Inv-loop μ-loop
 add-h c =
     omega (arith, c .before .before .loop .inv .0, c .shared-slice-known .given (c .before .before .loop .i) .fits)
 
--- src/marks.rt:24:9
 add-i : tie.Need-add-i Inv-loop μ-loop
 add-i c =
     omega (arith, c .before .loop-test .taken)
 
--- src/marks.rt:22:5
 loop-less : tie.Need-loop-less Inv-loop μ-loop
 loop-less c = search needs
 
--- src/marks.rt:22:5
 loop-again : tie.Need-loop-again Inv-loop μ-loop
 loop-again c =
     (mark-small _, omega (arith, c .before .loop-test .taken), marked-more _ _ _ _ (c .before .loop-test .taken) (c .before .before .loop .inv .2))
 
--- src/marks.rt:16:1
 returns : tie.Need-returns Inv-loop μ-loop
 returns c =
     marked-all _ _ _ (c .before .loop .i) (omega (arith, c .loop-test .left)) (c .before .loop .inv .2)

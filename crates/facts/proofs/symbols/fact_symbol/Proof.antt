@@ -7,39 +7,31 @@ use mathlib.Core.Path.{ap, sym, _∙_}
 use borrow.Author.Needs.{needs}
 use Rattle.facts.proofs.symbols.fact_symbol.Statement.{statement}
 use Rattle.facts.proofs.symbols.fact_symbol.Tie as tie
-use Rattle.facts.proofs.symbols.fact_symbol.Reads as reads
-use Rattle.facts.proofs.symbols.fact_symbol.Lts as lts
-use Rattle.facts.proofs.symbols.symbol_from.Reads as symbol-from-reads
-use Rattle.number.proofs.read_number.Reads as read-number-reads
 
--- src/symbols.rt:61:11
 read-number-requires : tie.Need-read-number-requires
 read-number-requires c κs = search needs
 
--- src/symbols.rt:62:23
 enum-known-r : tie.Need-enum-known-r
 enum-known-r c = search needs
 
--- src/symbols.rt:68:13
 cast-symbol-from : tie.Need-cast-symbol-from
 cast-symbol-from c = search needs
 
--- src/symbols.rt:62:32
 symbol-from-requires : tie.Need-symbol-from-requires
 symbol-from-requires c κs = search needs
 
--- src/symbols.rt:72:26
 enum-told : tie.Need-enum-told
 enum-told c = search needs
 
--- src/symbols.rt:49:1
 returns : tie.Need-returns
 returns c =
+    let c4 = c .before .before .before .before in
+    let c10 = c4 .before .before .before .before .before .before in
     λ p x i h l.
-    let (u, is, known) = node-rule p _ _ _ _ x (sym (c .before .before .before .before .read-number .ensures) ∙ ap asRead (c .before .before .r .given .1)) h in
-    c .symbol-from .ensures p u i is (omega (arith, l, facts-counted p x u known (c .before .before .before .before .before .before .before .before .before .before .args .place .part))) ∙ sym (ap (λ (f : Fact). f .symbol) (fact-filled p x u known (c .before .before .before .before .before .before .before .before .before .before .args .place .part) (c .before .before .before .before .before .before .before .before .before .before .args .place .number) l))
+    let (u, is, known) = node-rule p _ _ _ _ x (sym (c4 .read-number .ensures) ∙ ap asRead (c .before .before .r .given .1)) h in
+    c .symbol-from .ensures p u i is (omega (arith, l, facts-counted p x u known (c10 .args .place .part))) ∙ sym
+    (ap (λ (f : Fact). f .symbol) (fact-filled p x u known (c10 .args .place .part) (c10 .args .place .number) l))
 
--- src/symbols.rt:49:1
 returns-2 : tie.Need-returns-2
 returns-2 c =
     λ p x i h l. no-node-from p _ _ x (sym (c .before .before .read-number .ensures) ∙ ap asRead (c .enum-told .given .1)) h

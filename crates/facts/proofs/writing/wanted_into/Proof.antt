@@ -2,43 +2,31 @@ use Rattle.facts.specs.Writing.Whole.{ready-as, done-as}
 use borrow.Author.Needs.{needs}
 use Rattle.facts.proofs.writing.wanted_into.Statement.{statement}
 use Rattle.facts.proofs.writing.wanted_into.Tie as tie
-use Rattle.facts.proofs.writing.wanted_into.Reads as reads
-use Rattle.facts.proofs.writing.wanted_into.Lts as lts
-use Rattle.facts.proofs.writing.argument_into.Reads as argument-into-reads
-use Rattle.facts.proofs.writing.fact_into.Reads as fact-into-reads
 
--- src/writing.rt:100:34
 enum-told : tie.Need-enum-told
 enum-told c = search needs
 
--- src/writing.rt:100:24
 fact-into-requires : tie.Need-fact-into-requires
 fact-into-requires c κs =
     ready-as _ _ _ _ _ _ _ _ (c .before .enum-told .given .1) _ _ (c .before .before .before .before .before .before .before .before .before .pre)
 
--- src/writing.rt:101:21
 enum-known-wanted : tie.Need-enum-known-wanted
 enum-known-wanted c = search needs
 
--- src/writing.rt:101:27
 argument-into-requires : tie.Need-argument-into-requires
 argument-into-requires c κs =
     ready-as _ _ _ _ _ _ _ _ (c .before .before .wanted .given .1) _ _ (c .before .before .before .before .before .before .before .before .before .before .pre)
 
--- src/writing.rt:85:1
 same-length : tie.Need-same-length
 same-length c = search needs
 
--- src/writing.rt:85:1
 returns : tie.Need-returns
 returns c =
     done-as _ _ _ _ _ _ _ _ (c .before .before .before .before .enum-told .given .1) _ _ _ _ (c .before .before .fact-into .ensures)
 
--- src/writing.rt:85:1
 same-length-2 : tie.Need-same-length-2
 same-length-2 c = search needs
 
--- src/writing.rt:85:1
 returns-2 : tie.Need-returns-2
 returns-2 c =
     done-as _ _ _ _ _ _ _ _ (c .before .before .before .before .before .wanted .given .1) _ _ _ _ (c .before .before .argument-into .ensures)

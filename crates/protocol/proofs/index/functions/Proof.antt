@@ -24,7 +24,17 @@ enum-known-n c = search needs
 
 functions-from-requires : tie.Need-functions-from-requires
 functions-from-requires c κs =
-    (omega (arith, below-inside _ _ _ (λ i. c .before .before .before .before .before .before .before .before .before .before .before .shared-slice-known .given i .fits) _ _ (sym (c .before .before .before .before .below .ensures) ∙ ap asRead (c .before .before .n .given .1)) .small), omega (arith, c .before .before .before .before .before .before .before .copy-into .kept), c .before .before .before .before .before .before .before .copy-into .ensures .1 ∙ splice-all _ _ (omega arith) ∙ sym slots-none)
+    let c4 = c .before .before .before .before in
+    let c7 = c4 .before .before .before in
+    let c11 = c7 .before .before .before .before in (
+      omega (
+        arith,
+        below-inside _ _ _ (λ i. c11 .shared-slice-known .given i .fits) _ _ (sym (c4 .below .ensures) ∙ ap asRead (c .before .before .n .given .1))
+            .small,
+      ),
+      omega (arith, c7 .copy-into .kept),
+      c7 .copy-into .ensures .1 ∙ splice-all _ _ (omega arith) ∙ sym slots-none,
+    )
 
 enum-told : tie.Need-enum-told
 enum-told c = search needs
@@ -34,14 +44,27 @@ same-length c = search needs
 
 returns : tie.Need-returns
 returns c =
-    (omega (arith, c .before .before .before .before .before .before .before .before .before .before .copy-into .kept, c .before .before .functions-from .kept), told-as _ _ (Slotted (c .before .before .functions-from .last .1 .1 .1 .0)) (c .before .before .functions-from .result) (counted-got _ (below (now (c .before .before .before .before .before .before .before .before .before .before .before .before .before .before .before .args .s)) 5) 16 _ _ _ (sym (c .before .before .before .before .before .before .before .below .ensures) ∙ ap asRead (c .before .before .before .before .before .n .given .1))) (c .before .before .functions-from .ensures .1))
+    let c5 = c .before .before .before .before .before in
+    let c7 = c5 .before .before in
+    let c10 = c7 .before .before .before in
+    let c15 = c10 .before .before .before .before .before in (
+      omega (arith, c10 .copy-into .kept, c .before .before .functions-from .kept),
+      told-as _ _ (Slotted (c .before .before .functions-from .last .1 .1 .1 .0))
+          (c .before .before .functions-from .result) (counted-got _ (below (now (c15 .args .s)) 5) 16 _ _ _
+          (sym (c7 .below .ensures) ∙ ap asRead (c5 .n .given .1))) (c .before .before .functions-from .ensures .1),
+    )
 
 same-length-2 : tie.Need-same-length-2
 same-length-2 c = search needs
 
 returns-2 : tie.Need-returns-2
 returns-2 c =
-    (omega (arith, c .before .before .before .before .before .copy-into .kept), counted-fault _ (below (now (c .before .before .before .before .before .before .before .before .before .before .args .s)) 5) 16 _ (sym (c .before .before .below .ensures) ∙ ap asRead (c .enum-told .given .1)))
+    let c5 = c .before .before .before .before .before in
+    let c10 = c5 .before .before .before .before .before in (
+      omega (arith, c5 .copy-into .kept),
+      counted-fault _ (below (now (c10 .args .s)) 5) 16 _
+          (sym (c .before .before .below .ensures) ∙ ap asRead (c .enum-told .given .1)),
+    )
 
 pub functions-spec : {M : Type 1} → statement M
 functions-spec =

@@ -31,7 +31,9 @@ enum-known-v c = search needs
 
 cast-arities : tie.Need-cast-arities Inv-loop μ-loop
 cast-arities c =
-    omega (arith, below-inside _ _ _ (λ i. c .before .before .before .before .before .before .before .shared-slice-known .given i .fits) _ _ (sym (c .before .before .before .below .ensures) ∙ ap asRead (c .before .v .given .1)) .small)
+    let c3 = c .before .before .before in
+    let c7 = c3 .before .before .before .before in
+    omega (arith, below-inside _ _ _ (λ i. c7 .shared-slice-known .given i .fits) _ _ (sym (c3 .below .ensures) ∙ ap asRead (c .before .v .given .1)) .small)
 
 cast-arities-2 : tie.Need-cast-arities-2 Inv-loop μ-loop
 cast-arities-2 c = search needs
@@ -50,8 +52,10 @@ loop-less c = search needs
 
 loop-again : tie.Need-loop-again Inv-loop μ-loop
 loop-again c =
-    let l : c .before .before .before .before .before .loop .j < 16 = omega arith in
-    (search needs, simp length-set (omega arith), slots-next _ _ _ _ _ _ _ (c .before .before .before .before .before .loop .inv .2) (sym (c .before .before .before .below .ensures) ∙ ap asRead (c .before .v .given .1)) l)
+    let c3 = c .before .before .before in
+    let c5 = c3 .before .before in
+    let l : c5 .loop .j < 16 = omega arith in
+    (search needs, simp length-set (omega arith), slots-next _ _ _ _ _ _ _ (c5 .loop .inv .2) (sym (c3 .below .ensures) ∙ ap asRead (c .before .v .given .1)) l)
 
 enum-told : tie.Need-enum-told Inv-loop μ-loop
 enum-told c = search needs
@@ -61,15 +65,22 @@ same-length c = search needs
 
 returns : tie.Need-returns Inv-loop μ-loop
 returns c =
-    (search needs, many-stop _ _ _ _ _ _ (c .before .before .before .before .loop .inv .2 .there) (sym (c .before .before .below .ensures) ∙ ap asRead (c .enum-told .given .1)) (c .before .before .before .loop-test .taken))
+    let c3 = c .before .before .before in
+    let c4 = c3 .before in (
+      search needs,
+      many-stop _ _ _ _ _ _ (c4 .loop .inv .2 .there) (sym (c .before .before .below .ensures) ∙ ap asRead (c .enum-told .given .1))
+          (c3 .loop-test .taken),
+    )
 
 same-length-2 : tie.Need-same-length-2 Inv-loop μ-loop
 same-length-2 c = search needs
 
 returns-2 : tie.Need-returns-2 Inv-loop μ-loop
 returns-2 c =
-    let m : c .before .loop .j ≡ c .before .before .before .before .args .n = omega arith in
-    let o : Slotting (now (c .before .before .before .before .args .s)) (c .before .before .before .before .args .at) (c .before .before .before .before .args .n) (c .before .loop .i) (c .before .loop .arities) = subst (λ (k : ℕ). Slotting (now (c .before .before .before .before .args .s)) (c .before .before .before .before .args .at) k (c .before .loop .i) (c .before .loop .arities)) m (c .before .loop .inv .2) in
+    let c4 = c .before .before .before .before in
+    let m : c .before .loop .j ≡ c4 .args .n = omega arith in
+    let o : Slotting (now (c4 .args .s)) (c4 .args .at) (c4 .args .n) (c .before .loop .i) (c .before .loop .arities) = subst
+    (λ (k : ℕ). Slotting (now (c4 .args .s)) (c4 .args .at) k (c .before .loop .i) (c .before .loop .arities)) m (c .before .loop .inv .2) in
     (search needs, record { item = o .items; there = o .there; says = o .slotted })
 
 pub functions-from-spec : {M : Type 1} → statement M

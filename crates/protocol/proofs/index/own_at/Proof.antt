@@ -29,11 +29,17 @@ enum-told-2 c = search needs
 
 returns-2 : tie.Need-returns-2
 returns-2 c =
-    sym (own-got _ _ (sym (c .before .before .before .before .before .before .before .below .ensures) ∙ ap asRead (c .before .before .before .before .before .a .given .1)) (sym (c .before .before .before .below2 .ensures) ∙ ap asRead (c .before .l .given .1)))
+    let c3 = c .before .before .before in
+    let c5 = c3 .before .before in
+    let c7 = c5 .before .before in
+    sym (own-got _ _ (sym (c7 .below .ensures) ∙ ap asRead (c5 .a .given .1)) (sym (c3 .below2 .ensures) ∙ ap asRead (c .before .l .given .1)))
 
 returns-3 : tie.Need-returns-3
 returns-3 c =
-    sym (own-second _ _ (sym (c .before .before .before .before .before .before .below .ensures) ∙ ap asRead (c .before .before .before .before .a .given .1)) (sym (c .before .before .below2 .ensures) ∙ ap asRead (c .enum-told2 .given .1)))
+    let c4 = c .before .before .before .before in
+    let c6 = c4 .before .before in
+    sym (own-second _ _ (sym (c6 .below .ensures) ∙ ap asRead (c4 .a .given .1)) (sym (c .before .before .below2 .ensures) ∙ ap asRead
+    (c .enum-told2 .given .1)))
 
 pub own-at-spec : {M : Type 1} → statement M
 own-at-spec =

@@ -25,7 +25,10 @@ same-length c = search needs
 
 returns : tie.Need-returns
 returns c =
-    no-functions _ (told-fault (counted (now (c .before .before .before .before .before .before .before .before .before .before .before .args .s)) 16 (below (now (c .before .before .before .before .before .before .before .before .before .before .before .args .s)) 5) 0) (Slotted (c .before .before .before .before .functions .last .1 .1 .0)) (c .enum-told .given .1) (c .before .before .before .before .functions .ensures .1))
+    let c4 = c .before .before .before .before in
+    let c11 = c4 .before .before .before .before .before .before .before in
+    no-functions _ (told-fault (counted (now (c11 .args .s)) 16 (below (now (c11 .args .s)) 5) 0) (Slotted (c4 .functions .last .1 .1 .0))
+    (c .enum-told .given .1) (c4 .functions .ensures .1))
 
 symbols-requires : tie.Need-symbols-requires
 symbols-requires c κs = search needs
@@ -47,7 +50,13 @@ same-length-4 c = search needs
 
 returns-2 : tie.Need-returns-2
 returns-2 c =
-    no-symbols _ _ _ _ (told-value (counted (now (c .before .before .before .before .before .before .before .before .before .before .before .before .before .before .before .before .before .before .before .before .before .args .s)) 16 (below (now (c .before .before .before .before .before .before .before .before .before .before .before .before .before .before .before .before .before .before .before .before .before .args .s)) 5) 0) (Slotted (c .before .before .before .before .before .before .before .before .before .before .before .before .before .before .functions .last .1 .1 .0)) (c .before .before .before .before .before .before .before .before .before .before .e .given .1) (c .before .before .before .before .before .before .before .before .before .before .before .before .before .before .functions .ensures .1)) (told-fault (counted (now (c .before .before .before .before .before .before .before .before .before .before .before .before .before .before .before .before .before .before .before .before .before .args .s)) 32 (own (now (c .before .before .before .before .before .before .before .before .before .before .before .before .before .before .before .before .before .before .before .before .before .args .s))) (c .before .before .before .before .before .before .before .before .before .before .e .given .0 .1 .0)) (Tabled (c .before .before .before .before .before .before .symbols .last .1 .1 .0) (c .before .before .before .before .before .before .symbols .last .1 .1 .1 .0)) (c .enum-told2 .given .1) (c .before .before .before .before .before .before .symbols .ensures .1))
+    let c6 = c .before .before .before .before .before .before in
+    let c10 = c6 .before .before .before .before in
+    let c14 = c10 .before .before .before .before in
+    let c21 = c14 .before .before .before .before .before .before .before in
+    no-symbols _ _ _ _ (told-value (counted (now (c21 .args .s)) 16 (below (now (c21 .args .s)) 5) 0) (Slotted (c14 .functions .last .1 .1 .0))
+    (c10 .e .given .1) (c14 .functions .ensures .1)) (told-fault (counted (now (c21 .args .s)) 32 (own (now (c21 .args .s))) (c10 .e .given .0 .1 .0))
+    (Tabled (c6 .symbols .last .1 .1 .0) (c6 .symbols .last .1 .1 .1 .0)) (c .enum-told2 .given .1) (c6 .symbols .ensures .1))
 
 cast-m : tie.Need-cast-m
 cast-m c = search needs
@@ -57,13 +66,22 @@ add-m c = search needs
 
 slice-reshare-prefix-rules : tie.Need-slice-reshare-prefix-rules
 slice-reshare-prefix-rules c =
-    let b : (c .before .before .no .given .0 .0) ≤ 32 = (told-value (counted (now (c .before .before .before .before .before .before .before .before .before .before .before .before .before .before .before .before .before .before .before .before .before .before .before .args .s)) 32 (own (now (c .before .before .before .before .before .before .before .before .before .before .before .before .before .before .before .before .before .before .before .before .before .before .before .args .s))) (c .before .before .before .before .before .before .before .before .before .before .before .before .e .given .0 .1 .0)) (Tabled (c .before .before .before .before .before .before .before .before .symbols .last .1 .1 .0) (c .before .before .before .before .before .before .before .before .symbols .last .1 .1 .1 .0)) (c .before .before .no .given .1) (c .before .before .before .before .before .before .before .before .symbols .ensures .1)) .says .few in
-    omega (arith, c .before .before .before .before .before .before .before .before .symbols .kept)
+    let c8 = c .before .before .before .before .before .before .before .before in
+    let c12 = c8 .before .before .before .before in
+    let c23 = c12 .before .before .before .before .before .before .before .before .before .before .before in
+    let b : (c .before .before .no .given .0 .0) ≤ 32 = (told-value (counted (now (c23 .args .s)) 32 (own (now (c23 .args .s))) (c12 .e .given .0 .1 .0))
+    (Tabled (c8 .symbols .last .1 .1 .0) (c8 .symbols .last .1 .1 .1 .0)) (c .before .before .no .given .1) (c8 .symbols .ensures .1)) .says .few in
+    omega (arith, c8 .symbols .kept)
 
 slice-aggregate-rules : tie.Need-slice-aggregate-rules
 slice-aggregate-rules c =
-    let b : (c .before .before .before .no .given .0 .0) ≤ 32 = (told-value (counted (now (c .before .before .before .before .before .before .before .before .before .before .before .before .before .before .before .before .before .before .before .before .before .before .before .before .args .s)) 32 (own (now (c .before .before .before .before .before .before .before .before .before .before .before .before .before .before .before .before .before .before .before .before .before .before .before .before .args .s))) (c .before .before .before .before .before .before .before .before .before .before .before .before .before .e .given .0 .1 .0)) (Tabled (c .before .before .before .before .before .before .before .before .before .symbols .last .1 .1 .0) (c .before .before .before .before .before .before .before .before .before .symbols .last .1 .1 .1 .0)) (c .before .before .before .no .given .1) (c .before .before .before .before .before .before .before .before .before .symbols .ensures .1)) .says .few in
-    simp length-take (omega (arith, c .before .before .before .before .before .before .before .before .before .symbols .kept))
+    let c3 = c .before .before .before in
+    let c9 = c3 .before .before .before .before .before .before in
+    let c13 = c9 .before .before .before .before in
+    let c24 = c13 .before .before .before .before .before .before .before .before .before .before .before in
+    let b : (c3 .no .given .0 .0) ≤ 32 = (told-value (counted (now (c24 .args .s)) 32 (own (now (c24 .args .s))) (c13 .e .given .0 .1 .0))
+    (Tabled (c9 .symbols .last .1 .1 .0) (c9 .symbols .last .1 .1 .1 .0)) (c3 .no .given .1) (c9 .symbols .ensures .1)) .says .few in
+    simp length-take (omega (arith, c9 .symbols .kept))
 
 rules-requires : tie.Need-rules-requires
 rules-requires c κs = search needs
@@ -88,7 +106,19 @@ same-length-8 c = search needs
 
 returns-3 : tie.Need-returns-3
 returns-3 c =
-    no-rules _ _ _ _ (told-value (counted (now (c .before .before .before .before .before .before .before .before .before .before .before .before .before .before .before .before .before .before .before .before .before .before .before .before .before .before .before .before .before .before .args .s)) 16 (below (now (c .before .before .before .before .before .before .before .before .before .before .before .before .before .before .before .before .before .before .before .before .before .before .before .before .before .before .before .before .before .before .args .s)) 5) 0) (Slotted (c .before .before .before .before .before .before .before .before .before .before .before .before .before .before .before .before .before .before .before .before .before .before .before .functions .last .1 .1 .0)) (c .before .before .before .before .before .before .before .before .before .before .before .before .before .before .before .before .before .before .before .e .given .1) (c .before .before .before .before .before .before .before .before .before .before .before .before .before .before .before .before .before .before .before .before .before .before .before .functions .ensures .1)) _ _ _ _ (told-value (counted (now (c .before .before .before .before .before .before .before .before .before .before .before .before .before .before .before .before .before .before .before .before .before .before .before .before .before .before .before .before .before .before .args .s)) 32 (own (now (c .before .before .before .before .before .before .before .before .before .before .before .before .before .before .before .before .before .before .before .before .before .before .before .before .before .before .before .before .before .before .args .s))) (c .before .before .before .before .before .before .before .before .before .before .before .before .before .before .before .before .before .before .before .e .given .0 .1 .0)) (Tabled (c .before .before .before .before .before .before .before .before .before .before .before .before .before .before .before .symbols .last .1 .1 .0) (c .before .before .before .before .before .before .before .before .before .before .before .before .before .before .before .symbols .last .1 .1 .1 .0)) (c .before .before .before .before .before .before .before .before .before .no .given .1) (c .before .before .before .before .before .before .before .before .before .before .before .before .before .before .before .symbols .ensures .1)) (told-fault (counted (now (c .before .before .before .before .before .before .before .before .before .before .before .before .before .before .before .before .before .before .before .before .before .before .before .before .before .before .before .before .before .before .args .s)) 64 (rule (now (c .before .before .before .before .before .before .before .before .before .before .before .before .before .before .before .before .before .before .before .before .before .before .before .before .before .before .before .before .before .before .args .s)) (c .before .before .before .before .before .before .before .before .before .before .before .before .before .before .before .before .before .before .before .before .before .before .before .functions .last .1 .1 .0) (take ((c .before .before .before .before .before .before .before .before .before .no .given .0 .0) + 4) (c .before .before .before .before .before .before .before .before .before .before .before .before .before .before .before .symbols .last .1 .1 .0))) (c .before .before .before .before .before .before .before .before .before .no .given .0 .1 .0)) (Placed (rule (now (c .before .before .before .before .before .before .before .before .before .before .before .before .before .before .before .before .before .before .before .before .before .before .before .before .before .before .before .before .before .before .args .s)) (c .before .before .before .before .before .before .before .before .before .before .before .before .before .before .before .before .before .before .before .before .before .before .before .functions .last .1 .1 .0) (take ((c .before .before .before .before .before .before .before .before .before .no .given .0 .0) + 4) (c .before .before .before .before .before .before .before .before .before .before .before .before .before .before .before .symbols .last .1 .1 .0))) noRule (c .before .before .before .before .rules .last .1 .1 .1 .1 .0)) (c .enum-told3 .given .1) (c .before .before .before .before .rules .ensures .1))
+    let c4 = c .before .before .before .before in
+    let c9 = c4 .before .before .before .before .before in
+    let c15 = c9 .before .before .before .before .before .before in
+    let c19 = c15 .before .before .before .before in
+    let c23 = c19 .before .before .before .before in
+    let c30 = c23 .before .before .before .before .before .before .before in
+    no-rules _ _ _ _ (told-value (counted (now (c30 .args .s)) 16 (below (now (c30 .args .s)) 5) 0) (Slotted (c23 .functions .last .1 .1 .0))
+    (c19 .e .given .1) (c23 .functions .ensures .1)) _ _ _ _ (told-value (counted (now (c30 .args .s)) 32 (own (now (c30 .args .s)))
+    (c19 .e .given .0 .1 .0)) (Tabled (c15 .symbols .last .1 .1 .0) (c15 .symbols .last .1 .1 .1 .0)) (c9 .no .given .1) (c15 .symbols .ensures .1))
+    (told-fault (counted (now (c30 .args .s)) 64 (rule (now (c30 .args .s)) (c23 .functions .last .1 .1 .0)
+    (take ((c9 .no .given .0 .0) + 4) (c15 .symbols .last .1 .1 .0))) (c9 .no .given .0 .1 .0))
+    (Placed (rule (now (c30 .args .s)) (c23 .functions .last .1 .1 .0) (take ((c9 .no .given .0 .0) + 4) (c15 .symbols .last .1 .1 .0))) noRule
+    (c4 .rules .last .1 .1 .1 .1 .0)) (c .enum-told3 .given .1) (c4 .rules .ensures .1))
 
 cast-t29 : tie.Need-cast-t29
 cast-t29 c = search needs
@@ -107,7 +137,21 @@ same-length-12 c = search needs
 
 returns-4 : tie.Need-returns-4
 returns-4 c =
-    entries _ _ _ _ (told-value (counted (now (c .before .before .before .before .before .before .before .before .before .before .before .before .before .before .before .before .before .before .before .before .before .before .before .before .before .before .before .before .before .before .before .before .args .s)) 16 (below (now (c .before .before .before .before .before .before .before .before .before .before .before .before .before .before .before .before .before .before .before .before .before .before .before .before .before .before .before .before .before .before .before .before .args .s)) 5) 0) (Slotted (c .before .before .before .before .before .before .before .before .before .before .before .before .before .before .before .before .before .before .before .before .before .before .before .before .before .functions .last .1 .1 .0)) (c .before .before .before .before .before .before .before .before .before .before .before .before .before .before .before .before .before .before .before .before .before .e .given .1) (c .before .before .before .before .before .before .before .before .before .before .before .before .before .before .before .before .before .before .before .before .before .before .before .before .before .functions .ensures .1)) _ _ _ _ (told-value (counted (now (c .before .before .before .before .before .before .before .before .before .before .before .before .before .before .before .before .before .before .before .before .before .before .before .before .before .before .before .before .before .before .before .before .args .s)) 32 (own (now (c .before .before .before .before .before .before .before .before .before .before .before .before .before .before .before .before .before .before .before .before .before .before .before .before .before .before .before .before .before .before .before .before .args .s))) (c .before .before .before .before .before .before .before .before .before .before .before .before .before .before .before .before .before .before .before .before .before .e .given .0 .1 .0)) (Tabled (c .before .before .before .before .before .before .before .before .before .before .before .before .before .before .before .before .before .symbols .last .1 .1 .0) (c .before .before .before .before .before .before .before .before .before .before .before .before .before .before .before .before .before .symbols .last .1 .1 .1 .0)) (c .before .before .before .before .before .before .before .before .before .before .before .no .given .1) (c .before .before .before .before .before .before .before .before .before .before .before .before .before .before .before .before .before .symbols .ensures .1)) _ _ _ (told-value (counted (now (c .before .before .before .before .before .before .before .before .before .before .before .before .before .before .before .before .before .before .before .before .before .before .before .before .before .before .before .before .before .before .before .before .args .s)) 64 (rule (now (c .before .before .before .before .before .before .before .before .before .before .before .before .before .before .before .before .before .before .before .before .before .before .before .before .before .before .before .before .before .before .before .before .args .s)) (c .before .before .before .before .before .before .before .before .before .before .before .before .before .before .before .before .before .before .before .before .before .before .before .before .before .functions .last .1 .1 .0) (take ((c .before .before .before .before .before .before .before .before .before .before .before .no .given .0 .0) + 4) (c .before .before .before .before .before .before .before .before .before .before .before .before .before .before .before .before .before .symbols .last .1 .1 .0))) (c .before .before .before .before .before .before .before .before .before .before .before .no .given .0 .1 .0)) (Placed (rule (now (c .before .before .before .before .before .before .before .before .before .before .before .before .before .before .before .before .before .before .before .before .before .before .before .before .before .before .before .before .before .before .before .before .args .s)) (c .before .before .before .before .before .before .before .before .before .before .before .before .before .before .before .before .before .before .before .before .before .before .before .before .before .functions .last .1 .1 .0) (take ((c .before .before .before .before .before .before .before .before .before .before .before .no .given .0 .0) + 4) (c .before .before .before .before .before .before .before .before .before .before .before .before .before .before .before .before .before .symbols .last .1 .1 .0))) noRule (c .before .before .before .before .before .before .rules .last .1 .1 .1 .1 .0)) (c .before .before .nr .given .1) (c .before .before .before .before .before .before .rules .ensures .1)) (λ i. c .before .before .before .before .before .before .before .before .before .before .before .before .before .before .before .before .before .before .before .before .before .before .before .before .before .before .before .before .before .before .before .shared-slice-known .given i .fits) (c .if1 .taken)
+    let c6 = c .before .before .before .before .before .before in
+    let c11 = c6 .before .before .before .before .before in
+    let c17 = c11 .before .before .before .before .before .before in
+    let c21 = c17 .before .before .before .before in
+    let c25 = c21 .before .before .before .before in
+    let c31 = c25 .before .before .before .before .before .before in
+    let c32 = c31 .before in
+    entries _ _ _ _ (told-value (counted (now (c32 .args .s)) 16 (below (now (c32 .args .s)) 5) 0) (Slotted (c25 .functions .last .1 .1 .0)) (c21 .e .given .1)
+    (c25 .functions .ensures .1)) _ _ _ _ (told-value (counted (now (c32 .args .s)) 32 (own (now (c32 .args .s))) (c21 .e .given .0 .1 .0))
+    (Tabled (c17 .symbols .last .1 .1 .0) (c17 .symbols .last .1 .1 .1 .0)) (c11 .no .given .1) (c17 .symbols .ensures .1)) _ _ _
+    (told-value (counted (now (c32 .args .s)) 64 (rule (now (c32 .args .s)) (c25 .functions .last .1 .1 .0)
+    (take ((c11 .no .given .0 .0) + 4) (c17 .symbols .last .1 .1 .0))) (c11 .no .given .0 .1 .0))
+    (Placed (rule (now (c32 .args .s)) (c25 .functions .last .1 .1 .0) (take ((c11 .no .given .0 .0) + 4) (c17 .symbols .last .1 .1 .0))) noRule
+    (c6 .rules .last .1 .1 .1 .1 .0)) (c .before .before .nr .given .1) (c6 .rules .ensures .1)) (λ i. c31 .shared-slice-known .given i .fits)
+    (c .if1 .taken)
 
 same-length-13 : tie.Need-same-length-13
 same-length-13 c = search needs
@@ -123,7 +167,19 @@ same-length-16 c = search needs
 
 returns-5 : tie.Need-returns-5
 returns-5 c =
-    leftover _ _ _ _ (told-value (counted (now (c .before .before .before .before .before .before .before .before .before .before .before .before .before .before .before .before .before .before .before .before .before .before .before .before .before .before .before .before .before .before .before .before .args .s)) 16 (below (now (c .before .before .before .before .before .before .before .before .before .before .before .before .before .before .before .before .before .before .before .before .before .before .before .before .before .before .before .before .before .before .before .before .args .s)) 5) 0) (Slotted (c .before .before .before .before .before .before .before .before .before .before .before .before .before .before .before .before .before .before .before .before .before .before .before .before .before .functions .last .1 .1 .0)) (c .before .before .before .before .before .before .before .before .before .before .before .before .before .before .before .before .before .before .before .before .before .e .given .1) (c .before .before .before .before .before .before .before .before .before .before .before .before .before .before .before .before .before .before .before .before .before .before .before .before .before .functions .ensures .1)) _ _ _ _ (told-value (counted (now (c .before .before .before .before .before .before .before .before .before .before .before .before .before .before .before .before .before .before .before .before .before .before .before .before .before .before .before .before .before .before .before .before .args .s)) 32 (own (now (c .before .before .before .before .before .before .before .before .before .before .before .before .before .before .before .before .before .before .before .before .before .before .before .before .before .before .before .before .before .before .before .before .args .s))) (c .before .before .before .before .before .before .before .before .before .before .before .before .before .before .before .before .before .before .before .before .before .e .given .0 .1 .0)) (Tabled (c .before .before .before .before .before .before .before .before .before .before .before .before .before .before .before .before .before .symbols .last .1 .1 .0) (c .before .before .before .before .before .before .before .before .before .before .before .before .before .before .before .before .before .symbols .last .1 .1 .1 .0)) (c .before .before .before .before .before .before .before .before .before .before .before .no .given .1) (c .before .before .before .before .before .before .before .before .before .before .before .before .before .before .before .before .before .symbols .ensures .1)) _ _ _ (told-value (counted (now (c .before .before .before .before .before .before .before .before .before .before .before .before .before .before .before .before .before .before .before .before .before .before .before .before .before .before .before .before .before .before .before .before .args .s)) 64 (rule (now (c .before .before .before .before .before .before .before .before .before .before .before .before .before .before .before .before .before .before .before .before .before .before .before .before .before .before .before .before .before .before .before .before .args .s)) (c .before .before .before .before .before .before .before .before .before .before .before .before .before .before .before .before .before .before .before .before .before .before .before .before .before .functions .last .1 .1 .0) (take ((c .before .before .before .before .before .before .before .before .before .before .before .no .given .0 .0) + 4) (c .before .before .before .before .before .before .before .before .before .before .before .before .before .before .before .before .before .symbols .last .1 .1 .0))) (c .before .before .before .before .before .before .before .before .before .before .before .no .given .0 .1 .0)) (Placed (rule (now (c .before .before .before .before .before .before .before .before .before .before .before .before .before .before .before .before .before .before .before .before .before .before .before .before .before .before .before .before .before .before .before .before .args .s)) (c .before .before .before .before .before .before .before .before .before .before .before .before .before .before .before .before .before .before .before .before .before .before .before .before .before .functions .last .1 .1 .0) (take ((c .before .before .before .before .before .before .before .before .before .before .before .no .given .0 .0) + 4) (c .before .before .before .before .before .before .before .before .before .before .before .before .before .before .before .before .before .symbols .last .1 .1 .0))) noRule (c .before .before .before .before .before .before .rules .last .1 .1 .1 .1 .0)) (c .before .before .nr .given .1) (c .before .before .before .before .before .before .rules .ensures .1)) (c .if1 .left)
+    let c6 = c .before .before .before .before .before .before in
+    let c11 = c6 .before .before .before .before .before in
+    let c17 = c11 .before .before .before .before .before .before in
+    let c21 = c17 .before .before .before .before in
+    let c25 = c21 .before .before .before .before in
+    let c32 = c25 .before .before .before .before .before .before .before in
+    leftover _ _ _ _ (told-value (counted (now (c32 .args .s)) 16 (below (now (c32 .args .s)) 5) 0) (Slotted (c25 .functions .last .1 .1 .0))
+    (c21 .e .given .1) (c25 .functions .ensures .1)) _ _ _ _ (told-value (counted (now (c32 .args .s)) 32 (own (now (c32 .args .s)))
+    (c21 .e .given .0 .1 .0)) (Tabled (c17 .symbols .last .1 .1 .0) (c17 .symbols .last .1 .1 .1 .0)) (c11 .no .given .1) (c17 .symbols .ensures .1)) _ _ _
+    (told-value (counted (now (c32 .args .s)) 64 (rule (now (c32 .args .s)) (c25 .functions .last .1 .1 .0)
+    (take ((c11 .no .given .0 .0) + 4) (c17 .symbols .last .1 .1 .0))) (c11 .no .given .0 .1 .0))
+    (Placed (rule (now (c32 .args .s)) (c25 .functions .last .1 .1 .0) (take ((c11 .no .given .0 .0) + 4) (c17 .symbols .last .1 .1 .0))) noRule
+    (c6 .rules .last .1 .1 .1 .1 .0)) (c .before .before .nr .given .1) (c6 .rules .ensures .1)) (c .if1 .left)
 
 pub read-protocol-spec : {M : Type 1} → statement M
 read-protocol-spec =

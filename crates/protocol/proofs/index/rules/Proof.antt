@@ -19,7 +19,16 @@ enum-known-n c = search needs
 
 rules-from-requires : tie.Need-rules-from-requires
 rules-from-requires c κs =
-    (search needs, omega (arith, below-inside _ _ _ (λ i. c .before .before .before .before .before .before .before .before .shared-slice-known .given i .fits) _ _ (sym (c .before .before .before .before .below .ensures) ∙ ap asRead (c .before .before .n .given .1)) .small), search needs)
+    let c4 = c .before .before .before .before in
+    let c8 = c4 .before .before .before .before in (
+      search needs,
+      omega (
+        arith,
+        below-inside _ _ _ (λ i. c8 .shared-slice-known .given i .fits) _ _
+            (sym (c4 .below .ensures) ∙ ap asRead (c .before .before .n .given .1)) .small,
+      ),
+      search needs,
+    )
 
 enum-told : tie.Need-enum-told
 enum-told c = search needs
@@ -29,11 +38,23 @@ same-length c = search needs
 
 returns : tie.Need-returns
 returns c =
-    (search needs, told-as _ _ (Placed (rule (now (c .before .before .before .before .before .before .before .before .before .before .before .before .args .s)) (now (c .before .before .before .before .before .before .before .before .before .before .before .before .args .arities)) (now (c .before .before .before .before .before .before .before .before .before .before .before .before .args .ars))) noRule (c .before .before .rules-from .last .1 .1 .1 .1 .1 .0)) (c .before .before .rules-from .result) (counted-got _ (rule (now (c .before .before .before .before .before .before .before .before .before .before .before .before .args .s)) (now (c .before .before .before .before .before .before .before .before .before .before .before .before .args .arities)) (now (c .before .before .before .before .before .before .before .before .before .before .before .before .args .ars))) 64 _ _ _ (sym (c .before .before .before .before .before .before .before .below .ensures) ∙ ap asRead (c .before .before .before .before .before .n .given .1))) (c .before .before .rules-from .ensures .1))
+    let c5 = c .before .before .before .before .before in
+    let c7 = c5 .before .before in
+    let c12 = c7 .before .before .before .before .before in (
+      search needs,
+      told-as _ _ (Placed (rule (now (c12 .args .s)) (now (c12 .args .arities)) (now (c12 .args .ars))) noRule
+          (c .before .before .rules-from .last .1 .1 .1 .1 .1 .0)) (c .before .before .rules-from .result)
+          (counted-got _ (rule (now (c12 .args .s)) (now (c12 .args .arities)) (now (c12 .args .ars))) 64 _ _ _
+          (sym (c7 .below .ensures) ∙ ap asRead (c5 .n .given .1))) (c .before .before .rules-from .ensures .1),
+    )
 
 returns-2 : tie.Need-returns-2
 returns-2 c =
-    (search needs, counted-fault _ (rule (now (c .before .before .before .before .before .before .before .args .s)) (now (c .before .before .before .before .before .before .before .args .arities)) (now (c .before .before .before .before .before .before .before .args .ars))) 64 _ (sym (c .before .before .below .ensures) ∙ ap asRead (c .enum-told .given .1)))
+    let c7 = c .before .before .before .before .before .before .before in (
+      search needs,
+      counted-fault _ (rule (now (c7 .args .s)) (now (c7 .args .arities)) (now (c7 .args .ars))) 64 _
+          (sym (c .before .before .below .ensures) ∙ ap asRead (c .enum-told .given .1)),
+    )
 
 pub rules-spec : {M : Type 1} → statement M
 rules-spec =

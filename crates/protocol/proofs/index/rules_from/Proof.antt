@@ -47,8 +47,18 @@ loop-less c = search needs
 
 loop-again : tie.Need-loop-again Inv-loop μ-loop
 loop-again c =
-    let b : c .before .before .before .before .before .loop .j < length (c .before .before .before .before .before .loop .places) = omega arith in
-    (search needs, simp length-set (omega arith), places-more (rule (now (c .before .before .before .before .before .before .before .before .before .before .args .s)) (now (c .before .before .before .before .before .before .before .before .before .before .args .arities)) (now (c .before .before .before .before .before .before .before .before .before .before .args .ars))) (c .before .before .before .before .before .before .before .before .before .before .args .at) (c .before .before .before .before .before .loop .j) (c .before .before .before .before .before .loop .i) (c .before .before .before .before .before .loop .places) (c .before .before .before .before .before .loop .inv .2) (c .before .before .before .before .before .loop .inv .3) b, cut-seen (λ (x : Rule). false) (rule (now (c .before .before .before .before .before .before .before .before .before .before .args .s)) (now (c .before .before .before .before .before .before .before .before .before .before .args .arities)) (now (c .before .before .before .before .before .before .before .before .before .before .args .ars)) (c .before .before .before .before .before .loop .i)) (sym (c .before .before .before .one-rule .ensures) ∙ c .before .e .given .1) (λ x g h. came-more _ _ _ _ _ x (c .before .before .before .before .before .loop .inv .3) g))
+    let c3 = c .before .before .before in
+    let c5 = c3 .before .before in
+    let c10 = c5 .before .before .before .before .before in
+    let b : c5 .loop .j < length (c5 .loop .places) = omega arith in (
+      search needs,
+      simp length-set (omega arith),
+      places-more (rule (now (c10 .args .s)) (now (c10 .args .arities)) (now (c10 .args .ars))) (c10 .args .at)
+          (c5 .loop .j) (c5 .loop .i) (c5 .loop .places) (c5 .loop .inv .2) (c5 .loop .inv .3) b,
+      cut-seen (λ (x : Rule). false)
+          (rule (now (c10 .args .s)) (now (c10 .args .arities)) (now (c10 .args .ars)) (c5 .loop .i)) (sym (c3 .one-rule .ensures) ∙ c .before .e .given .1)
+          (λ x g h. came-more _ _ _ _ _ x (c5 .loop .inv .3) g),
+    )
 
 enum-told : tie.Need-enum-told Inv-loop μ-loop
 enum-told c = search needs
@@ -58,16 +68,34 @@ same-length c = search needs
 
 returns : tie.Need-returns Inv-loop μ-loop
 returns c =
-    (search needs, came-stop _ _ _ _ _ (c .before .before .before .before .loop .inv .3) (cut-fault (λ (x : Rule). false) (rule (now (c .before .before .before .before .before .before .before .before .before .args .s)) (now (c .before .before .before .before .before .before .before .before .before .args .arities)) (now (c .before .before .before .before .before .before .before .before .before .args .ars)) (c .before .before .before .before .loop .i)) (sym (c .before .before .one-rule .ensures) ∙ c .enum-told .given .1)) (c .before .before .before .loop-test .taken))
+    let c3 = c .before .before .before in
+    let c4 = c3 .before in
+    let c9 = c4 .before .before .before .before .before in (
+      search needs,
+      came-stop _ _ _ _ _ (c4 .loop .inv .3) (cut-fault (λ (x : Rule). false)
+          (rule (now (c9 .args .s)) (now (c9 .args .arities)) (now (c9 .args .ars)) (c4 .loop .i))
+          (sym (c .before .before .one-rule .ensures) ∙ c .enum-told .given .1)) (c3 .loop-test .taken),
+    )
 
 same-length-2 : tie.Need-same-length-2 Inv-loop μ-loop
 same-length-2 c = search needs
 
 returns-2 : tie.Need-returns-2 Inv-loop μ-loop
 returns-2 c =
-    let m : c .before .loop .j ≡ c .before .before .before .before .before .before .args .n = omega arith in
-    let o : Came (rule (now (c .before .before .before .before .before .before .args .s)) (now (c .before .before .before .before .before .before .args .arities)) (now (c .before .before .before .before .before .before .args .ars))) (c .before .before .before .before .before .before .args .at) (c .before .before .before .before .before .before .args .n) (c .before .loop .i) = subst (λ (k : ℕ). Came (rule (now (c .before .before .before .before .before .before .args .s)) (now (c .before .before .before .before .before .before .args .arities)) (now (c .before .before .before .before .before .before .args .ars))) (c .before .before .before .before .before .before .args .at) k (c .before .loop .i)) m (c .before .loop .inv .3) in
-    (search needs, record { item = o .items; there = o .there; says = places-end (rule (now (c .before .before .before .before .before .before .args .s)) (now (c .before .before .before .before .before .before .args .arities)) (now (c .before .before .before .before .before .before .args .ars))) (c .before .before .before .before .before .before .args .at) noRule (c .before .before .before .before .before .before .args .n) (c .before .loop .i) (o .items) (c .before .loop .places) (o .there) (λ k l. c .before .loop .inv .2 k (omega arith)) })
+    let c6 = c .before .before .before .before .before .before in
+    let m : c .before .loop .j ≡ c6 .args .n = omega arith in
+    let o : Came (rule (now (c6 .args .s)) (now (c6 .args .arities)) (now (c6 .args .ars))) (c6 .args .at) (c6 .args .n) (c .before .loop .i) = subst
+    (λ (k : ℕ). Came (rule (now (c6 .args .s)) (now (c6 .args .arities)) (now (c6 .args .ars))) (c6 .args .at) k (c .before .loop .i)) m
+    (c .before .loop .inv .3) in (
+      search needs,
+      record {
+        item = o .items;
+        there = o .there;
+        says = places-end (rule (now (c6 .args .s)) (now (c6 .args .arities)) (now (c6 .args .ars)))
+            (c6 .args .at) noRule (c6 .args .n) (c .before .loop .i) (o .items) (c .before .loop .places) (o .there)
+            (λ k l. c .before .loop .inv .2 k (omega arith));
+      },
+    )
 
 pub rules-from-spec : {M : Type 1} → statement M
 rules-from-spec =

@@ -19,7 +19,14 @@ enum-known-n c = search needs
 
 symbols-from-requires : tie.Need-symbols-from-requires
 symbols-from-requires c κs =
-    (omega (arith, below-inside _ _ _ (λ i. c .before .before .before .before .before .before .before .before .shared-slice-known .given i .fits) _ _ (sym (c .before .before .before .before .before .below .ensures) ∙ ap asRead (c .before .before .before .n .given .1)) .small), search needs, search needs)
+    let c3 = c .before .before .before in
+    let c5 = c3 .before .before in
+    let c8 = c5 .before .before .before in (
+      omega (arith, below-inside _ _ _ (λ i. c8 .shared-slice-known .given i .fits) _ _ (sym (c5 .below .ensures) ∙ ap asRead (c3 .n .given .1)) .small),
+      search
+          needs,
+      search needs,
+    )
 
 enum-told : tie.Need-enum-told
 enum-told c = search needs
@@ -32,11 +39,21 @@ same-length-2 c = search needs
 
 returns : tie.Need-returns
 returns c =
-    (search needs, told-as _ _ (Tabled (c .before .before .before .before .symbols-from .last .1 .1 .1 .0) (c .before .before .before .before .symbols-from .last .1 .1 .1 .1 .0)) (c .before .before .before .before .symbols-from .result) (counted-got _ (own (now (c .before .before .before .before .before .before .before .before .before .before .before .before .before .before .args .s))) 32 _ _ _ (sym (c .before .before .before .before .before .before .before .before .before .before .below .ensures) ∙ ap asRead (c .before .before .before .before .before .before .before .before .n .given .1))) (c .before .before .before .before .symbols-from .ensures .1))
+    let c4 = c .before .before .before .before in
+    let c8 = c4 .before .before .before .before in
+    let c10 = c8 .before .before in
+    let c14 = c10 .before .before .before .before in (
+      search needs,
+      told-as _ _ (Tabled (c4 .symbols-from .last .1 .1 .1 .0) (c4 .symbols-from .last .1 .1 .1 .1 .0)) (c4 .symbols-from .result)
+          (counted-got _ (own (now (c14 .args .s))) 32 _ _ _ (sym (c10 .below .ensures) ∙ ap asRead (c8 .n .given .1))) (c4 .symbols-from .ensures .1),
+    )
 
 returns-2 : tie.Need-returns-2
-returns-2 c =
-    (search needs, counted-fault _ (own (now (c .before .before .before .before .before .before .args .s))) 32 _ (sym (c .before .before .below .ensures) ∙ ap asRead (c .enum-told .given .1)))
+returns-2 c = (
+  search needs,
+  counted-fault _ (own (now (c .before .before .before .before .before .before .args .s))) 32 _
+      (sym (c .before .before .below .ensures) ∙ ap asRead (c .enum-told .given .1)),
+)
 
 pub symbols-spec : {M : Type 1} → statement M
 symbols-spec =

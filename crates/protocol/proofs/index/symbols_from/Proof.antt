@@ -31,7 +31,14 @@ copy-into-requires-2 c κs = search needs
 
 loop-holds : tie.Need-loop-holds Inv-loop μ-loop
 loop-holds c =
-    (search needs, search needs, search needs, own-begins _ _ _ _ (now (c .before .before .before .before .before .before .before .before .before .before .before .before .before .args .ars)) (now (c .before .before .before .before .before .before .before .before .before .before .before .before .before .args .flags)) (c .before .before .before .before .before .before .before .copy-into .ensures .1) (c .before .before .copy-into2 .ensures .1) (omega arith) (omega arith))
+    let c7 = c .before .before .before .before .before .before .before in
+    let c13 = c7 .before .before .before .before .before .before in (
+      search needs,
+      search needs,
+      search needs,
+      own-begins _ _ _ _ (now (c13 .args .ars)) (now (c13 .args .flags)) (c7 .copy-into .ensures .1)
+          (c .before .before .copy-into2 .ensures .1) (omega arith) (omega arith),
+    )
 
 own-at-requires : tie.Need-own-at-requires Inv-loop μ-loop
 own-at-requires c κs = search needs
@@ -47,7 +54,9 @@ add-k c = search needs
 
 cast-ars : tie.Need-cast-ars Inv-loop μ-loop
 cast-ars c =
-    omega (arith, own-small _ _ (λ i. c .before .before .before .before .before .before .before .before .before .before .before .before .before .before .before .before .before .before .shared-slice-known .given i .fits) (sym (c .before .before .before .own-at .ensures) ∙ ap asOwn (c .before .a .given .1)))
+    let c3 = c .before .before .before in
+    let c18 = c3 .before .before .before .before .before .before .before .before .before .before .before .before .before .before .before in
+    omega (arith, own-small _ _ (λ i. c18 .shared-slice-known .given i .fits) (sym (c3 .own-at .ensures) ∙ ap asOwn (c .before .a .given .1)))
 
 slice-write-ars : tie.Need-slice-write-ars Inv-loop μ-loop
 slice-write-ars c =
@@ -55,7 +64,9 @@ slice-write-ars c =
 
 cast-flags : tie.Need-cast-flags Inv-loop μ-loop
 cast-flags c =
-    omega (arith, own-small _ _ (λ i. c .before .before .before .before .before .before .before .before .before .before .before .before .before .before .before .before .before .before .shared-slice-known .given i .fits) (sym (c .before .before .before .own-at .ensures) ∙ ap asOwn (c .before .a .given .1)))
+    let c3 = c .before .before .before in
+    let c18 = c3 .before .before .before .before .before .before .before .before .before .before .before .before .before .before .before in
+    omega (arith, own-small _ _ (λ i. c18 .shared-slice-known .given i .fits) (sym (c3 .own-at .ensures) ∙ ap asOwn (c .before .a .given .1)))
 
 slice-write-flags : tie.Need-slice-write-flags Inv-loop μ-loop
 slice-write-flags c =
@@ -69,9 +80,18 @@ loop-less c = search needs
 
 loop-again : tie.Need-loop-again Inv-loop μ-loop
 loop-again c =
-    let x : c .before .before .before .before .before .loop .j + 4 < length (c .before .before .before .before .before .loop .ars) = omega (arith, c .before .before .before .before .before .before .before .before .before .before .before .before .before .copy-into .kept) in
-    let y : c .before .before .before .before .before .loop .j + 4 < length (c .before .before .before .before .before .loop .flags) = omega (arith, c .before .before .before .before .before .before .before .before .copy-into2 .kept) in
-    (search needs, simp length-set (omega arith), simp length-set (omega arith), own-more _ _ _ _ _ _ _ _ _ (c .before .before .before .before .before .loop .inv .3) (sym (c .before .before .before .own-at .ensures) ∙ ap asOwn (c .before .a .given .1)) x y)
+    let c3 = c .before .before .before in
+    let c5 = c3 .before .before in
+    let c8 = c5 .before .before .before in
+    let c13 = c8 .before .before .before .before .before in
+    let x : c5 .loop .j + 4 < length (c5 .loop .ars) = omega (arith, c13 .copy-into .kept) in
+    let y : c5 .loop .j + 4 < length (c5 .loop .flags) = omega (arith, c8 .copy-into2 .kept) in (
+      search needs,
+      simp length-set (omega arith),
+      simp length-set (omega arith),
+      own-more _ _ _ _ _ _ _ _ _ (c5 .loop .inv .3)
+          (sym (c3 .own-at .ensures) ∙ ap asOwn (c .before .a .given .1)) x y,
+    )
 
 enum-told : tie.Need-enum-told Inv-loop μ-loop
 enum-told c = search needs
@@ -84,7 +104,14 @@ same-length-2 c = search needs
 
 returns : tie.Need-returns Inv-loop μ-loop
 returns c =
-    ((omega (arith, c .before .before .before .before .before .before .before .before .before .before .before .before .copy-into .kept), omega (arith, c .before .before .before .before .before .before .before .copy-into2 .kept)), many-stop _ _ _ _ _ _ (c .before .before .before .before .loop .inv .3 .there) (sym (c .before .before .own-at .ensures) ∙ ap asOwn (c .enum-told .given .1)) (c .before .before .before .loop-test .taken))
+    let c3 = c .before .before .before in
+    let c4 = c3 .before in
+    let c7 = c4 .before .before .before in
+    let c12 = c7 .before .before .before .before .before in (
+      (omega (arith, c12 .copy-into .kept), omega (arith, c7 .copy-into2 .kept)),
+      many-stop _ _ _ _ _ _ (c4 .loop .inv .3 .there)
+          (sym (c .before .before .own-at .ensures) ∙ ap asOwn (c .enum-told .given .1)) (c3 .loop-test .taken),
+    )
 
 same-length-3 : tie.Need-same-length-3 Inv-loop μ-loop
 same-length-3 c = search needs
@@ -94,9 +121,26 @@ same-length-4 c = search needs
 
 returns-2 : tie.Need-returns-2 Inv-loop μ-loop
 returns-2 c =
-    let m : c .before .loop .j ≡ c .before .before .before .before .before .before .before .before .before .before .before .before .before .before .before .args .n = omega arith in
-    let o : Owned (now (c .before .before .before .before .before .before .before .before .before .before .before .before .before .before .before .args .s)) (c .before .before .before .before .before .before .before .before .before .before .before .before .before .before .before .args .at) (c .before .before .before .before .before .before .before .before .before .before .before .before .before .before .before .args .n) (c .before .loop .i) (c .before .loop .ars) (c .before .loop .flags) = subst (λ (k : ℕ). Owned (now (c .before .before .before .before .before .before .before .before .before .before .before .before .before .before .before .args .s)) (c .before .before .before .before .before .before .before .before .before .before .before .before .before .before .before .args .at) k (c .before .loop .i) (c .before .loop .ars) (c .before .loop .flags)) m (c .before .loop .inv .3) in
-    ((omega (arith, c .before .before .before .before .before .before .before .before .before .copy-into .kept), omega (arith, c .before .before .before .before .copy-into2 .kept)), record { item = o .items; there = o .there; says = record { count = many-length _ _ _ _ _ (o .there); few = omega arith; arities = o .arities; flagged = o .flagged } })
+    let c4 = c .before .before .before .before in
+    let c9 = c4 .before .before .before .before .before in
+    let c15 = c9 .before .before .before .before .before .before in
+    let m : c .before .loop .j ≡ c15 .args .n = omega arith in
+    let o : Owned (now (c15 .args .s)) (c15 .args .at) (c15 .args .n) (c .before .loop .i) (c .before .loop .ars) (c .before .loop .flags) = subst
+    (λ (k : ℕ). Owned (now (c15 .args .s)) (c15 .args .at) k (c .before .loop .i) (c .before .loop .ars) (c .before .loop .flags)) m
+    (c .before .loop .inv .3) in (
+      (omega (arith, c9 .copy-into .kept), omega (arith, c4 .copy-into2 .kept)),
+      record {
+        item = o .items;
+        there = o .there;
+        says = record {
+          count = many-length _ _ _ _ _ (o .there);
+          few = omega arith;
+          arities = o .arities;
+          flagged = o
+              .flagged;
+        };
+      },
+    )
 
 pub symbols-from-spec : {M : Type 1} → statement M
 symbols-from-spec =

@@ -25,11 +25,18 @@ enum-told c = search needs
 
 returns : tie.Need-returns
 returns c =
-    end-walk (any (asks 0 0 0)) (many (fact (now (c .before .before .before .before .before .before .before .before .before .args .s)) (now (c .before .before .before .before .before .before .before .before .before .args .arities)) (now (c .before .before .before .before .before .before .before .before .before .args .ars))) (c .before .before .before .before .before .before .before .before .before .args .i) (c .before .before .before .e .given .0 .1 .0)) (c .end-of .ensures) (c .before .some-facts .ensures) ∙ sym (fact-got _ (now (c .before .before .before .before .before .before .before .before .before .args .arities)) (now (c .before .before .before .before .before .before .before .before .before .args .ars)) _ (c .before .before .before .before .before .before .before .before .before .args .i) (sym (c .before .before .before .before .before .below .ensures) ∙ ap asRead (c .before .before .before .e .given .1)))
+    let c3 = c .before .before .before in
+    let c5 = c3 .before .before in
+    let c9 = c5 .before .before .before .before in
+    end-walk (any (asks 0 0 0)) (many (fact (now (c9 .args .s)) (now (c9 .args .arities)) (now (c9 .args .ars))) (c9 .args .i) (c3 .e .given .0 .1 .0))
+    (c .end-of .ensures) (c .before .some-facts .ensures) ∙ sym (fact-got _ (now (c9 .args .arities)) (now (c9 .args .ars)) _ (c9 .args .i)
+    (sym (c5 .below .ensures) ∙ ap asRead (c3 .e .given .1)))
 
 returns-2 : tie.Need-returns-2
 returns-2 c =
-    sym (fact-none _ (now (c .before .before .before .before .before .before .args .arities)) (now (c .before .before .before .before .before .before .args .ars)) _ (c .before .before .before .before .before .before .args .i) (sym (c .before .before .below .ensures) ∙ ap asRead (c .enum-told .given .1)))
+    let c6 = c .before .before .before .before .before .before in
+    sym (fact-none _ (now (c6 .args .arities)) (now (c6 .args .ars)) _ (c6 .args .i)
+    (sym (c .before .before .below .ensures) ∙ ap asRead (c .enum-told .given .1)))
 
 pub fact-at-spec : {M : Type 1} → statement M
 fact-at-spec =

@@ -20,7 +20,8 @@ enum-told c = search needs
 
 returns : tie.Need-returns
 returns c =
-    c .sort-from .ensures ∙ sym (ap valueOf (sort-got _ _ _ (sym (c .before .before .before .before .below .ensures) ∙ ap asRead (c .before .before .e .given .1))))
+    c .sort-from .ensures ∙ sym (ap valueOf (sort-got _ _ _ (sym (c .before .before .before .before .below .ensures) ∙ ap asRead
+    (c .before .before .e .given .1))))
 
 returns-2 : tie.Need-returns-2
 returns-2 c =

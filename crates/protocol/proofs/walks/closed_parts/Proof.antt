@@ -18,18 +18,28 @@ enum-known-e c = search needs
 
 returns : tie.Need-returns
 returns c =
-    ap (λ (b : Bool). pick b sn.Fault (sn.End (c .before .before .e .given .0 .0) false)) (sym (c .if1 .taken)) ∙ parts-by (c .before .before .before .before .before .before .before .before .args .n) (many (facts (now (c .before .before .before .before .before .before .before .before .args .s)) (now (c .before .before .before .before .before .before .before .before .args .arities)) (now (c .before .before .before .before .before .before .before .before .args .ars))) 3 (c .before .before .before .before .before .before .before .before .args .at)) (c .before .before .before .before .some-parts .ensures) _ _ (c .before .before .e .given .1)
+    let c4 = c .before .before .before .before in
+    let c8 = c4 .before .before .before .before in
+    ap (λ (b : Bool). pick b sn.Fault (sn.End (c .before .before .e .given .0 .0) false)) (sym (c .if1 .taken)) ∙ parts-by (c8 .args .n)
+    (many (facts (now (c8 .args .s)) (now (c8 .args .arities)) (now (c8 .args .ars))) 3 (c8 .args .at)) (c4 .some-parts .ensures) _ _
+    (c .before .before .e .given .1)
 
 enum-told : tie.Need-enum-told
 enum-told c = search needs
 
 returns-2 : tie.Need-returns-2
 returns-2 c =
-    ap (λ (b : Bool). pick b sn.Fault (sn.End (c .before .before .e .given .0 .0) false)) (sym (c .if1 .left)) ∙ parts-by (c .before .before .before .before .before .before .before .before .args .n) (many (facts (now (c .before .before .before .before .before .before .before .before .args .s)) (now (c .before .before .before .before .before .before .before .before .args .arities)) (now (c .before .before .before .before .before .before .before .before .args .ars))) 3 (c .before .before .before .before .before .before .before .before .args .at)) (c .before .before .before .before .some-parts .ensures) _ _ (c .before .before .e .given .1)
+    let c4 = c .before .before .before .before in
+    let c8 = c4 .before .before .before .before in
+    ap (λ (b : Bool). pick b sn.Fault (sn.End (c .before .before .e .given .0 .0) false)) (sym (c .if1 .left)) ∙ parts-by (c8 .args .n)
+    (many (facts (now (c8 .args .s)) (now (c8 .args .arities)) (now (c8 .args .ars))) 3 (c8 .args .at)) (c4 .some-parts .ensures) _ _
+    (c .before .before .e .given .1)
 
 returns-3 : tie.Need-returns-3
 returns-3 c =
-    ap closed (sym (c .enum-told .given .1)) ∙ parts-closed (c .before .before .before .before .before .before .args .n) (many (facts (now (c .before .before .before .before .before .before .args .s)) (now (c .before .before .before .before .before .before .args .arities)) (now (c .before .before .before .before .before .before .args .ars))) 3 (c .before .before .before .before .before .before .args .at)) (c .before .before .some-parts .ensures)
+    let c6 = c .before .before .before .before .before .before in
+    ap closed (sym (c .enum-told .given .1)) ∙ parts-closed (c6 .args .n) (many (facts (now (c6 .args .s)) (now (c6 .args .arities)) (now (c6 .args .ars))) 3
+    (c6 .args .at)) (c .before .before .some-parts .ensures)
 
 pub closed-parts-spec : {M : Type 1} → statement M
 closed-parts-spec =

@@ -19,18 +19,31 @@ cast-fact-from c = search needs
 
 fact-from-requires : tie.Need-fact-from-requires
 fact-from-requires c κs =
-    (search needs, omega (arith, below-inside _ _ _ (λ i. c .before .before .before .before .before .before .shared-slice-known .given i .fits) _ _ (sym (c .before .before .before .below .ensures) ∙ ap asRead (c .before .y .given .1)) .small))
+    let c3 = c .before .before .before in
+    let c6 = c3 .before .before .before in (
+      search needs,
+      omega (
+        arith,
+        below-inside _ _ _ (λ i. c6 .shared-slice-known .given i .fits) _ _
+            (sym (c3 .below .ensures) ∙ ap asRead (c .before .y .given .1)) .small,
+      ),
+    )
 
 enum-told : tie.Need-enum-told
 enum-told c = search needs
 
 returns : tie.Need-returns
 returns c =
-    c .fact-from .ensures ∙ sym (ap (seen (asks (c .before .before .before .before .before .before .before .before .args .kind) (c .before .before .before .before .before .before .before .before .args .lo) (c .before .before .before .before .before .before .before .before .args .hi))) (fact-got _ _ (now (c .before .before .before .before .before .before .before .before .args .ars)) _ (sym (c .before .before .before .before .below .ensures) ∙ ap asRead (c .before .before .y .given .1))))
+    let c4 = c .before .before .before .before in
+    let c8 = c4 .before .before .before .before in
+    c .fact-from .ensures ∙ sym (ap (seen (asks (c8 .args .kind) (c8 .args .lo) (c8 .args .hi)))
+    (fact-got _ _ (now (c8 .args .ars)) _ (sym (c4 .below .ensures) ∙ ap asRead (c .before .before .y .given .1))))
 
 returns-2 : tie.Need-returns-2
 returns-2 c =
-    sym (ap (seen (asks (c .before .before .before .before .before .before .args .kind) (c .before .before .before .before .before .before .args .lo) (c .before .before .before .before .before .before .args .hi))) (fact-fault _ _ (now (c .before .before .before .before .before .before .args .ars)) _ (sym (c .before .before .below .ensures) ∙ ap asRead (c .enum-told .given .1))))
+    let c6 = c .before .before .before .before .before .before in
+    sym (ap (seen (asks (c6 .args .kind) (c6 .args .lo) (c6 .args .hi))) (fact-fault _ _ (now (c6 .args .ars)) _
+    (sym (c .before .before .below .ensures) ∙ ap asRead (c .enum-told .given .1))))
 
 pub one-fact-spec : {M : Type 1} → statement M
 one-fact-spec =

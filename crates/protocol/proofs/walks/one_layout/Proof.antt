@@ -20,11 +20,16 @@ enum-told c = search needs
 
 returns : tie.Need-returns
 returns c =
-    c .some-parts .ensures ∙ sym (layout-got _ (now (c .before .before .before .before .before .before .before .before .args .arities)) (now (c .before .before .before .before .before .before .before .before .args .ars)) _ (c .before .before .before .before .before .before .before .before .args .kind) (c .before .before .before .before .before .before .before .before .args .lo) (c .before .before .before .before .before .before .before .before .args .hi) (sym (c .before .before .before .before .sorts-at .ensures) ∙ ap asRead (c .before .before .e .given .1)))
+    let c4 = c .before .before .before .before in
+    let c8 = c4 .before .before .before .before in
+    c .some-parts .ensures ∙ sym (layout-got _ (now (c8 .args .arities)) (now (c8 .args .ars)) _ (c8 .args .kind) (c8 .args .lo) (c8 .args .hi)
+    (sym (c4 .sorts-at .ensures) ∙ ap asRead (c .before .before .e .given .1)))
 
 returns-2 : tie.Need-returns-2
 returns-2 c =
-    sym (ap (seen (ruleAsks (c .before .before .before .before .before .before .args .kind) (c .before .before .before .before .before .before .args .lo) (c .before .before .before .before .before .before .args .hi))) (layout-fault _ (now (c .before .before .before .before .before .before .args .arities)) (now (c .before .before .before .before .before .before .args .ars)) _ (sym (c .before .before .sorts-at .ensures) ∙ ap asRead (c .enum-told .given .1))))
+    let c6 = c .before .before .before .before .before .before in
+    sym (ap (seen (ruleAsks (c6 .args .kind) (c6 .args .lo) (c6 .args .hi))) (layout-fault _ (now (c6 .args .arities)) (now (c6 .args .ars)) _
+    (sym (c .before .before .sorts-at .ensures) ∙ ap asRead (c .enum-told .given .1))))
 
 pub one-layout-spec : {M : Type 1} → statement M
 one-layout-spec =

@@ -23,11 +23,16 @@ enum-told c = search needs
 
 returns : tie.Need-returns
 returns c =
-    c .some-facts .ensures ∙ sym (ap (seen (any (asks (c .before .before .before .before .before .before .before .before .args .kind) (c .before .before .before .before .before .before .before .before .args .lo) (c .before .before .before .before .before .before .before .before .args .hi)))) (facts-got _ (now (c .before .before .before .before .before .before .before .before .args .arities)) (now (c .before .before .before .before .before .before .before .before .args .ars)) _ (sym (c .before .before .before .before .below .ensures) ∙ ap asRead (c .before .before .n .given .1))))
+    let c4 = c .before .before .before .before in
+    let c8 = c4 .before .before .before .before in
+    c .some-facts .ensures ∙ sym (ap (seen (any (asks (c8 .args .kind) (c8 .args .lo) (c8 .args .hi))))
+    (facts-got _ (now (c8 .args .arities)) (now (c8 .args .ars)) _ (sym (c4 .below .ensures) ∙ ap asRead (c .before .before .n .given .1))))
 
 returns-2 : tie.Need-returns-2
 returns-2 c =
-    sym (ap (seen (any (asks (c .before .before .before .before .before .before .args .kind) (c .before .before .before .before .before .before .args .lo) (c .before .before .before .before .before .before .args .hi)))) (facts-fault _ (now (c .before .before .before .before .before .before .args .arities)) (now (c .before .before .before .before .before .before .args .ars)) _ (sym (c .before .before .below .ensures) ∙ ap asRead (c .enum-told .given .1))))
+    let c6 = c .before .before .before .before .before .before in
+    sym (ap (seen (any (asks (c6 .args .kind) (c6 .args .lo) (c6 .args .hi)))) (facts-fault _ (now (c6 .args .arities)) (now (c6 .args .ars)) _
+    (sym (c .before .before .below .ensures) ∙ ap asRead (c .enum-told .given .1))))
 
 pub one-part-spec : {M : Type 1} → statement M
 one-part-spec =

@@ -23,11 +23,16 @@ enum-told c = search needs
 
 returns : tie.Need-returns
 returns c =
-    c .closed-parts .ensures ∙ sym (rule-got _ (now (c .before .before .before .before .before .before .before .before .args .arities)) (now (c .before .before .before .before .before .before .before .before .args .ars)) _ (sym (c .before .before .before .before .sorts-at .ensures) ∙ ap asRead (c .before .before .n .given .1)))
+    let c4 = c .before .before .before .before in
+    let c8 = c4 .before .before .before .before in
+    c .closed-parts .ensures ∙ sym (rule-got _ (now (c8 .args .arities)) (now (c8 .args .ars)) _
+    (sym (c4 .sorts-at .ensures) ∙ ap asRead (c .before .before .n .given .1)))
 
 returns-2 : tie.Need-returns-2
 returns-2 c =
-    sym (ap ended (rule-fault _ (now (c .before .before .before .before .before .before .args .arities)) (now (c .before .before .before .before .before .before .args .ars)) _ (layout-fault _ (now (c .before .before .before .before .before .before .args .arities)) (now (c .before .before .before .before .before .before .args .ars)) _ (sym (c .before .before .sorts-at .ensures) ∙ ap asRead (c .enum-told .given .1)))))
+    let c6 = c .before .before .before .before .before .before in
+    sym (ap ended (rule-fault _ (now (c6 .args .arities)) (now (c6 .args .ars)) _
+    (layout-fault _ (now (c6 .args .arities)) (now (c6 .args .ars)) _ (sym (c .before .before .sorts-at .ensures) ∙ ap asRead (c .enum-told .given .1)))))
 
 pub one-rule-spec : {M : Type 1} → statement M
 one-rule-spec =

@@ -13,18 +13,23 @@ enum-known-e c = search needs
 
 returns : tie.Need-returns
 returns c =
-    rule-term-end _ _ _ _ (now (c .before .before .before .before .before .before .before .args .arities)) _ (sym (c .before .before .e .given .1) ∙ c .before .before .before .before .walk-term .ensures) (c .if1 .taken)
+    let c4 = c .before .before .before .before in
+    let c7 = c4 .before .before .before in
+    rule-term-end _ _ _ _ (now (c7 .args .arities)) _ (sym (c .before .before .e .given .1) ∙ c4 .walk-term .ensures) (c .if1 .taken)
 
 enum-told : tie.Need-enum-told
 enum-told c = search needs
 
 returns-2 : tie.Need-returns-2
 returns-2 c =
-    rule-term-long _ _ _ _ (now (c .before .before .before .before .before .before .before .args .arities)) _ (sym (c .before .before .e .given .1) ∙ c .before .before .before .before .walk-term .ensures) (c .if1 .left)
+    let c4 = c .before .before .before .before in
+    let c7 = c4 .before .before .before in
+    rule-term-long _ _ _ _ (now (c7 .args .arities)) _ (sym (c .before .before .e .given .1) ∙ c4 .walk-term .ensures) (c .if1 .left)
 
 returns-3 : tie.Need-returns-3
 returns-3 c =
-    rule-term-seen _ _ _ _ (now (c .before .before .before .before .before .args .arities)) _ (sym (c .enum-told .given .1) ∙ c .before .before .walk-term .ensures)
+    rule-term-seen _ _ _ _ (now (c .before .before .before .before .before .args .arities)) _
+    (sym (c .enum-told .given .1) ∙ c .before .before .walk-term .ensures)
 
 pub rule-term-spec : {M : Type 1} → statement M
 rule-term-spec =

@@ -37,19 +37,31 @@ loop-less c = search needs
 
 loop-again : tie.Need-loop-again Inv-loop μ-loop
 loop-again c =
-    (search needs, walk-more (ruleTerm (now (c .before .before .before .before .before .before .before .before .args .s)) (now (c .before .before .before .before .before .before .before .before .args .arities))) (leafAt (c .before .before .before .before .before .before .before .before .args .kind) (c .before .before .before .before .before .before .before .before .args .lo) (c .before .before .before .before .before .before .before .before .args .hi)) _ _ _ _ _ _ (c .before .before .before .before .before .loop .inv .1) (sym (c .before .before .before .rule-term .ensures) ∙ c .before .e .given .1))
+    let c3 = c .before .before .before in
+    let c5 = c3 .before .before in
+    let c8 = c5 .before .before .before in (
+      search needs,
+      walk-more (ruleTerm (now (c8 .args .s)) (now (c8 .args .arities))) (leafAt (c8 .args .kind) (c8 .args .lo) (c8 .args .hi)) _ _ _ _ _ _
+          (c5 .loop .inv .1) (sym (c3 .rule-term .ensures) ∙ c .before .e .given .1),
+    )
 
 enum-told : tie.Need-enum-told Inv-loop μ-loop
 enum-told c = search needs
 
 returns : tie.Need-returns Inv-loop μ-loop
 returns c =
-    sym (walk-stop (ruleTerm (now (c .before .before .before .before .before .before .before .args .s)) (now (c .before .before .before .before .before .before .before .args .arities))) (leafAt (c .before .before .before .before .before .before .before .args .kind) (c .before .before .before .before .before .before .before .args .lo) (c .before .before .before .before .before .before .before .args .hi)) _ _ _ _ _ (c .before .before .before .before .loop .inv .1) (sym (c .before .before .rule-term .ensures) ∙ c .enum-told .given .1) (c .before .before .before .loop-test .taken))
+    let c3 = c .before .before .before in
+    let c4 = c3 .before in
+    let c7 = c4 .before .before .before in
+    sym (walk-stop (ruleTerm (now (c7 .args .s)) (now (c7 .args .arities))) (leafAt (c7 .args .kind) (c7 .args .lo) (c7 .args .hi)) _ _ _ _ _
+    (c4 .loop .inv .1) (sym (c .before .before .rule-term .ensures) ∙ c .enum-told .given .1) (c3 .loop-test .taken))
 
 returns-2 : tie.Need-returns-2 Inv-loop μ-loop
 returns-2 c =
-    let m : c .before .loop .j ≡ c .before .before .before .before .args .n = omega arith in
-    sym (ap (λ (k : ℕ). seen (any (leafAt (c .before .before .before .before .args .kind) (c .before .before .before .before .args .lo) (c .before .before .before .before .args .hi))) (many (ruleTerm (now (c .before .before .before .before .args .s)) (now (c .before .before .before .before .args .arities))) k (c .before .before .before .before .args .at))) (sym m) ∙ c .before .loop .inv .1)
+    let c4 = c .before .before .before .before in
+    let m : c .before .loop .j ≡ c4 .args .n = omega arith in
+    sym (ap (λ (k : ℕ). seen (any (leafAt (c4 .args .kind) (c4 .args .lo) (c4 .args .hi)))
+    (many (ruleTerm (now (c4 .args .s)) (now (c4 .args .arities))) k (c4 .args .at))) (sym m) ∙ c .before .loop .inv .1)
 
 pub rule-terms-spec : {M : Type 1} → statement M
 rule-terms-spec =

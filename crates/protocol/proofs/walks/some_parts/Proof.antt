@@ -37,19 +37,31 @@ loop-less c = search needs
 
 loop-again : tie.Need-loop-again Inv-loop μ-loop
 loop-again c =
-    (search needs, walk-more (facts (now (c .before .before .before .before .before .before .before .before .before .args .s)) (now (c .before .before .before .before .before .before .before .before .before .args .arities)) (now (c .before .before .before .before .before .before .before .before .before .args .ars))) (any (asks (c .before .before .before .before .before .before .before .before .before .args .kind) (c .before .before .before .before .before .before .before .before .before .args .lo) (c .before .before .before .before .before .before .before .before .before .args .hi))) _ _ _ _ _ _ (c .before .before .before .before .before .loop .inv .1) (sym (c .before .before .before .one-part .ensures) ∙ c .before .e .given .1))
+    let c3 = c .before .before .before in
+    let c5 = c3 .before .before in
+    let c9 = c5 .before .before .before .before in (
+      search needs,
+      walk-more (facts (now (c9 .args .s)) (now (c9 .args .arities)) (now (c9 .args .ars)))
+          (any (asks (c9 .args .kind) (c9 .args .lo) (c9 .args .hi))) _ _ _ _ _ _ (c5 .loop .inv .1) (sym (c3 .one-part .ensures) ∙ c .before .e .given .1),
+    )
 
 enum-told : tie.Need-enum-told Inv-loop μ-loop
 enum-told c = search needs
 
 returns : tie.Need-returns Inv-loop μ-loop
 returns c =
-    sym (walk-stop (facts (now (c .before .before .before .before .before .before .before .before .args .s)) (now (c .before .before .before .before .before .before .before .before .args .arities)) (now (c .before .before .before .before .before .before .before .before .args .ars))) (any (asks (c .before .before .before .before .before .before .before .before .args .kind) (c .before .before .before .before .before .before .before .before .args .lo) (c .before .before .before .before .before .before .before .before .args .hi))) _ _ _ _ _ (c .before .before .before .before .loop .inv .1) (sym (c .before .before .one-part .ensures) ∙ c .enum-told .given .1) (c .before .before .before .loop-test .taken))
+    let c3 = c .before .before .before in
+    let c4 = c3 .before in
+    let c8 = c4 .before .before .before .before in
+    sym (walk-stop (facts (now (c8 .args .s)) (now (c8 .args .arities)) (now (c8 .args .ars))) (any (asks (c8 .args .kind) (c8 .args .lo) (c8 .args .hi))) _ _
+    _ _ _ (c4 .loop .inv .1) (sym (c .before .before .one-part .ensures) ∙ c .enum-told .given .1) (c3 .loop-test .taken))
 
 returns-2 : tie.Need-returns-2 Inv-loop μ-loop
 returns-2 c =
-    let m : c .before .loop .j ≡ c .before .before .before .before .before .args .n = omega arith in
-    sym (ap (λ (k : ℕ). seen (any (any (asks (c .before .before .before .before .before .args .kind) (c .before .before .before .before .before .args .lo) (c .before .before .before .before .before .args .hi)))) (many (facts (now (c .before .before .before .before .before .args .s)) (now (c .before .before .before .before .before .args .arities)) (now (c .before .before .before .before .before .args .ars))) k (c .before .before .before .before .before .args .at))) (sym m) ∙ c .before .loop .inv .1)
+    let c5 = c .before .before .before .before .before in
+    let m : c .before .loop .j ≡ c5 .args .n = omega arith in
+    sym (ap (λ (k : ℕ). seen (any (any (asks (c5 .args .kind) (c5 .args .lo) (c5 .args .hi))))
+    (many (facts (now (c5 .args .s)) (now (c5 .args .arities)) (now (c5 .args .ars))) k (c5 .args .at))) (sym m) ∙ c .before .loop .inv .1)
 
 pub some-parts-spec : {M : Type 1} → statement M
 some-parts-spec =

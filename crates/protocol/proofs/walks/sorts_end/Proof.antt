@@ -35,19 +35,25 @@ loop-less c = search needs
 
 loop-again : tie.Need-loop-again Inv-loop μ-loop
 loop-again c =
-    (search needs, came-more _ _ _ _ _ _ (c .before .before .before .before .before .loop .inv .1) (sym (c .before .before .before .below .ensures) ∙ ap asRead (c .before .e .given .1)))
+    let c3 = c .before .before .before in
+    let c5 = c3 .before .before in
+    (search needs, came-more _ _ _ _ _ _ (c5 .loop .inv .1) (sym (c3 .below .ensures) ∙ ap asRead (c .before .e .given .1)))
 
 enum-told : tie.Need-enum-told Inv-loop μ-loop
 enum-told c = search needs
 
 returns : tie.Need-returns Inv-loop μ-loop
 returns c =
-    sym (sorts-stop _ _ _ (came-stop _ _ _ _ _ (c .before .before .before .before .loop .inv .1) (sym (c .before .before .below .ensures) ∙ ap asRead (c .enum-told .given .1)) (c .before .before .before .loop-test .taken)))
+    let c3 = c .before .before .before in
+    let c4 = c3 .before in
+    sym (sorts-stop _ _ _ (came-stop _ _ _ _ _ (c4 .loop .inv .1) (sym (c .before .before .below .ensures) ∙ ap asRead (c .enum-told .given .1))
+    (c3 .loop-test .taken)))
 
 returns-2 : tie.Need-returns-2 Inv-loop μ-loop
 returns-2 c =
-    let m : c .before .loop .j ≡ c .before .before .before .args .n = omega arith in
-    sym (sorts-came _ _ _ (subst (λ (k : ℕ). Came (below (now (c .before .before .before .args .s)) 3) (c .before .before .before .args .at) k (c .before .loop .i)) m (c .before .loop .inv .1)))
+    let c3 = c .before .before .before in
+    let m : c .before .loop .j ≡ c3 .args .n = omega arith in
+    sym (sorts-came _ _ _ (subst (λ (k : ℕ). Came (below (now (c3 .args .s)) 3) (c3 .args .at) k (c .before .loop .i)) m (c .before .loop .inv .1)))
 
 pub sorts-end-spec : {M : Type 1} → statement M
 sorts-end-spec =

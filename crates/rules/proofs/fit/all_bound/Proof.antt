@@ -18,34 +18,34 @@ abbrev μ-loop : tie.MeasureT-loop
 μ-loop s arities ars at n j₀ j =
     n - j
 
--- src/fit.rt:87:5
 loop-holds : tie.Need-loop-holds Inv-loop μ-loop
 loop-holds c =
     (search needs, (λ r h l. all-none _))
 
--- src/fit.rt:88:13
 is-bound-requires : tie.Need-is-bound-requires Inv-loop μ-loop
 is-bound-requires c κs = search needs
 
--- src/fit.rt:89:13
 returns : tie.Need-returns Inv-loop μ-loop
 returns c =
-    λ r h l. sym (all-stop (bound r) (c .before .before .before .before .before .before .before .args .n) (c .before .before .before .loop .j) (sym (c .before .is-bound .ensures r h (omega arith)) ∙ false-of _ (c .if1 .taken)) (c .before .before .loop-test .taken))
+    let c3 = c .before .before .before in
+    let c7 = c3 .before .before .before .before in
+    λ r h l. sym (all-stop (bound r) (c7 .args .n) (c3 .loop .j) (sym (c .before .is-bound .ensures r h (omega arith)) ∙ false-of _ (c .if1 .taken))
+    (c .before .before .loop-test .taken))
 
--- src/fit.rt:91:9
 add-j : tie.Need-add-j Inv-loop μ-loop
 add-j c = search needs
 
--- src/fit.rt:87:5
 loop-less : tie.Need-loop-less Inv-loop μ-loop
 loop-less c = search needs
 
--- src/fit.rt:87:5
 loop-again : tie.Need-loop-again Inv-loop μ-loop
 loop-again c =
-    (search needs, (λ r h l. all-more (bound r) (c .before .before .before .loop .j) (c .before .before .before .loop .inv .1 r h l) (sym (c .before .is-bound .ensures r h (omega arith)) ∙ true-of _ (c .if1 .left))))
+    let c3 = c .before .before .before in (
+      search needs,
+      (λ r h l. all-more (bound r) (c3 .loop .j) (c3 .loop .inv .1 r h l)
+          (sym (c .before .is-bound .ensures r h (omega arith)) ∙ true-of _ (c .if1 .left))),
+    )
 
--- src/fit.rt:82:1
 returns-2 : tie.Need-returns-2 Inv-loop μ-loop
 returns-2 c =
     λ r h l.

@@ -5,30 +5,26 @@ use borrow.Author.Needs.{needs}
 use Rattle.rules.proofs.fit.is_bound.Statement.{statement}
 use Rattle.rules.proofs.fit.is_bound.Tie as tie
 
--- src/fit.rt:74:18
 sort-of-requires : tie.Need-sort-of-requires
 sort-of-requires c κs = search needs
 
--- src/fit.rt:76:57
 add-list-asks : tie.Need-add-list-asks
 add-list-asks c = search needs
 
--- src/fit.rt:76:9
 list-asks-requires : tie.Need-list-asks-requires
 list-asks-requires c κs = search needs
 
--- src/fit.rt:77:57
 add-list-asks-2 : tie.Need-add-list-asks-2
 add-list-asks-2 c = search needs
 
--- src/fit.rt:77:9
 list-asks-requires-2 : tie.Need-list-asks-requires-2
 list-asks-requires-2 c κs = search needs
 
--- src/fit.rt:70:1
 returns : tie.Need-returns
 returns c =
-    bound-is (now (c .before .before .before .before .before .before .args .s)) (now (c .before .before .before .before .before .before .args .arities)) (now (c .before .before .before .before .before .before .args .ars)) (c .before .before .before .before .before .before .args .at) (c .before .before .before .before .before .before .args .v) _ _ _ _ refl (c .before .before .sort-of .ensures) (c .before .list-asks .ensures) (c .list-asks2 .ensures)
+    let c6 = c .before .before .before .before .before .before in
+    bound-is (now (c6 .args .s)) (now (c6 .args .arities)) (now (c6 .args .ars)) (c6 .args .at) (c6 .args .v) _ _ _ _ refl
+    (c .before .before .sort-of .ensures) (c .before .list-asks .ensures) (c .list-asks2 .ensures)
 
 pub is-bound-spec : {M : Type 1} → statement M
 is-bound-spec =

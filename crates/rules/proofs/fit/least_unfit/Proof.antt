@@ -19,46 +19,48 @@ abbrev μ-loop : tie.MeasureT-loop
 μ-loop s arities ars places n j₀ j =
     n - j
 
--- src/fit.rt:126:5
 loop-holds : tie.Need-loop-holds Inv-loop μ-loop
 loop-holds c =
     (search needs, (λ rs h. least-none _))
 
--- src/fit.rt:127:40
 mul-rule-fits : tie.Need-mul-rule-fits Inv-loop μ-loop
 mul-rule-fits c = search needs
 
--- src/fit.rt:127:40
 shared-slice-read-rule-fits : tie.Need-shared-slice-read-rule-fits Inv-loop μ-loop
 shared-slice-read-rule-fits c = search needs
 
--- src/fit.rt:127:13
 rule-fits-requires : tie.Need-rule-fits-requires Inv-loop μ-loop
 rule-fits-requires c κs = search needs
 
--- src/fit.rt:128:20
 add-result : tie.Need-add-result Inv-loop μ-loop
 add-result c = search needs
 
--- src/fit.rt:128:13
 returns : tie.Need-returns Inv-loop μ-loop
 returns c =
-    λ rs h. sym (least-hit (unfit rs) (c .before .before .before .before .before .before .before .before .before .args .n) (c .before .before .before .before .loop .j) (c .before .before .before .before .loop .inv .1 rs h) (sym (placed-fits (now (c .before .before .before .before .before .before .before .before .before .args .s)) (now (c .before .before .before .before .before .before .before .before .before .args .arities)) (now (c .before .before .before .before .before .before .before .before .before .args .ars)) (now (c .before .before .before .before .before .before .before .before .before .args .places)) (c .before .before .before .before .before .before .before .before .before .args .n) (c .before .before .before .before .loop .j) _ rs h (c .before .before .before .loop-test .taken) (c .before .rule-fits .ensures)) ∙ c .if1 .taken) (c .before .before .before .loop-test .taken))
+    let c3 = c .before .before .before in
+    let c4 = c3 .before in
+    let c9 = c4 .before .before .before .before .before in
+    λ rs h. sym (least-hit (unfit rs) (c9 .args .n) (c4 .loop .j) (c4 .loop .inv .1 rs h)
+    (sym (placed-fits (now (c9 .args .s)) (now (c9 .args .arities)) (now (c9 .args .ars)) (now (c9 .args .places)) (c9 .args .n) (c4 .loop .j) _ rs h
+    (c3 .loop-test .taken) (c .before .rule-fits .ensures)) ∙ c .if1 .taken) (c3 .loop-test .taken))
 
--- src/fit.rt:130:9
 add-j : tie.Need-add-j Inv-loop μ-loop
 add-j c = search needs
 
--- src/fit.rt:126:5
 loop-less : tie.Need-loop-less Inv-loop μ-loop
 loop-less c = search needs
 
--- src/fit.rt:126:5
 loop-again : tie.Need-loop-again Inv-loop μ-loop
 loop-again c =
-    (search needs, (λ rs h. least-more (unfit rs) (c .before .before .before .before .loop .j) (c .before .before .before .before .loop .inv .1 rs h) (sym (placed-fits (now (c .before .before .before .before .before .before .before .before .before .args .s)) (now (c .before .before .before .before .before .before .before .before .before .args .arities)) (now (c .before .before .before .before .before .before .before .before .before .args .ars)) (now (c .before .before .before .before .before .before .before .before .before .args .places)) (c .before .before .before .before .before .before .before .before .before .args .n) (c .before .before .before .before .loop .j) _ rs h (c .before .before .before .loop-test .taken) (c .before .rule-fits .ensures)) ∙ c .if1 .left)))
+    let c3 = c .before .before .before in
+    let c4 = c3 .before in
+    let c9 = c4 .before .before .before .before .before in (
+      search needs,
+      (λ rs h. least-more (unfit rs) (c4 .loop .j) (c4 .loop .inv .1 rs h)
+          (sym (placed-fits (now (c9 .args .s)) (now (c9 .args .arities)) (now (c9 .args .ars)) (now (c9 .args .places)) (c9 .args .n) (c4 .loop .j) _ rs h
+          (c3 .loop-test .taken) (c .before .rule-fits .ensures)) ∙ c .if1 .left)),
+    )
 
--- src/fit.rt:121:1
 returns-2 : tie.Need-returns-2 Inv-loop μ-loop
 returns-2 c =
     λ rs h.

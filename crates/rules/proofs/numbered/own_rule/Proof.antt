@@ -5,20 +5,16 @@ use borrow.Author.Needs.{needs}
 use Rattle.rules.proofs.numbered.own_rule.Statement.{statement}
 use Rattle.rules.proofs.numbered.own_rule.Tie as tie
 
--- src/numbered.rt:77:26
 mul-t5 : tie.Need-mul-t5
 mul-t5 c = search needs
 
--- src/numbered.rt:77:26
 shared-slice-read-t7 : tie.Need-shared-slice-read-t7
 shared-slice-read-t7 c = search needs
 
--- src/numbered.rt:77:9
 returns : tie.Need-returns
 returns c =
     sym (place-found (now (c .before .before .args .places)) (c .before .before .args .n) (c .before .before .args .k) (c .before .if1 .taken))
 
--- src/numbered.rt:72:1
 returns-2 : tie.Need-returns-2
 returns-2 c =
     sym (place-none (now (c .before .args .places)) (c .before .args .n) (c .before .args .k) (c .if1 .left))

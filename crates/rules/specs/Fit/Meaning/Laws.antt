@@ -54,8 +54,10 @@ module _ (slots ars : List ℕ) (r : Rule) (w : RuleWithin slots ars r) where
       by-test : (c : Bool) → any (leafIn 0 v (v + 1)) (conclusions r) ≡ c → bound r v ≡ true
       by-test true h =
           elim (f (variable-occurs v (conclusions r) h)) [
-            | inl s ↦ or-right (eqb (getD (r .sorts) v 0) 2) _ (ap (λ (b : Bool). b || not (any (leafIn 0 v (v + 1)) (conclusions r))) (occurs-variable v (premises r) s))
-            | inr e ↦ ap (λ (b : Bool). b || (any (leafIn 0 v (v + 1)) (premises r) || not (any (leafIn 0 v (v + 1)) (conclusions r)))) (eq-eqb (getD (r .sorts) v 0) 2 e)
+            | inl s ↦ or-right (eqb (getD (r .sorts) v 0) 2) _ (ap (λ (b : Bool). b || not (any (leafIn 0 v (v + 1)) (conclusions r)))
+                (occurs-variable v (premises r) s))
+            | inr e ↦ ap (λ (b : Bool). b || (any (leafIn 0 v (v + 1)) (premises r) || not (any (leafIn 0 v (v + 1)) (conclusions r))))
+                (eq-eqb (getD (r .sorts) v 0) 2 e)
           ]
       by-test false h =
           or-right (eqb (getD (r .sorts) v 0) 2) _ (or-right (any (leafIn 0 v (v + 1)) (premises r)) _ (ap not h))
@@ -69,11 +71,19 @@ module _ (slots ars : List ℕ) (r : Rule) (w : RuleWithin slots ars r) where
       record {
         p1 = λ n s. never (any (any (leafIn 2 0 numberLimit)) (r .parts)) (a .0) (asked-lists fresh 0 n (r .parts) ranges (omega arith) s);
         p2 = λ s. never (any (symbolIn 2 4) (premises r)) (b .0)
-            (elim s [ inl s ↦ among-asked 2 4 3 (premises r) (omega arith) (omega arith) s | inr s ↦ among-asked 2 4 2 (premises r) (omega arith) (omega arith) s ]);
+            (elim s [
+              | inl s ↦ among-asked 2 4 3 (premises r) (omega arith) (omega arith) s
+              | inr s ↦ among-asked 2 4 2 (premises r) (omega arith) (omega arith)
+                  s
+            ]);
         p3 = λ s. elim s [
           | inl s ↦ never (any (symbolIn 3 4) (conclusions r)) (d .1) (among-asked 3 4 3 (conclusions r) (omega arith) (omega arith) s)
           | inr s ↦ never (any (symbolIn 0 2) (conclusions r)) (d .0)
-              (elim s [ inl s ↦ among-asked 0 2 1 (conclusions r) (omega arith) (omega arith) s | inr s ↦ among-asked 0 2 0 (conclusions r) (omega arith) (omega arith) s ])
+              (elim s [
+                | inl s ↦ among-asked 0 2 1 (conclusions r) (omega arith) (omega arith) s
+                | inr s ↦ among-asked 0 2 0 (conclusions r) (omega arith)
+                    (omega arith) s
+              ])
         ];
         p4 = λ v s. bound-to v (below-to (bound r) (length (r .sorts)) (c .1) v (in-sorts v s)) s;
       }

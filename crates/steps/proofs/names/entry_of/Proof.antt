@@ -4,31 +4,23 @@ use Rattle.steps.specs.Names.{entryOf}
 use borrow.Author.Needs.{needs}
 use Rattle.steps.proofs.names.entry_of.Statement.{statement}
 use Rattle.steps.proofs.names.entry_of.Tie as tie
-use Rattle.steps.proofs.names.entry_of.Reads as reads
-use Rattle.steps.proofs.names.entry_of.Lts as lts
 
--- src/names.rt:67:18
 enum-known-made : tie.Need-enum-known-made
 enum-known-made c = search needs
 
--- src/names.rt:67:24
 cast-result : tie.Need-cast-result
 cast-result c = search needs
 
--- src/names.rt:67:24
 add-result : tie.Need-add-result
 add-result c = search needs
 
--- src/names.rt:68:26
 enum-told : tie.Need-enum-told
 enum-told c = search needs
 
--- src/names.rt:63:1
 returns : tie.Need-returns
 returns c =
     omega (arith, ap entryOf (c .before .before .made .given .1))
 
--- src/names.rt:63:1
 returns-2 : tie.Need-returns-2
 returns-2 c =
     sym (ap entryOf (c .enum-told .given .1))

@@ -4,16 +4,13 @@ use Rattle.steps.specs.Names.{Entered}
 use Rattle.steps.specs.Nodes.Code.{noNode}
 use Rattle.steps.specs.Nodes.{Node}
 use Rattle.protocol.specs.Protocol.{Protocol}
-use Prim.Native.Nat.{ℕ, _+_, _-_, _≤_, _<_}
+use Prim.Native.Nat.{_-_, _≤_}
 use mathlib.Core.List.{List}
 use mathlib.Core.Path.{_≡_, sym, _∙_}
 use lib.ListN.{length}
 use native.Mathlib.Omega.{arith}
 use Rattle.steps.proofs.names.least_again.Statement.{statement}
 use Rattle.steps.proofs.names.least_again.Tie as tie
-use Rattle.steps.proofs.names.least_again.Reads as reads
-use Rattle.steps.proofs.names.least_again.Lts as lts
-use Rattle.steps.proofs.names.again_at.Reads as again-at-reads
 
 abbrev Inv-loop : tie.InvT-loop
 Inv-loop names n j₀ j =
@@ -23,38 +20,36 @@ abbrev μ-loop : tie.MeasureT-loop
 μ-loop names n j₀ j =
     n - j
 
--- src/names.rt:126:5
 loop-holds : tie.Need-loop-holds Inv-loop μ-loop
 loop-holds c =
     (search needs, λ p xs h e. names-all p noNode xs)
 
--- src/names.rt:127:12
 again-at-requires : tie.Need-again-at-requires Inv-loop μ-loop
 again-at-requires c κs = search needs
 
--- src/names.rt:128:20
 add-result : tie.Need-add-result Inv-loop μ-loop
 add-result c = search needs
 
--- src/names.rt:128:13
 returns : tie.Need-returns Inv-loop μ-loop
 returns c =
-    λ p xs h e. names-twice p noNode xs (c .before .before .before .loop .j) (omega (arith, e, c .before .before .loop-test .taken)) (sym (c .before .again-at .ensures xs _ h (c .before .before .loop-test .taken) (omega (arith, e))) ∙ c .if1 .taken) (c .before .before .before .loop .inv .1 p xs h e)
+    let c3 = c .before .before .before in
+    λ p xs h e. names-twice p noNode xs (c3 .loop .j) (omega (arith, e, c .before .before .loop-test .taken))
+    (sym (c .before .again-at .ensures xs _ h (c .before .before .loop-test .taken) (omega (arith, e))) ∙ c .if1 .taken) (c3 .loop .inv .1 p xs h e)
 
--- src/names.rt:130:9
 add-j : tie.Need-add-j Inv-loop μ-loop
 add-j c = search needs
 
--- src/names.rt:126:5
 loop-less : tie.Need-loop-less Inv-loop μ-loop
 loop-less c = search needs
 
--- src/names.rt:126:5
 loop-again : tie.Need-loop-again Inv-loop μ-loop
 loop-again c =
-    (omega arith, λ p xs h e. names-more p noNode xs (c .before .before .before .loop .j) (omega (arith, e, c .before .before .loop-test .taken)) (sym (c .before .again-at .ensures xs _ h (c .before .before .loop-test .taken) (omega (arith, e))) ∙ c .if1 .left) (c .before .before .before .loop .inv .1 p xs h e))
+    let c3 = c .before .before .before in (
+      omega arith,
+      λ p xs h e. names-more p noNode xs (c3 .loop .j) (omega (arith, e, c .before .before .loop-test .taken))
+          (sym (c .before .again-at .ensures xs _ h (c .before .before .loop-test .taken) (omega (arith, e))) ∙ c .if1 .left) (c3 .loop .inv .1 p xs h e),
+    )
 
--- src/names.rt:121:1
 returns-2 : tie.Need-returns-2 Inv-loop μ-loop
 returns-2 c =
     λ p xs h e. names-none p noNode xs (c .before .loop .j) (omega (arith, e, c .loop-test .left)) (c .before .loop .inv .1 p xs h e)

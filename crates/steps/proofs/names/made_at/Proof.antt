@@ -5,42 +5,36 @@ use Rattle.steps.specs.Names.Code.{zero-name, other-name}
 use borrow.Author.Needs.{needs}
 use Rattle.steps.proofs.names.made_at.Statement.{statement}
 use Rattle.steps.proofs.names.made_at.Tie as tie
-use Rattle.steps.proofs.names.made_at.Reads as reads
-use Rattle.steps.proofs.names.made_at.Lts as lts
-use Rattle.number.proofs.read_number.Reads as read-number-reads
-use Rattle.steps.proofs.names.fresh_at.Reads as fresh-at-reads
 
--- src/names.rt:44:11
 read-number-requires : tie.Need-read-number-requires
 read-number-requires c κs = search needs
 
--- src/names.rt:45:23
 enum-known-r : tie.Need-enum-known-r
 enum-known-r c = search needs
 
--- src/names.rt:47:17
 fresh-at-requires : tie.Need-fresh-at-requires
 fresh-at-requires c κs = search needs
 
--- src/names.rt:47:17
 returns : tie.Need-returns
 returns c =
+    let c3 = c .before .before .before in
+    let c5 = c3 .before .before in
+    let c9 = c5 .before .before .before .before in
     λ p x i h.
-    let (e, f) = node-from p _ _ _ _ x (sym (c .before .before .before .before .before .read-number .ensures) ∙ ap asRead (c .before .before .before .r .given .1)) h in
-    zero-name i _ (λ k. c .before .before .before .before .before .before .before .before .before .shared-slice-known .given k .fits) _ _ x e f (c .before .if1 .taken) (c .fresh-at .result) (c .fresh-at .ensures)
+    let (e, f) = node-from p _ _ _ _ x (sym (c5 .read-number .ensures) ∙ ap asRead (c3 .r .given .1)) h in
+    zero-name i _ (λ k. c9 .shared-slice-known .given k .fits) _ _ x e f (c .before .if1 .taken) (c .fresh-at .result) (c .fresh-at .ensures)
 
--- src/names.rt:51:26
 enum-told : tie.Need-enum-told
 enum-told c = search needs
 
--- src/names.rt:41:1
 returns-2 : tie.Need-returns-2
 returns-2 c =
+    let c4 = c .before .before .before .before in
+    let c8 = c4 .before .before .before .before in
     λ p x i h.
-    let (e, f) = node-from p _ _ _ _ x (sym (c .before .before .before .before .read-number .ensures) ∙ ap asRead (c .before .before .r .given .1)) h in
-    other-name i _ (λ k. c .before .before .before .before .before .before .before .before .shared-slice-known .given k .fits) _ _ x e f (c .if1 .left)
+    let (e, f) = node-from p _ _ _ _ x (sym (c4 .read-number .ensures) ∙ ap asRead (c .before .before .r .given .1)) h in
+    other-name i _ (λ k. c8 .shared-slice-known .given k .fits) _ _ x e f (c .if1 .left)
 
--- src/names.rt:41:1
 returns-3 : tie.Need-returns-3
 returns-3 c =
     λ p x i h. no-node-from p _ _ x (sym (c .before .before .read-number .ensures) ∙ ap asRead (c .enum-told .given .1)) h

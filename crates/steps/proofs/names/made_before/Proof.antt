@@ -2,15 +2,13 @@ use borrow.Author.Needs.{needs}
 use Rattle.steps.specs.Names.Laws.{made-turn}
 use Rattle.steps.specs.Names.{Entered, isMade}
 use Rattle.steps.specs.Nodes.{Node}
-use Prim.Native.Nat.{ℕ, suc, _+_, _-_, _≤_, _<_}
+use Prim.Native.Nat.{ℕ, suc, _-_, _≤_}
 use mathlib.Core.List.{List}
 use mathlib.Core.Path.{_≡_, refl, subst}
 use lib.ListN.{length, take}
 use native.Mathlib.Omega.{arith}
 use Rattle.steps.proofs.names.made_before.Statement.{statement}
 use Rattle.steps.proofs.names.made_before.Tie as tie
-use Rattle.steps.proofs.names.made_before.Reads as reads
-use Rattle.steps.proofs.names.made_before.Lts as lts
 
 abbrev Inv-loop : tie.InvT-loop
 Inv-loop names j entry found₀ i₀ found i =
@@ -20,33 +18,29 @@ abbrev μ-loop : tie.MeasureT-loop
 μ-loop names j entry found₀ i₀ found i =
     j - i
 
--- src/names.rt:101:5
 loop-holds : tie.Need-loop-holds Inv-loop μ-loop
 loop-holds c =
     (search needs, λ xs n m h l k e. refl)
 
--- src/names.rt:102:35
 mul-found : tie.Need-mul-found Inv-loop μ-loop
 mul-found c = search needs
 
--- src/names.rt:102:35
 shared-slice-read-found : tie.Need-shared-slice-read-found Inv-loop μ-loop
 shared-slice-read-found c = search needs
 
--- src/names.rt:103:9
 add-i : tie.Need-add-i Inv-loop μ-loop
 add-i c = search needs
 
--- src/names.rt:101:5
 loop-less : tie.Need-loop-less Inv-loop μ-loop
 loop-less c = search needs
 
--- src/names.rt:101:5
 loop-again : tie.Need-loop-again Inv-loop μ-loop
-loop-again c =
-    (omega arith, λ xs n m h l k e. made-turn _ xs n h k m _ (c .before .before .loop .i) e (omega (arith, l, c .before .loop-test .taken)) _ (c .before .before .loop .inv .1 xs n m h l k e))
+loop-again c = (
+  omega arith,
+  λ xs n m h l k e. made-turn _ xs n h k m _ (c .before .before .loop .i) e (omega (arith, l, c .before .loop-test .taken)) _
+      (c .before .before .loop .inv .1 xs n m h l k e),
+)
 
--- src/names.rt:95:1
 returns : tie.Need-returns Inv-loop μ-loop
 returns c =
     λ xs n m h l k e.

@@ -4,37 +4,27 @@ use Rattle.steps.specs.Nodes.Code.{end-got, end-fault}
 use borrow.Author.Needs.{needs}
 use Rattle.steps.proofs.nodes.node_end.Statement.{statement}
 use Rattle.steps.proofs.nodes.node_end.Tie as tie
-use Rattle.steps.proofs.nodes.node_end.Reads as reads
-use Rattle.steps.proofs.nodes.node_end.Lts as lts
-use Rattle.number.proofs.read_number.Reads as read-number-reads
-use Rattle.steps.proofs.nodes.node_from.Reads as node-from-reads
 
--- src/nodes.rt:108:11
 read-number-requires : tie.Need-read-number-requires
 read-number-requires c κs = search needs
 
--- src/nodes.rt:109:23
 enum-known-r : tie.Need-enum-known-r
 enum-known-r c = search needs
 
--- src/nodes.rt:109:75
 cast-node-from : tie.Need-cast-node-from
 cast-node-from c = search needs
 
--- src/nodes.rt:109:32
 node-from-requires : tie.Need-node-from-requires
 node-from-requires c κs = search needs
 
--- src/nodes.rt:110:26
 enum-told : tie.Need-enum-told
 enum-told c = search needs
 
--- src/nodes.rt:97:1
 returns : tie.Need-returns
 returns c =
-    λ p i. c .node-from .ensures p i ∙ sym (end-got p _ _ (sym (c .before .before .before .before .read-number .ensures) ∙ ap asRead (c .before .before .r .given .1)))
+    λ p i. c .node-from .ensures p i ∙ sym (end-got p _ _ (sym (c .before .before .before .before .read-number .ensures) ∙ ap asRead
+    (c .before .before .r .given .1)))
 
--- src/nodes.rt:97:1
 returns-2 : tie.Need-returns-2
 returns-2 c =
     λ p i. sym (end-fault p _ _ (sym (c .before .before .read-number .ensures) ∙ ap asRead (c .enum-told .given .1)))

@@ -3,62 +3,67 @@ use Rattle.steps.specs.Nodes.Code.{steps-end, steps-leftover, steps-brok
 use borrow.Author.Needs.{needs}
 use Rattle.steps.proofs.nodes.read_steps.Statement.{statement}
 use Rattle.steps.proofs.nodes.read_steps.Tie as tie
-use Rattle.steps.proofs.nodes.read_steps.Reads as reads
-use Rattle.steps.proofs.nodes.read_steps.Lts as lts
-use Rattle.steps.proofs.nodes.read_nodes.Reads as read-nodes-reads
 
--- src/nodes.rt:182:11
 read-nodes-requires : tie.Need-read-nodes-requires
 read-nodes-requires c κs =
     (search needs, search needs, c .before .before .before .before .before .before .pre .2)
 
--- src/nodes.rt:183:20
 enum-known-n : tie.Need-enum-known-n
 enum-known-n c = search needs
 
--- src/nodes.rt:185:17
 same-length : tie.Need-same-length
 same-length c = search needs
 
--- src/nodes.rt:185:17
 returns : tie.Need-returns
 returns c =
-    (search needs, λ p i. steps-end p (now (c .before .before .before .before .before .before .before .before .before .before .before .before .before .args .s)) (c .before .before .before .before .before .before .read-nodes .last .1 .1 .1 .1 .1 .1 .0) (c .before .before .before .before .before .before .read-nodes .result) (c .before .before .before .before .before .before .read-nodes .ensures .1 p i) (c .before .before .n .given .1) (c .if1 .taken))
+    let c6 = c .before .before .before .before .before .before in
+    let c13 = c6 .before .before .before .before .before .before .before in (
+      search needs,
+      λ p i. steps-end p (now (c13 .args .s)) (c6 .read-nodes .last .1 .1 .1 .1 .1 .1 .0) (c6 .read-nodes .result)
+          (c6 .read-nodes .ensures .1 p i) (c .before .before .n .given .1) (c .if1 .taken),
+    )
 
--- src/nodes.rt:189:26
 enum-told : tie.Need-enum-told
 enum-told c = search needs
 
--- src/nodes.rt:190:23
 enum-known-k : tie.Need-enum-known-k
 enum-known-k c = search needs
 
--- src/nodes.rt:170:1
 same-length-2 : tie.Need-same-length-2
 same-length-2 c = search needs
 
--- src/nodes.rt:170:1
 returns-2 : tie.Need-returns-2
 returns-2 c =
-    (search needs, λ p i. steps-leftover p (now (c .before .before .before .before .before .before .before .before .before .before .before .before .before .args .s)) (c .before .before .before .before .before .before .read-nodes .last .1 .1 .1 .1 .1 .1 .0) (c .before .before .before .before .before .before .read-nodes .result) (c .before .before .before .before .before .before .read-nodes .ensures .1 p i) (c .before .before .n .given .1) (c .if1 .left))
+    let c6 = c .before .before .before .before .before .before in
+    let c13 = c6 .before .before .before .before .before .before .before in (
+      search needs,
+      λ p i. steps-leftover p (now (c13 .args .s)) (c6 .read-nodes .last .1 .1 .1 .1 .1 .1 .0) (c6 .read-nodes .result)
+          (c6 .read-nodes .ensures .1 p i) (c .before .before .n .given .1) (c .if1 .left),
+    )
 
--- src/nodes.rt:170:1
 same-length-3 : tie.Need-same-length-3
 same-length-3 c = search needs
 
--- src/nodes.rt:170:1
 returns-3 : tie.Need-returns-3
 returns-3 c =
-    (search needs, λ p i. steps-broken p (now (c .before .before .before .before .before .before .before .before .before .before .before .args .s)) (c .before .before .before .before .read-nodes .last .1 .1 .1 .1 .1 .1 .0) (c .before .before .before .before .read-nodes .result) (c .before .before .before .before .read-nodes .ensures .1 p i) (c .enum-told .given .1))
+    let c4 = c .before .before .before .before in
+    let c11 = c4 .before .before .before .before .before .before .before in (
+      search needs,
+      λ p i. steps-broken p (now (c11 .args .s)) (c4 .read-nodes .last .1 .1 .1 .1 .1 .1 .0) (c4 .read-nodes .result)
+          (c4 .read-nodes .ensures .1 p i) (c .enum-told .given .1),
+    )
 
--- src/nodes.rt:170:1
 same-length-4 : tie.Need-same-length-4
 same-length-4 c = search needs
 
--- src/nodes.rt:170:1
 returns-4 : tie.Need-returns-4
 returns-4 c =
-    (search needs, λ p i. steps-unknown p (now (c .before .before .before .before .before .before .before .before .before .before .before .before .args .s)) (c .before .before .before .before .before .read-nodes .last .1 .1 .1 .1 .1 .1 .0) (c .before .before .before .before .before .read-nodes .result) (c .before .before .before .before .before .read-nodes .ensures .1 p i) (c .before .k .given .1))
+    let c5 = c .before .before .before .before .before in
+    let c12 = c5 .before .before .before .before .before .before .before in (
+      search needs,
+      λ p i. steps-unknown p (now (c12 .args .s)) (c5 .read-nodes .last .1 .1 .1 .1 .1 .1 .0) (c5 .read-nodes .result)
+          (c5 .read-nodes .ensures .1 p i) (c .before .k .given .1),
+    )
 
 pub read-steps-spec : {M : Type 1} → statement M
 read-steps-spec =

@@ -5,79 +5,87 @@ use Rattle.steps.specs.Causes.Code.{list-broken, list-unknown, list-few,
 use borrow.Author.Needs.{needs}
 use Rattle.steps.proofs.ruling.rule_steps.Statement.{statement}
 use Rattle.steps.proofs.ruling.rule_steps.Tie as tie
-use Rattle.steps.proofs.ruling.rule_steps.Reads as reads
-use Rattle.steps.proofs.ruling.rule_steps.Lts as lts
-use Rattle.steps.proofs.nodes.read_steps.Reads as read-steps-reads
-use Rattle.steps.proofs.ruling.rule_nodes.Reads as rule-nodes-reads
 
--- src/ruling.rt:72:11
 read-steps-requires : tie.Need-read-steps-requires
 read-steps-requires c κs = search needs
 
--- src/ruling.rt:73:20
 enum-known-n : tie.Need-enum-known-n
 enum-known-n c = search needs
 
--- src/ruling.rt:73:29
 rule-nodes-requires : tie.Need-rule-nodes-requires
 rule-nodes-requires c κs =
-    let g = c .before .before .before .before .before .before .before .before .before .before .before .before .before .before .pre .2 in
-    let told = c .before .before .before .before .before .before .read-steps .ensures .1 (g .protocol) (g .index) in
-    let few = list-few (g .protocol) (now (c .before .before .before .before .before .before .before .before .before .before .before .before .before .before .args .s)) (c .before .before .before .before .before .before .read-steps .last .1 .1 .1 .1 .1 .0) (c .before .before .before .before .before .before .read-steps .result) told (c .before .before .n .given .1) (λ i. c .before .before .before .before .before .before .before .before .before .before .before .before .before .shared-slice-known .given i .fits) in
-    (search needs, few, omega (arith, few, c .before .before .before .before .before .before .read-steps .ensures .0, c .before .before .before .before .before .before .before .before .before .before .before .before .before .before .pre .1), g, list-some (g .index) (now (c .before .before .before .before .before .before .before .before .before .before .before .before .before .before .args .s)) (c .before .before .before .before .before .before .read-steps .last .1 .1 .1 .1 .1 .0) (c .before .before .before .before .before .before .read-steps .result) told (c .before .before .n .given .1), c .before .before .before .before .before .before .before .before .before .before .before .before .before .before .pre .3)
+    let c6 = c .before .before .before .before .before .before in
+    let c13 = c6 .before .before .before .before .before .before .before in
+    let c14 = c13 .before in
+    let g = c14 .pre .2 in
+    let told = c6 .read-steps .ensures .1 (g .protocol) (g .index) in
+    let few = list-few (g .protocol) (now (c14 .args .s)) (c6 .read-steps .last .1 .1 .1 .1 .1 .0) (c6 .read-steps .result) told
+    (c .before .before .n .given .1) (λ i. c13 .shared-slice-known .given i .fits) in (
+      search needs,
+      few,
+      omega (arith, few, c6 .read-steps .ensures .0, c14 .pre .1),
+      g,
+      list-some (g .index) (now (c14 .args .s))
+          (c6 .read-steps .last .1 .1 .1 .1 .1 .0) (c6 .read-steps .result) told (c .before .before .n .given .1),
+      c14 .pre .3,
+    )
 
--- src/ruling.rt:74:26
 enum-told : tie.Need-enum-told
 enum-told c = search needs
 
--- src/ruling.rt:75:23
 enum-known-k : tie.Need-enum-known-k
 enum-known-k c = search needs
 
--- src/ruling.rt:58:1
 same-length : tie.Need-same-length
 same-length c = search needs
 
--- src/ruling.rt:58:1
 returns : tie.Need-returns
 returns c =
-    let told = c .before .before .before .before .before .before .before .read-steps .ensures .1 in (
-      c .before .before .before .before .before .before .before .read-steps .ensures .0,
+    let c3 = c .before .before .before in
+    let c7 = c3 .before .before .before .before in
+    let c14 = c7 .before .before .before .before .before .before .before in
+    let c15 = c14 .before in
+    let told = c7 .read-steps .ensures .1 in (
+      c7 .read-steps .ensures .0,
       (
-        λ p i. list-nodes p (now (c .before .before .before .before .before .before .before .before .before .before .before .before .before .before .before .args .s)) (c .before .before .before .before .before .before .before .read-steps .last .1 .1 .1 .1 .1 .0) (c .before .before .before .before .before .before .before .read-steps .result) (told p i) (c .before .before .before .n .given .1) (c .rule-nodes .result) (λ xs pl. c .rule-nodes .ensures p xs i pl),
+        λ p i. list-nodes p (now (c15 .args .s)) (c7 .read-steps .last .1 .1 .1 .1 .1 .0) (c7 .read-steps .result) (told p i) (c3 .n .given .1)
+            (c .rule-nodes .result) (λ xs pl. c .rule-nodes .ensures p xs i pl),
         λ p i.
-            let t = list-read p (now (c .before .before .before .before .before .before .before .before .before .before .before .before .before .before .before .args .s)) (c .before .before .before .before .before .before .before .read-steps .last .1 .1 .1 .1 .1 .0) (c .before .before .before .before .before .before .before .read-steps .result) (told p i) (c .before .before .before .n .given .1) in
-            where-good p (now (c .before .before .before .before .before .before .before .before .before .before .before .before .before .before .before .args .s)) (c .before .before .before .before .before .before .before .read-steps .last .1 .1 .1 .1 .1 .0) (λ k. c .before .before .before .before .before .before .before .before .before .before .before .before .before .before .shared-slice-known .given k .fits) _ _ t (c .rule-nodes .result) (c .rule-nodes .ensures p (t .items) i (t .placed)),
+            let t = list-read p (now (c15 .args .s)) (c7 .read-steps .last .1 .1 .1 .1 .1 .0) (c7 .read-steps .result) (told p i) (c3 .n .given .1) in
+            where-good p (now (c15 .args .s)) (c7 .read-steps .last .1 .1 .1 .1 .1 .0) (λ k. c14 .shared-slice-known .given k .fits) _ _ t
+            (c .rule-nodes .result) (c .rule-nodes .ensures p (t .items) i (t .placed)),
       ),
     )
 
--- src/ruling.rt:58:1
 same-length-2 : tie.Need-same-length-2
 same-length-2 c = search needs
 
--- src/ruling.rt:58:1
 returns-2 : tie.Need-returns-2
-returns-2 c = (
-  c .before .before .before .before .read-steps .ensures .0,
-  (
-    λ p i. list-broken p (now (c .before .before .before .before .before .before .before .before .before .before .before .before .args .s)) (c .before .before .before .before .read-steps .last .1 .1 .1 .1 .1 .0) (c .before .before .before .before .read-steps .result) (c .before .before .before .before .read-steps .ensures .1 p i) (c .enum-told .given .1),
-    λ p i. tt,
-  ),
-)
+returns-2 c =
+    let c4 = c .before .before .before .before in
+    let c12 = c4 .before .before .before .before .before .before .before .before in (
+      c4 .read-steps .ensures .0,
+      (
+        λ p i. list-broken p (now (c12 .args .s)) (c4 .read-steps .last .1 .1 .1 .1 .1 .0) (c4 .read-steps .result) (c4 .read-steps .ensures .1 p i)
+            (c .enum-told .given .1),
+        λ p i. tt,
+      ),
+    )
 
--- src/ruling.rt:58:1
 same-length-3 : tie.Need-same-length-3
 same-length-3 c = search needs
 
--- src/ruling.rt:58:1
 returns-3 : tie.Need-returns-3
-returns-3 c = (
-  c .before .before .before .before .before .read-steps .ensures .0,
-  (
-    λ p i. list-unknown p (now (c .before .before .before .before .before .before .before .before .before .before .before .before .before .args .s)) (c .before .before .before .before .before .read-steps .last .1 .1 .1 .1 .1 .0) (c .before .before .before .before .before .read-steps .result) (c .before .before .before .before .before .read-steps .ensures .1 p i) (c .before .k .given .1),
-    λ p i. tt,
-  ),
-)
+returns-3 c =
+    let c5 = c .before .before .before .before .before in
+    let c13 = c5 .before .before .before .before .before .before .before .before in (
+      c5 .read-steps .ensures .0,
+      (
+        λ p i. list-unknown p (now (c13 .args .s)) (c5 .read-steps .last .1 .1 .1 .1 .1 .0) (c5 .read-steps .result) (c5 .read-steps .ensures .1 p i)
+            (c .before .k .given .1),
+        λ p i. tt,
+      ),
+    )
 
 pub rule-steps-spec : {M : Type 1} → statement M
 rule-steps-spec =

@@ -13,9 +13,6 @@ use lib.ListN.{length, getD}
 use native.Mathlib.Omega.{arith}
 use Rattle.steps.proofs.size_pass.size_pass.Statement.{statement}
 use Rattle.steps.proofs.size_pass.size_pass.Tie as tie
-use Rattle.steps.proofs.size_pass.size_pass.Reads as reads
-use Rattle.steps.proofs.size_pass.size_pass.Lts as lts
-use Rattle.steps.proofs.size_pass.node_terms.Reads as node-terms-reads
 
 abbrev Inv-loop : tie.InvT-loop
 Inv-loop s protocol arities ars rules nr places n j₀ j =
@@ -25,54 +22,61 @@ abbrev μ-loop : tie.MeasureT-loop
 μ-loop s protocol arities ars rules nr places n j₀ j =
     n - j
 
--- src/size_pass.rt:102:5
 loop-holds : tie.Need-loop-holds Inv-loop μ-loop
 loop-holds c =
     (search needs, λ p xs i h. rest-all (nodeTermsOk p) noNode xs)
 
--- src/size_pass.rt:103:61
 mul-node-terms : tie.Need-mul-node-terms Inv-loop μ-loop
 mul-node-terms c = search needs
 
--- src/size_pass.rt:103:61
 shared-slice-read-node-terms : tie.Need-shared-slice-read-node-terms Inv-loop μ-loop
 shared-slice-read-node-terms c = search needs
 
--- src/size_pass.rt:103:12
 node-terms-requires : tie.Need-node-terms-requires Inv-loop μ-loop
 node-terms-requires c κs =
-    let q = c .before .before .before .before .before .before .before .before .before .pre .4 in
-    (search needs, c .before .before .before .before .before .before .before .before .before .pre .3, record { of = q .of; index = q .index; its = getD (q .their) (c .before .before .loop .j) noNode; here = q .placed .each (c .before .before .loop .j) (c .before .loop-test .taken) }, c .before .before .before .before .before .before .before .before .before .pre .5)
+    let c9 = c .before .before .before .before .before .before .before .before .before in
+    let q = c9 .pre .4 in (
+      search needs,
+      c9 .pre .3,
+      record {
+        of = q .of;
+        index = q .index;
+        its = getD (q .their) (c .before .before .loop .j) noNode;
+        here = q .placed .each
+            (c .before .before .loop .j) (c .before .loop-test .taken);
+      },
+      c9 .pre .5,
+    )
 
--- src/size_pass.rt:104:13
 add-j : tie.Need-add-j Inv-loop μ-loop
 add-j c = search needs
 
--- src/size_pass.rt:102:5
 loop-less : tie.Need-loop-less Inv-loop μ-loop
 loop-less c = search needs
 
--- src/size_pass.rt:102:5
 loop-again : tie.Need-loop-again Inv-loop μ-loop
-loop-again c = (
-  omega arith,
-  λ p xs i h.
-      let l : c .before .before .before .before .loop .j < length xs = omega (arith, h .count) in
-      rest-more (nodeTermsOk p) noNode xs _ l (sym (c .before .node-terms .ensures p _ i (h .each (c .before .before .before .before .loop .j) (c .before .before .before .loop-test .taken))) ∙ c .if1 .taken) (c .before .before .before .before .loop .inv .1 p xs i h),
-)
+loop-again c =
+    let c3 = c .before .before .before in
+    let c4 = c3 .before in (
+      omega arith,
+      λ p xs i h.
+          let l : c4 .loop .j < length xs = omega (arith, h .count) in
+          rest-more (nodeTermsOk p) noNode xs _ l (sym (c .before .node-terms .ensures p _ i (h .each (c4 .loop .j) (c3 .loop-test .taken))) ∙ c .if1 .taken)
+          (c4 .loop .inv .1 p xs i h),
+    )
 
--- src/size_pass.rt:106:20
 add-result : tie.Need-add-result Inv-loop μ-loop
 add-result c = search needs
 
--- src/size_pass.rt:106:13
 returns : tie.Need-returns Inv-loop μ-loop
 returns c =
+    let c3 = c .before .before .before in
+    let c4 = c3 .before in
     λ p xs i h.
-    let l : c .before .before .before .before .loop .j < length xs = omega (arith, h .count) in
-    rest-bad (nodeTermsOk p) noNode xs _ l (sym (c .before .node-terms .ensures p _ i (h .each (c .before .before .before .before .loop .j) (c .before .before .before .loop-test .taken))) ∙ c .if1 .left) (c .before .before .before .before .loop .inv .1 p xs i h)
+    let l : c4 .loop .j < length xs = omega (arith, h .count) in
+    rest-bad (nodeTermsOk p) noNode xs _ l (sym (c .before .node-terms .ensures p _ i (h .each (c4 .loop .j) (c3 .loop-test .taken))) ∙ c .if1 .left)
+    (c4 .loop .inv .1 p xs i h)
 
--- src/size_pass.rt:88:1
 returns-2 : tie.Need-returns-2 Inv-loop μ-loop
 returns-2 c =
     λ p xs i h. rest-none (nodeTermsOk p) noNode xs (c .before .loop .j) (omega (arith, h .count)) (c .before .loop .inv .1 p xs i h)

@@ -2,20 +2,15 @@ use borrow.Author.Needs.{needs}
 use denote.Ref.{now}
 use native.Mathlib.Omega.{arith}
 use lib.ListN.{length, getD}
-use mathlib.Core.Path.{_≡_, ap, sym, _∙_}
+use mathlib.Core.Path.{sym, _∙_}
 use mathlib.Core.List.{List}
-use Prim.Native.Nat.{ℕ, _+_, _-_, _≤_, _<_}
+use Prim.Native.Nat.{_-_, _≤_, _<_}
 use Rattle.protocol.specs.Places.{Here}
 use Rattle.protocol.specs.Protocol.{Fact, noFact, facts}
 use Rattle.steps.specs.Values.Weights.{sizeIn}
 use Rattle.steps.specs.Values.Parts.{AllLeft, all-start, all-more, all-bad, all-done, factSmall, facts-many, fact-there}
 use Rattle.steps.proofs.sizes.list_small.Statement.{statement}
 use Rattle.steps.proofs.sizes.list_small.Tie as tie
-use Rattle.steps.proofs.sizes.list_small.Reads as reads
-use Rattle.steps.proofs.sizes.list_small.Lts as lts
-use Rattle.protocol.proofs.places.count_of.Reads as count-of-reads
-use Rattle.protocol.proofs.places.fact_at.Reads as fact-at-reads
-use Rattle.steps.proofs.sizes.fact_small.Reads as fact-small-reads
 
 abbrev Inv-loop : tie.InvT-loop
 Inv-loop s arities ars place sizes n j₀ j =
@@ -25,54 +20,64 @@ abbrev μ-loop : tie.MeasureT-loop
 μ-loop s arities ars place sizes n j₀ j =
     n - j
 
--- src/sizes.rt:102:9
 count-of-requires : tie.Need-count-of-requires Inv-loop μ-loop
 count-of-requires c κs = search needs
 
--- src/sizes.rt:104:5
 loop-holds : tie.Need-loop-holds Inv-loop μ-loop
 loop-holds c =
     (search needs, λ fs h. all-start (factSmall (sizeIn (now (c .before .before .before .before .before .args .sizes)))) noFact fs)
 
--- src/sizes.rt:105:13
 fact-at-requires : tie.Need-fact-at-requires Inv-loop μ-loop
 fact-at-requires c κs = search needs
 
--- src/sizes.rt:106:12
 fact-small-requires : tie.Need-fact-small-requires Inv-loop μ-loop
 fact-small-requires c κs =
-    let q = c .before .before .before .before .before .before .before .before .pre .2 in
-    let l : c .before .before .loop .j < length (q .its) = omega (arith, facts-many _ _ _ _ (q .its) (q .here), c .before .before .before .count-of .ensures) in
-    (search needs, c .before .before .before .before .before .before .before .before .pre .1, record { its = getD (q .its) (c .before .before .loop .j) noFact; here = fact-there _ _ _ _ (q .its) (q .here) _ _ l (c .fact-at .ensures) })
+    let c3 = c .before .before .before in
+    let c8 = c3 .before .before .before .before .before in
+    let q = c8 .pre .2 in
+    let l : c .before .before .loop .j < length (q .its) = omega (arith, facts-many _ _ _ _ (q .its) (q .here), c3 .count-of .ensures) in (
+      search needs,
+      c8 .pre .1,
+      record {
+        its = getD (q .its) (c .before .before .loop .j) noFact;
+        here = fact-there _ _ _ _ (q .its) (q .here) _ _ l
+            (c .fact-at .ensures);
+      },
+    )
 
--- src/sizes.rt:107:13
 add-j : tie.Need-add-j Inv-loop μ-loop
 add-j c = search needs
 
--- src/sizes.rt:104:5
 loop-less : tie.Need-loop-less Inv-loop μ-loop
 loop-less c = search needs
 
--- src/sizes.rt:104:5
 loop-again : tie.Need-loop-again Inv-loop μ-loop
-loop-again c = (
-  omega arith,
-  λ fs h.
-      let l : c .before .before .before .before .loop .j < length fs = omega (arith, facts-many _ _ _ _ fs h, c .before .before .before .before .before .count-of .ensures) in
-      all-more (factSmall (sizeIn (now (c .before .before .before .before .before .before .before .before .before .before .args .sizes)))) noFact fs (c .before .before .before .before .loop .j) l (sym (c .before .fact-small .ensures _ (fact-there _ _ _ _ fs h _ _ l (c .before .before .fact-at .ensures))) ∙ c .if1 .taken) (c .before .before .before .before .loop .inv .1 fs h),
-)
+loop-again c =
+    let c4 = c .before .before .before .before in
+    let c5 = c4 .before in
+    let c10 = c5 .before .before .before .before .before in (
+      omega arith,
+      λ fs h.
+          let l : c4 .loop .j < length fs = omega (arith, facts-many _ _ _ _ fs h, c5 .count-of .ensures) in
+          all-more (factSmall (sizeIn (now (c10 .args .sizes)))) noFact fs (c4 .loop .j) l
+          (sym (c .before .fact-small .ensures _ (fact-there _ _ _ _ fs h _ _ l (c .before .before .fact-at .ensures))) ∙ c .if1 .taken)
+          (c4 .loop .inv .1 fs h),
+    )
 
--- src/sizes.rt:109:13
 returns : tie.Need-returns Inv-loop μ-loop
 returns c =
+    let c4 = c .before .before .before .before in
+    let c5 = c4 .before in
+    let c10 = c5 .before .before .before .before .before in
     λ fs h.
-    let l : c .before .before .before .before .loop .j < length fs = omega (arith, facts-many _ _ _ _ fs h, c .before .before .before .before .before .count-of .ensures) in
-    all-bad (factSmall (sizeIn (now (c .before .before .before .before .before .before .before .before .before .before .args .sizes)))) noFact fs (c .before .before .before .before .loop .j) l (sym (c .before .fact-small .ensures _ (fact-there _ _ _ _ fs h _ _ l (c .before .before .fact-at .ensures))) ∙ c .if1 .left) (c .before .before .before .before .loop .inv .1 fs h)
+    let l : c4 .loop .j < length fs = omega (arith, facts-many _ _ _ _ fs h, c5 .count-of .ensures) in
+    all-bad (factSmall (sizeIn (now (c10 .args .sizes)))) noFact fs (c4 .loop .j) l
+    (sym (c .before .fact-small .ensures _ (fact-there _ _ _ _ fs h _ _ l (c .before .before .fact-at .ensures))) ∙ c .if1 .left) (c4 .loop .inv .1 fs h)
 
--- src/sizes.rt:98:1
 returns-2 : tie.Need-returns-2 Inv-loop μ-loop
 returns-2 c =
-    λ fs h. all-done (factSmall (sizeIn (now (c .before .before .before .before .before .before .before .args .sizes)))) noFact fs (c .before .loop .j) (omega (arith, facts-many _ _ _ _ fs h, c .before .before .count-of .ensures)) (c .before .loop .inv .1 fs h)
+    λ fs h. all-done (factSmall (sizeIn (now (c .before .before .before .before .before .before .before .args .sizes)))) noFact fs (c .before .loop .j)
+    (omega (arith, facts-many _ _ _ _ fs h, c .before .before .count-of .ensures)) (c .before .loop .inv .1 fs h)
 
 pub list-small-spec : {M : Type 1} → statement M
 list-small-spec =

@@ -3,23 +3,17 @@ use Rattle.steps.specs.Values.Weights.{size-in, size-out}
 use borrow.Author.Needs.{needs}
 use Rattle.steps.proofs.sizes.size_of.Statement.{statement}
 use Rattle.steps.proofs.sizes.size_of.Tie as tie
-use Rattle.steps.proofs.sizes.size_of.Reads as reads
-use Rattle.steps.proofs.sizes.size_of.Lts as lts
 
--- src/sizes.rt:24:16
 mul-result : tie.Need-mul-result
 mul-result c = search needs
 
--- src/sizes.rt:24:16
 shared-slice-read-result : tie.Need-shared-slice-read-result
 shared-slice-read-result c = search needs
 
--- src/sizes.rt:24:9
 returns : tie.Need-returns
 returns c =
     size-in (now (c .before .before .args .sizes)) (c .before .before .args .n) (c .before .if1 .taken)
 
--- src/sizes.rt:20:1
 returns-2 : tie.Need-returns-2
 returns-2 c =
     size-out (now (c .before .args .sizes)) (c .before .args .n) (c .if1 .left)

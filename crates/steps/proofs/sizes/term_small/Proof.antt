@@ -4,16 +4,14 @@ use native.Mathlib.Omega.{arith}
 use lib.Dec.{ltb}
 use lib.ListN.{length}
 use mathlib.Core.Path.{_≡_, ap, sym, _∙_, subst}
-use Prim.Native.Nat.{ℕ, _+_, _-_, _*_, _^_, _≤_, _<_}
+use Prim.Native.Nat.{ℕ, _+_, _-_, _*_, _^_, _≤_}
 use Rattle.number.specs.Reading.{got}
 use Rattle.term.specs.Reader.{term, symbolAt}
 use Rattle.term.specs.Term.{Term}
-use Rattle.steps.specs.Values.Weights.{Going, going-starts, going-ends, going-long, going-more, going-fault, weight-small, weigh, sizeIn}
+use Rattle.steps.specs.Values.Weights.{Going, going-starts, going-ends, going-long, going-more, going-fault, weight-small, sizeIn}
 use Rattle.steps.proofs.sizes.term_small.Statement.{statement}
 use Rattle.steps.proofs.sizes.term_small.Tie as tie
 use Rattle.steps.proofs.sizes.term_small.Reads as reads
-use Rattle.steps.proofs.sizes.term_small.Lts as lts
-use Rattle.steps.proofs.sizes.one_weight.Reads as one-weight-reads
 
 abbrev Inv-loop : tie.InvT-loop
 Inv-loop s arities at sizes i₀ pending₀ sum₀ i pending sum =
@@ -23,74 +21,96 @@ abbrev μ-loop : tie.MeasureT-loop
 μ-loop s arities at sizes i₀ pending₀ sum₀ i pending sum =
     length s - i
 
--- src/sizes.rt:57:5
 loop-holds : tie.Need-loop-holds Inv-loop μ-loop
 loop-holds c =
     (omega arith, λ t e h. going-starts _ _ _ t _ e h)
 
--- src/sizes.rt:59:13
 returns : tie.Need-returns Inv-loop μ-loop
 returns c =
-    λ t e h. going-long _ _ (sizeIn (now (c .before .before .before .before .before .before .args .sizes))) t _ _ _ (c .before .before .loop .inv .1 t e h) (c .if1 .taken)
+    λ t e h. going-long _ _ (sizeIn (now (c .before .before .before .before .before .before .args .sizes))) t _ _ _ (c .before .before .loop .inv .1 t e h)
+    (c .if1 .taken)
 
--- src/sizes.rt:61:15
 one-weight-requires : tie.Need-one-weight-requires Inv-loop μ-loop
 one-weight-requires c κs = search needs
 
--- src/sizes.rt:62:27
 enum-known-a : tie.Need-enum-known-a Inv-loop μ-loop
 enum-known-a c = search needs
 
--- src/sizes.rt:63:17
 add-sum : tie.Need-add-sum Inv-loop μ-loop
 add-sum c =
-    let b : _ ≤ 2 ^ 32 = weight-small (sizeIn (now (c .before .before .before .before .before .before .before .before .before .before .args .sizes))) (2 ^ 32) (omega arith) (c .before .before .before .before .before .before .before .before .before .before .pre .1) (symbolAt (now (c .before .before .before .before .before .before .before .before .before .before .args .s)) (now (c .before .before .before .before .before .before .before .before .before .before .args .arities)) (c .before .before .before .before .before .before .loop .i)) (sym (c .before .before .before .one-weight .ensures) ∙ c .before .a .given .1) in
+    let c3 = c .before .before .before in
+    let c6 = c3 .before .before .before in
+    let c10 = c6 .before .before .before .before in
+    let b : _ ≤ 2 ^ 32 = weight-small (sizeIn (now (c10 .args .sizes))) (2 ^ 32) (omega arith) (c10 .pre .1)
+    (symbolAt (now (c10 .args .s)) (now (c10 .args .arities)) (c6 .loop .i)) (sym (c3 .one-weight .ensures) ∙ c .before .a .given .1) in
     omega (arith, b)
 
--- src/sizes.rt:64:27
 sub-pending : tie.Need-sub-pending Inv-loop μ-loop
 sub-pending c = search needs
 
--- src/sizes.rt:64:41
 cast-pending : tie.Need-cast-pending Inv-loop μ-loop
 cast-pending c = search needs
 
--- src/sizes.rt:64:27
 add-pending : tie.Need-add-pending Inv-loop μ-loop
 add-pending c =
-    let q = c .before .before .before .before .before .before .before .before .before .before .pre .2 in
-    let x = going-more _ _ (λ j. c .before .before .before .before .before .before .before .before .before .shared-slice-known .given j .fits) (sizeIn (now (c .before .before .before .before .before .before .before .before .before .before .args .sizes))) (q .its) _ _ _ _ _ _ (c .before .before .before .before .before .loop-test .taken) (c .before .before .before .before .before .before .loop .inv .1 (q .its) (q .end) (q .reads)) (sym (c .before .before .before .one-weight .ensures) ∙ c .before .a .given .1) in
+    let c3 = c .before .before .before in
+    let c5 = c3 .before .before in
+    let c6 = c5 .before in
+    let c9 = c6 .before .before .before in
+    let c10 = c9 .before in
+    let q = c10 .pre .2 in
+    let x = going-more _ _ (λ j. c9 .shared-slice-known .given j .fits) (sizeIn (now (c10 .args .sizes))) (q .its) _ _ _ _ _ _ (c5 .loop-test .taken)
+    (c6 .loop .inv .1 (q .its) (q .end) (q .reads)) (sym (c3 .one-weight .ensures) ∙ c .before .a .given .1) in
     omega (arith, x .ahead, x .inside, c .known-told .given .1 .0)
 
--- src/sizes.rt:57:5
 loop-less : tie.Need-loop-less Inv-loop μ-loop
 loop-less c =
-    let q = c .before .before .before .before .before .before .before .before .before .before .pre .2 in
-    let x = going-more _ _ (λ j. c .before .before .before .before .before .before .before .before .before .shared-slice-known .given j .fits) (sizeIn (now (c .before .before .before .before .before .before .before .before .before .before .args .sizes))) (q .its) _ _ _ _ _ _ (c .before .before .before .before .before .loop-test .taken) (c .before .before .before .before .before .before .loop .inv .1 (q .its) (q .end) (q .reads)) (sym (c .before .before .before .one-weight .ensures) ∙ c .before .a .given .1) in
+    let c3 = c .before .before .before in
+    let c5 = c3 .before .before in
+    let c6 = c5 .before in
+    let c9 = c6 .before .before .before in
+    let c10 = c9 .before in
+    let q = c10 .pre .2 in
+    let x = going-more _ _ (λ j. c9 .shared-slice-known .given j .fits) (sizeIn (now (c10 .args .sizes))) (q .its) _ _ _ _ _ _ (c5 .loop-test .taken)
+    (c6 .loop .inv .1 (q .its) (q .end) (q .reads)) (sym (c3 .one-weight .ensures) ∙ c .before .a .given .1) in
     omega (arith, x .ahead, x .inside)
 
--- src/sizes.rt:57:5
 loop-again : tie.Need-loop-again Inv-loop μ-loop
 loop-again c =
-    let q = c .before .before .before .before .before .before .before .before .before .before .pre .2 in
-    let x = going-more _ _ (λ j. c .before .before .before .before .before .before .before .before .before .shared-slice-known .given j .fits) (sizeIn (now (c .before .before .before .before .before .before .before .before .before .before .args .sizes))) (q .its) _ _ _ _ _ _ (c .before .before .before .before .before .loop-test .taken) (c .before .before .before .before .before .before .loop .inv .1 (q .its) (q .end) (q .reads)) (sym (c .before .before .before .one-weight .ensures) ∙ c .before .a .given .1) in
-    (omega (arith, x .ahead, x .inside, c .known-told .given .1 .0), λ t e h. going-more _ _ (λ j. c .before .before .before .before .before .before .before .before .before .shared-slice-known .given j .fits) (sizeIn (now (c .before .before .before .before .before .before .before .before .before .before .args .sizes))) t _ _ _ _ _ _ (c .before .before .before .before .before .loop-test .taken) (c .before .before .before .before .before .before .loop .inv .1 t e h) (sym (c .before .before .before .one-weight .ensures) ∙ c .before .a .given .1) .going)
+    let c3 = c .before .before .before in
+    let c5 = c3 .before .before in
+    let c6 = c5 .before in
+    let c9 = c6 .before .before .before in
+    let c10 = c9 .before in
+    let q = c10 .pre .2 in
+    let x = going-more _ _ (λ j. c9 .shared-slice-known .given j .fits) (sizeIn (now (c10 .args .sizes))) (q .its) _ _ _ _ _ _ (c5 .loop-test .taken)
+    (c6 .loop .inv .1 (q .its) (q .end) (q .reads)) (sym (c3 .one-weight .ensures) ∙ c .before .a .given .1) in (
+      omega (arith, x .ahead, x .inside, c .known-told .given .1 .0),
+      λ t e h. going-more _ _ (λ j. c9 .shared-slice-known .given j .fits)
+          (sizeIn (now (c10 .args .sizes))) t _ _ _ _ _ _ (c5 .loop-test .taken) (c6 .loop .inv .1 t e h)
+          (sym (c3 .one-weight .ensures) ∙ c .before .a .given .1) .going,
+    )
 
--- src/sizes.rt:68:17
 enum-told : tie.Need-enum-told Inv-loop μ-loop
 enum-told c = search needs
 
--- src/sizes.rt:68:17
 returns-2 : tie.Need-returns-2 Inv-loop μ-loop
 returns-2 c =
-    λ t e h. going-fault _ _ (λ j. c .before .before .before .before .before .before .before .before .shared-slice-known .given j .fits) (sizeIn (now (c .before .before .before .before .before .before .before .before .before .args .sizes))) t _ _ _ (c .before .before .before .before .loop-test .taken) (c .before .before .before .before .before .loop .inv .1 t e h) (sym (c .before .before .one-weight .ensures) ∙ c .enum-told .given .1)
+    let c4 = c .before .before .before .before in
+    let c5 = c4 .before in
+    let c8 = c5 .before .before .before in
+    let c9 = c8 .before in
+    λ t e h. going-fault _ _ (λ j. c8 .shared-slice-known .given j .fits) (sizeIn (now (c9 .args .sizes))) t _ _ _ (c4 .loop-test .taken)
+    (c5 .loop .inv .1 t e h) (sym (c .before .before .one-weight .ensures) ∙ c .enum-told .given .1)
 
--- src/sizes.rt:50:1
 returns-3 : tie.Need-returns-3 Inv-loop μ-loop
 returns-3 c =
+    let c5 = c .before .before .before .before .before in
     λ t e h.
     let z : c .before .loop .pending ≡ 0 = omega arith in
-    ap (λ (n : ℕ). ltb n 257) (going-ends _ _ (sizeIn (now (c .before .before .before .before .before .args .sizes))) t _ _ (subst (λ (k : ℕ). Going (now (c .before .before .before .before .before .args .s)) (now (c .before .before .before .before .before .args .arities)) (sizeIn (now (c .before .before .before .before .before .args .sizes))) t (c .before .loop .sum) k (c .before .loop .i)) z (c .before .loop .inv .1 t e h)))
+    ap (λ (n : ℕ). ltb n 257) (going-ends _ _ (sizeIn (now (c5 .args .sizes))) t _ _
+    (subst (λ (k : ℕ). Going (now (c5 .args .s)) (now (c5 .args .arities)) (sizeIn (now (c5 .args .sizes))) t (c .before .loop .sum) k
+    (c .before .loop .i)) z (c .before .loop .inv .1 t e h)))
 
 pub term-small-spec : {M : Type 1} → statement M
 term-small-spec =

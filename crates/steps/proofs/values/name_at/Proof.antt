@@ -3,47 +3,39 @@ use Rattle.steps.specs.Values.Code.{tagged, other-leaf, other-op, other-
 use borrow.Author.Needs.{needs}
 use Rattle.steps.proofs.values.name_at.Statement.{statement}
 use Rattle.steps.proofs.values.name_at.Tie as tie
-use Rattle.steps.proofs.values.name_at.Reads as reads
-use Rattle.steps.proofs.values.name_at.Lts as lts
-use Rattle.term.proofs.symbol_at.Reads as symbol-at-reads
 
--- src/values.rt:30:11
 symbol-at-requires : tie.Need-symbol-at-requires
 symbol-at-requires c κs = search needs
 
--- src/values.rt:31:22
 enum-known-t : tie.Need-enum-known-t
 enum-known-t c = search needs
 
--- src/values.rt:33:17
 returns : tie.Need-returns
 returns c =
     (_, tagged 2 (sym (c .before .before .before .before .symbol-at .ensures) ∙ c .before .before .t .given .1) (c .if1 .taken))
 
--- src/values.rt:36:17
 returns-2 : tie.Need-returns-2
 returns-2 c =
-    (_, tagged 1 (sym (c .before .before .before .before .before .symbol-at .ensures) ∙ c .before .before .before .t .given .1) (c .if2 .taken))
+    let c3 = c .before .before .before in
+    let c5 = c3 .before .before in
+    (_, tagged 1 (sym (c5 .symbol-at .ensures) ∙ c3 .t .given .1) (c .if2 .taken))
 
--- src/values.rt:40:32
 enum-told : tie.Need-enum-told
 enum-told c = search needs
 
--- src/values.rt:41:26
 enum-told-2 : tie.Need-enum-told-2
 enum-told-2 c = search needs
 
--- src/values.rt:27:1
 returns-3 : tie.Need-returns-3
 returns-3 c =
-    other-leaf (sym (c .before .before .before .before .before .symbol-at .ensures) ∙ c .before .before .before .t .given .1) (c .before .if1 .left) (c .if2 .left)
+    let c3 = c .before .before .before in
+    let c5 = c3 .before .before in
+    other-leaf (sym (c5 .symbol-at .ensures) ∙ c3 .t .given .1) (c .before .if1 .left) (c .if2 .left)
 
--- src/values.rt:27:1
 returns-4 : tie.Need-returns-4
 returns-4 c =
     other-op (sym (c .before .before .symbol-at .ensures) ∙ c .enum-told .given .1)
 
--- src/values.rt:27:1
 returns-5 : tie.Need-returns-5
 returns-5 c =
     other-fault (sym (c .before .before .symbol-at .ensures) ∙ c .enum-told2 .given .1)

@@ -4,42 +4,33 @@ use Rattle.steps.specs.Values.Loops.{node-from, no-node-from}
 use borrow.Author.Needs.{needs}
 use Rattle.steps.proofs.values.node_values.Statement.{statement}
 use Rattle.steps.proofs.values.node_values.Tie as tie
-use Rattle.steps.proofs.values.node_values.Reads as reads
-use Rattle.steps.proofs.values.node_values.Lts as lts
-use Rattle.number.proofs.read_number.Reads as read-number-reads
-use Rattle.steps.proofs.values.values_of.Reads as values-of-reads
 
--- src/values.rt:164:11
 read-number-requires : tie.Need-read-number-requires
 read-number-requires c κs = search needs
 
--- src/values.rt:165:23
 enum-known-r : tie.Need-enum-known-r
 enum-known-r c = search needs
 
--- src/values.rt:165:75
 cast-values-of : tie.Need-cast-values-of
 cast-values-of c = search needs
 
--- src/values.rt:165:32
 values-of-requires : tie.Need-values-of-requires
 values-of-requires c κs =
-    let q = c .before .before .before .before .before .before .before .before .pre in
-    let (e, f) = node-from (q .2 .of) _ _ _ _ (q .2 .its) (sym (c .before .before .before .read-number .ensures) ∙ ap asRead (c .before .r .given .1)) (q .2 .here) in
+    let c3 = c .before .before .before in
+    let c8 = c3 .before .before .before .before .before in
+    let q = c8 .pre in
+    let (e, f) = node-from (q .2 .of) _ _ _ _ (q .2 .its) (sym (c3 .read-number .ensures) ∙ ap asRead (c .before .r .given .1)) (q .2 .here) in
     (q .1, record { of = q .2 .of; index = q .2 .index; its = q .2 .its; end = e; is = f; short = q .0 })
 
--- src/values.rt:166:26
 enum-told : tie.Need-enum-told
 enum-told c = search needs
 
--- src/values.rt:153:1
 returns : tie.Need-returns
 returns c =
     λ p x i h.
     let (e, f) = node-from p _ _ _ _ x (sym (c .before .before .before .before .read-number .ensures) ∙ ap asRead (c .before .before .r .given .1)) h in
     c .values-of .ensures p x e i f
 
--- src/values.rt:153:1
 returns-2 : tie.Need-returns-2
 returns-2 c =
     λ p x i h. no-node-from p _ _ x (sym (c .before .before .read-number .ensures) ∙ ap asRead (c .enum-told .given .1)) h

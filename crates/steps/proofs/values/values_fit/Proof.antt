@@ -1,21 +1,15 @@
 use borrow.Author.Needs.{needs}
-use denote.Ref.{now}
 use native.Mathlib.Omega.{arith}
 use lib.ListN.{length}
-use mathlib.Core.Path.{_≡_, ap, sym, _∙_, subst}
+use mathlib.Core.Path.{ap, sym, _∙_, subst}
 use mathlib.Core.List.{List}
 use Prim.Native.Nat.{ℕ, _+_, _-_, _≤_, _<_}
 use Rattle.term.specs.Term.{Term}
 use Rattle.protocol.specs.Protocol.{Rule}
 use Rattle.steps.specs.Values.Tests.{valueOk}
-use Rattle.steps.specs.Values.Loops.{RuleHere, Left, Turn, turn, left-all, left-bad, left-more, left-none, sort-here, count-here}
+use Rattle.steps.specs.Values.Loops.{RuleHere, Left, turn, left-all, left-bad, left-more, left-none, sort-here, count-here}
 use Rattle.steps.proofs.values.values_fit.Statement.{statement}
 use Rattle.steps.proofs.values.values_fit.Tie as tie
-use Rattle.steps.proofs.values.values_fit.Reads as reads
-use Rattle.steps.proofs.values.values_fit.Lts as lts
-use Rattle.protocol.proofs.places.sort_of.Reads as sort-of-reads
-use Rattle.steps.proofs.values.value_end.Reads as value-end-reads
-use Rattle.steps.proofs.values.value_ok.Reads as value-ok-reads
 
 abbrev Inv-loop : tie.InvT-loop
 Inv-loop s arities at src place k i₀ v₀ i v =
@@ -25,23 +19,19 @@ abbrev μ-loop : tie.MeasureT-loop
 μ-loop s arities at src place k i₀ v₀ i v =
     k - v
 
--- src/values.rt:113:5
 loop-holds : tie.Need-loop-holds Inv-loop μ-loop
 loop-holds c =
     (search needs, λ u vs e h. left-all h)
 
--- src/values.rt:114:58
 cast-sort-of : tie.Need-cast-sort-of Inv-loop μ-loop
 cast-sort-of c =
     let p = c .before .before .before .before .before .pre in
     let b : c .before .loop .v < 16 = omega (arith, count-here (p .0 .is), p .0 .is .few, p .1) in
     search needs
 
--- src/values.rt:114:13
 sort-of-requires : tie.Need-sort-of-requires Inv-loop μ-loop
 sort-of-requires c κs = search needs
 
--- src/values.rt:115:12
 value-ok-requires : tie.Need-value-ok-requires Inv-loop μ-loop
 value-ok-requires c κs =
     let p = c .before .before .before .before .before .before .pre in
@@ -49,39 +39,40 @@ value-ok-requires c κs =
     let x = turn (p .0 .is) _ _ l (c .before .before .loop .inv .1 _ _ _ (p .0 .is)) in
     record { value = x .value; end = x .next; is = x .is }
 
--- src/values.rt:116:13
 value-end-requires : tie.Need-value-end-requires Inv-loop μ-loop
 value-end-requires c κs =
     c .before .before .before .before .before .before .before .before .pre .0 .is .short
 
--- src/values.rt:117:13
 add-v : tie.Need-add-v Inv-loop μ-loop
 add-v c = search needs
 
--- src/values.rt:113:5
 loop-less : tie.Need-loop-less Inv-loop μ-loop
 loop-less c = search needs
 
--- src/values.rt:113:5
 loop-again : tie.Need-loop-again Inv-loop μ-loop
-loop-again c = (
-  omega arith,
-  λ u vs e h.
-      let l : c .before .before .before .before .before .loop .v < length (u .sorts) = omega (arith, count-here h, c .before .before .before .before .before .before .before .before .before .pre .1) in
-      let x = turn h _ _ l (c .before .before .before .before .before .loop .inv .1 u vs e h) in
-      subst (λ (j : ℕ). Left h (c .before .before .before .before .before .loop .v + 1) j) (sym (c .value-end .ensures))
-      (left-more h _ _ x (ap (λ (j : ℕ). valueOk j (x .value)) (sym (c .before .before .before .sort-of .ensures ∙ sort-here h _ l)) ∙ sym (c .before .before .value-ok .ensures (x .value) (x .next) (x .is)) ∙ c .before .if1 .taken)),
-)
+loop-again c =
+    let c3 = c .before .before .before in
+    let c5 = c3 .before .before in
+    let c9 = c5 .before .before .before .before in (
+      omega arith,
+      λ u vs e h.
+          let l : c5 .loop .v < length (u .sorts) = omega (arith, count-here h, c9 .pre .1) in
+          let x = turn h _ _ l (c5 .loop .inv .1 u vs e h) in
+          subst (λ (j : ℕ). Left h (c5 .loop .v + 1) j) (sym (c .value-end .ensures))
+          (left-more h _ _ x (ap (λ (j : ℕ). valueOk j (x .value)) (sym (c3 .sort-of .ensures ∙ sort-here h _ l)) ∙ sym
+          (c .before .before .value-ok .ensures (x .value) (x .next) (x .is)) ∙ c .before .if1 .taken)),
+    )
 
--- src/values.rt:119:13
 returns : tie.Need-returns Inv-loop μ-loop
 returns c =
+    let c4 = c .before .before .before .before in
+    let c8 = c4 .before .before .before .before in
     λ u vs e h.
-    let l : c .before .before .before .before .loop .v < length (u .sorts) = omega (arith, count-here h, c .before .before .before .before .before .before .before .before .pre .1) in
-    let x = turn h _ _ l (c .before .before .before .before .loop .inv .1 u vs e h) in
-    left-bad h _ _ x (ap (λ (j : ℕ). valueOk j (x .value)) (sym (c .before .before .sort-of .ensures ∙ sort-here h _ l)) ∙ sym (c .before .value-ok .ensures (x .value) (x .next) (x .is)) ∙ c .if1 .left)
+    let l : c4 .loop .v < length (u .sorts) = omega (arith, count-here h, c8 .pre .1) in
+    let x = turn h _ _ l (c4 .loop .inv .1 u vs e h) in
+    left-bad h _ _ x (ap (λ (j : ℕ). valueOk j (x .value)) (sym (c .before .before .sort-of .ensures ∙ sort-here h _ l)) ∙ sym
+    (c .before .value-ok .ensures (x .value) (x .next) (x .is)) ∙ c .if1 .left)
 
--- src/values.rt:107:1
 returns-2 : tie.Need-returns-2 Inv-loop μ-loop
 returns-2 c =
     λ u vs e h. left-none h _ _ (omega (arith, count-here h, c .before .before .before .before .before .pre .1)) (c .before .loop .inv .1 u vs e h)

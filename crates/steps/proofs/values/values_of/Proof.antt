@@ -3,49 +3,56 @@ use Rattle.steps.specs.Nodes.Code.{part-fits, part-rule}
 use borrow.Author.Needs.{needs}
 use Rattle.steps.proofs.values.values_of.Statement.{statement}
 use Rattle.steps.proofs.values.values_of.Tie as tie
-use Rattle.steps.proofs.values.values_of.Reads as reads
-use Rattle.steps.proofs.values.values_of.Lts as lts
-use Rattle.rules.proofs.numbered.find_rule.Reads as find-rule-reads
-use Rattle.rules.proofs.numbered.rule_part.Reads as rule-part-reads
-use Rattle.steps.proofs.nodes.own_variables.Reads as own-variables-reads
-use Rattle.steps.proofs.values.values_fit.Reads as values-fit-reads
 
--- src/values.rt:134:72
 slice-aggregate-find-rule : tie.Need-slice-aggregate-find-rule
 slice-aggregate-find-rule c = search needs
 
--- src/values.rt:134:9
 find-rule-requires : tie.Need-find-rule-requires
 find-rule-requires c κs =
     (c .before .before .before .before .before .pre .0 .slots-many, search needs, search needs)
 
--- src/values.rt:135:52
 slice-aggregate-rule-part : tie.Need-slice-aggregate-rule-part
 slice-aggregate-rule-part c = search needs
 
--- src/values.rt:135:9
 rule-part-requires : tie.Need-rule-part-requires
 rule-part-requires c κs =
-    part-fits (c .before .before .before .before .before .before .before .before .pre .0 .index) (c .before .before .before .before .before .before .before .before .args .number) (c .before .before .find-rule .result) (c .before .before .find-rule .last .1 .1 .1 .1 .0) (c .before .before .find-rule .ensures) (λ k. c .before .before .before .before .before .before .shared-slice-known2 .given k .fits)
+    let c6 = c .before .before .before .before .before .before in
+    let c8 = c6 .before .before in
+    part-fits (c8 .pre .0 .index) (c8 .args .number) (c .before .before .find-rule .result) (c .before .before .find-rule .last .1 .1 .1 .1 .0)
+    (c .before .before .find-rule .ensures) (λ k. c6 .shared-slice-known2 .given k .fits)
 
--- src/values.rt:136:9
 own-variables-requires : tie.Need-own-variables-requires
 own-variables-requires c κs = search needs
 
--- src/values.rt:137:5
 values-fit-requires : tie.Need-values-fit-requires
 values-fit-requires c κs =
-    let f = c .before .before .before .before .before .before .before .before .before .before .pre .1 in
-    let (u, is) = from-rule (f .of) _ _ _ (f .its) (f .end) (f .is) in
-    (record { its = u; its-values = f .its .values; end = f .end; is = rule-here (f .index) _ (f .short) _ _ (f .its) (f .end) (f .is) u is _ _ _ (part-rule (f .index) (c .before .before .before .before .before .before .before .before .before .before .args .number) (c .before .before .before .before .find-rule .result) (c .before .before .before .before .find-rule .last .1 .1 .1 .1 .0) (c .before .before .before .before .find-rule .ensures) _ (c .before .rule-part .ensures) (λ k. c .before .before .before .before .before .before .before .before .shared-slice-known2 .given k .fits) (c .own-variables .ensures .1) u is) }, c .own-variables .ensures .0)
+    let c4 = c .before .before .before .before in
+    let c8 = c4 .before .before .before .before in
+    let c10 = c8 .before .before in
+    let f = c10 .pre .1 in
+    let (u, is) = from-rule (f .of) _ _ _ (f .its) (f .end) (f .is) in (
+      record {
+        its = u;
+        its-values = f .its .values;
+        end = f .end;
+        is = rule-here (f .index) _ (f .short) _ _ (f .its) (f .end) (f .is) u is _ _ _
+            (part-rule (f .index) (c10 .args .number) (c4 .find-rule .result) (c4 .find-rule .last .1 .1 .1 .1 .0) (c4 .find-rule .ensures) _
+            (c .before .rule-part .ensures) (λ k. c8 .shared-slice-known2 .given k .fits) (c .own-variables .ensures .1) u is);
+      },
+      c .own-variables .ensures .0,
+    )
 
--- src/values.rt:121:1
 returns : tie.Need-returns
 returns c =
+    let c5 = c .before .before .before .before .before in
+    let c9 = c5 .before .before .before .before in
+    let c11 = c9 .before .before in
     λ p x e i f.
     let (u, is) = from-rule p _ _ _ x e f in
-    let z = c .before .before .before .before .before .before .before .before .before .before .before .pre .1 .short in
-    values-test i _ z _ _ x e f u is _ (c .values-fit .ensures u (x .values) e (rule-here i _ z _ _ x e f u is _ _ _ (part-rule i (c .before .before .before .before .before .before .before .before .before .before .before .args .number) (c .before .before .before .before .before .find-rule .result) (c .before .before .before .before .before .find-rule .last .1 .1 .1 .1 .0) (c .before .before .before .before .before .find-rule .ensures) _ (c .before .before .rule-part .ensures) (λ k. c .before .before .before .before .before .before .before .before .before .shared-slice-known2 .given k .fits) (c .before .own-variables .ensures .1) u is)))
+    let z = c11 .pre .1 .short in
+    values-test i _ z _ _ x e f u is _ (c .values-fit .ensures u (x .values) e (rule-here i _ z _ _ x e f u is _ _ _
+    (part-rule i (c11 .args .number) (c5 .find-rule .result) (c5 .find-rule .last .1 .1 .1 .1 .0) (c5 .find-rule .ensures) _
+    (c .before .before .rule-part .ensures) (λ k. c9 .shared-slice-known2 .given k .fits) (c .before .own-variables .ensures .1) u is)))
 
 pub values-of-spec : {M : Type 1} → statement M
 values-of-spec =
