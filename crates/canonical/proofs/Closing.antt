@@ -6,7 +6,7 @@ use mathlib.Core.Logic.{_≢_}
 use mathlib.Core.Bool.{Bool, true, false}
 use mathlib.Core.Option.{some}
 use native.Mathlib.Omega.{arith}
-use Rattle.octets.specs.Choice.{clash}
+use Rattle.lists.specs.Choice.{clash}
 use Rattle.octets.specs.Splice.Prefix.{Wrote}
 use Rattle.term.specs.Term.{Term, app, Terms, nil, _&_, count, encode}
 use Rattle.term.specs.Arity.{arity}

@@ -6,7 +6,7 @@ use mathlib.Core.Logic.{_≢_, inl, inr}
 use mathlib.Core.Bool.{Bool, true, false}
 use native.Mathlib.Omega.{arith}
 use lib.ListN.{length, drop, length-append}
-use Rattle.octets.specs.Choice.{clash}
+use Rattle.lists.specs.Choice.{clash}
 use Rattle.octets.specs.Head.{stands-at, stands-within, behind}
 use Rattle.octets.specs.Splice.Prefix.{Wrote, widen, wrote-nothing, wrote-then}
 use Rattle.number.specs.Groups.{groups}

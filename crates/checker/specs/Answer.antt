@@ -3,7 +3,7 @@ use Prim.Native.Nat.{ℕ, _+_, _*_, _^_}
 use mathlib.Core.List.{List}
 use lib.ListN.{length, replicate}
 use lib.Dec.{eqb}
-use Rattle.octets.specs.Choice.{pick}
+use Rattle.lists.specs.Choice.{pick}
 use Rattle.octets.specs.Splice.{splice}
 use Rattle.rewriting.specs.Table.{Ruling, passed, refused}
 use Rattle.checker.specs.declared.Written.{Written}

@@ -5,7 +5,7 @@ use mathlib.Core.Bool.{not, _&&_}
 use mathlib.Core.Path.{_≡_}
 use lib.ListN.{length}
 use lib.Dec.{eqb}
-use Rattle.octets.specs.Choice.{pick}
+use Rattle.lists.specs.Choice.{pick}
 use Rattle.number.specs.Groups.{numberLimit}
 use Rattle.number.specs.Reading.{Read, got, fault}
 use Rattle.number.specs.Reading as reading

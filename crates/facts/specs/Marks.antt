@@ -8,7 +8,7 @@ use lib.ListN.{length, getD, drop, drop-of-length-le, take, length-map}
 use lib.Seq.{drop-cons}
 use lib.Dec.{eqb}
 use borrow.Author.Tests.{eqb-true}
-use Rattle.rewriting.specs.Tests.{and-split}
+use Rattle.lists.specs.Tests.{and-split}
 use Rattle.protocol.specs.Protocol.{Fact, Protocol, Own}
 use Rattle.protocol.specs.Protocol.Limits.{Within}
 use Rattle.steps.specs.Facts.{sameFact, sameTerms}

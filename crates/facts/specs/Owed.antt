@@ -12,7 +12,7 @@ use Rattle.steps.specs.Nodes.Code.{noNode, index-within}
 use Rattle.steps.specs.declared.ruling.Judged.{Judged}
 use Rattle.steps.specs.declared.ruling.Judged.the-variants as jd
 use Rattle.steps.specs.Index.{IndexOf, Given}
-use Rattle.steps.specs.Lists.{all-inside}
+use Rattle.lists.specs.All.Laws.{all-inside}
 use Rattle.steps.specs.Facts.{factsOf}
 use Rattle.steps.specs.Facts.Formed.{FactFormed}
 use Rattle.steps.specs.Values.{NodeRight}

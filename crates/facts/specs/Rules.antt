@@ -5,14 +5,14 @@ use mathlib.Core.Option.{some}
 use mathlib.Core.Path.{_≡_, ap, _∙_}
 use native.Mathlib.Omega.{arith}
 use lib.ListN.{length, getD, length-map, List·getD-eq-default}
-use Rattle.octets.specs.Choice.{by-size}
+use Rattle.lists.specs.Choice.{by-size}
 use Rattle.number.specs.Reading.{got, readNumber, below}
 use Rattle.protocol.specs.Protocol.{Fact, Rule, Protocol, part, noFact, fact, rule}
 use Rattle.protocol.specs.Places.{Here, listPlace, factPlace, valueOf}
 use Rattle.protocol.specs.Places.Laws.{symbol-law}
 use Rattle.rules.specs.Numbered.{ruleOf}
 use Rattle.steps.specs.Nodes.{Node, node}
-use Rattle.steps.specs.Lists.{map-at}
+use Rattle.lists.specs.All.Laws.{map-at}
 use Rattle.steps.specs.Facts.{filledFact, filledPart, factsOf}
 use Rattle.steps.specs.Values.Loops.{node-from, from-rule}
 use Rattle.steps.specs.Values.Parts.{list-there, facts-many, fact-there, lists-many}

@@ -3,7 +3,8 @@ use Prim.Native.Nat.{ℕ, _+_, _≤_, _<_}
 use mathlib.Core.List.{List, [], _∷_}
 use lib.ListN.{length, getD}
 use Rattle.octets.specs.Splice.Prefix.{Wrote}
-use Rattle.number.specs.Layout.{flat, All}
+use Rattle.number.specs.Layout.{flat}
+use Rattle.lists.specs.All.{All}
 use Rattle.term.specs.Term.{Term, encode, symbols}
 use Rattle.term.specs.Reader.{terms}
 use Rattle.message.specs.Substitution.{sub, Occurss}

@@ -2,7 +2,7 @@
 -- and an exponent of zero stays until the product is written, where it drops out.
 use mathlib.Core.Bool.{Bool, true, false, not}
 use lib.IntN.{ℤ, pos, negsuc, _+ℤ_}
-use Rattle.octets.specs.Choice.{pick}
+use Rattle.lists.specs.Choice.{pick}
 use Rattle.octets.specs.declared.Order.{Order}
 use Rattle.octets.specs.declared.Order.the-variants.{Less, Equal, Greater}
 use Rattle.term.specs.Term.{Term, leaf, app, Terms, nil, _&_}

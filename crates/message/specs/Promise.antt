@@ -7,7 +7,7 @@ use mathlib.Core.Bool.{Bool, true}
 use mathlib.Core.List.{List, [], _∷_}
 use mathlib.Core.Option.{Option, some}
 use lib.ListN.{length}
-use Rattle.octets.specs.Choice.{clash}
+use Rattle.lists.specs.Choice.{clash}
 use Rattle.octets.specs.Compare.{compareBytes, isEqual}
 use Rattle.octets.specs.Compare.Laws.{compare-refl, compare-same}
 use Rattle.octets.specs.declared.Order.{Order}

@@ -2,7 +2,7 @@
 use Prim.Native.Nat.{ℕ}
 use mathlib.Core.Option.{Option, some}
 use lib.Dec.{eqb}
-use Rattle.octets.specs.Choice.{pick}
+use Rattle.lists.specs.Choice.{pick}
 use Rattle.term.specs.Term.{variable, Term, leaf, Terms, nil, _&_}
 use Rattle.message.specs.Functions.{enc, pair}
 use Rattle.message.specs.Rules.{Rule}

@@ -19,10 +19,6 @@ module _ {A : Type 0} where
   abbrev pub listed : (A → List ℕ) → List A → List ℕ
   listed code xs = groups (length xs) ++ flat code xs
 
-  abbrev pub All : (A → Type 0) → List A → Type 0
-  All Good [] = Unit {0}
-  All Good (x ∷ xs) = Good x × All Good xs
-
   -- exact in both directions
   pub record Exact (s : List ℕ) (p : ℕ → Read A) (Good : A → Type 0) (code : A → List ℕ) : Type 0 where
     -- what is good reads back from its bytes

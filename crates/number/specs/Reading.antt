@@ -2,10 +2,10 @@
 -- that many. Every file of document 01 is a reader made of these.
 use Prim.Native.Nat.{ℕ, zero, suc, _+_, _-_, _*_}
 use mathlib.Core.List.{List, [], _∷_}
-use mathlib.Core.Bool.{Bool, false, _||_}
+use mathlib.Core.Bool.{Bool}
 use lib.ListN.{length, getD}
 use lib.Dec.{ltb, eqb}
-use Rattle.octets.specs.Choice.{pick}
+use Rattle.lists.specs.Choice.{pick}
 use Rattle.number.specs.Groups.{mostGroups}
 use Rattle.number.specs.declared.Number.{Number}
 use Rattle.number.specs.declared.Number.the-variants as num
@@ -57,11 +57,6 @@ module _ {A : Type 0} where
   -- a count, `limit` at most, and that many
   unfoldable pub counted : List ℕ → ℕ → (ℕ → Read A) → ℕ → Read (List A)
   counted s limit p at = andThen (below s (limit + 1) at) (λ n e. many p n e)
-
-  -- whether a test holds of one of them
-  abbrev pub any : (A → Bool) → List A → Bool
-  any q [] = false
-  any q (x ∷ xs) = q x || any q xs
 
   -- ── what code answers of a reading ──
   -- the place behind it, and a test of what was read

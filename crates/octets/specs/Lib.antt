@@ -1,7 +1,5 @@
 -- Lists of bytes: no meaning, only lists.
 
--- a value by a test, and what a definition by tests says of its value
-pub mod Choice
 -- what stands at a place of a list
 pub mod Head
 -- a list with some of its elements replaced; its laws; the prefix form of a write

@@ -1,7 +1,7 @@
 -- Where the base of an exp begins: "the base of an exp is no exp", so that of an exp in an exp is the inner one's.
 use Prim.Native.Nat.{ℕ}
 use lib.Dec.{eqb}
-use Rattle.octets.specs.Choice.{pick}
+use Rattle.lists.specs.Choice.{pick}
 use Rattle.term.specs.declared.Symbol.{Symbol}
 use Rattle.term.specs.declared.Symbol.the-variants as sy
 use Rattle.product.specs.declared.Base.{Base}

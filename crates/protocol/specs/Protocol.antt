@@ -4,9 +4,10 @@ use mathlib.Core.List.{List, [], _∷_, _++_, map}
 use mathlib.Core.Bool.{Bool, not}
 use lib.ListN.{length, getD}
 use lib.Dec.{ltb, eqb}
-use Rattle.octets.specs.Choice.{pick}
+use Rattle.lists.specs.Choice.{pick}
 use Rattle.number.specs.Groups.{groups, numberLimit}
-use Rattle.number.specs.Reading.{Read, got, fault, andThen, below, many, counted, any}
+use Rattle.number.specs.Reading.{Read, got, fault, andThen, below, many, counted}
+use Rattle.lists.specs.Lists.{anyBy}
 use Rattle.number.specs.Layout.{flat, listed}
 use Rattle.term.specs.Term.{Term, encode, symbols}
 use Rattle.term.specs.Arity.{slots}
@@ -109,11 +110,11 @@ encodeProtocol p = listed groups (p .functions) ++ (listed encodeOwn (p .symbols
 -- ── reading ──
 -- a leaf of a kind, its number from lo on and below hi, stands in one of a fact's terms
 abbrev pub leafIn : ℕ → ℕ → ℕ → Fact → Bool
-leafIn kind lo hi f = any (λ t. holds t kind lo hi) (f .terms)
+leafIn kind lo hi f = anyBy (λ t. holds t kind lo hi) (f .terms)
 
 -- every variable of a rule is declared: none from the rule's count on
 abbrev pub declared : Rule → Bool
-declared r = not (any (any (leafIn 0 (length (r .sorts)) numberLimit)) (r .parts))
+declared r = not (anyBy (anyBy (leafIn 0 (length (r .sorts)) numberLimit)) (r .parts))
 
 -- "a rule's term has at most 64 symbols"
 unfoldable pub ruleTerm : List ℕ → List ℕ → ℕ → Read Term

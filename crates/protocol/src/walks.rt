@@ -3,7 +3,8 @@ ghost use mathlib.Core.Path.{_≡_};
 ghost use Prim.Native.Nat.{_^_, _≤_, _<_, _+_};
 ghost use lib.ListN.{length};
 ghost use Rattle.number.specs.Groups.{numberLimit};
-ghost use Rattle.number.specs.Reading.{many, asRead, seen, any};
+ghost use Rattle.number.specs.Reading.{many, asRead, seen};
+ghost use Rattle.lists.specs.Lists.{anyBy};
 ghost use Rattle.protocol.specs.Protocol.{ruleTerm, fact, facts, layout, rule};
 ghost use Rattle.protocol.specs.Protocol.Walks.{leafAt, asks, ruleAsks, factFrom, sortsFrom, sortsAt, ended, closed};
 use number::Number;
@@ -37,7 +38,7 @@ pub fn rule_terms(
     hi: usize,
 ) -> Seen
     requires { ⌜ length (now s) ≤ 2 ^ 32 ⌝ }
-    ensures { λ r. ⌜ r ≡ seen (any (leafAt kind lo hi)) (many (ruleTerm (now (s .entry)) (now (arities .entry))) n at) ⌝ }
+    ensures { λ r. ⌜ r ≡ seen (anyBy (leafAt kind lo hi)) (many (ruleTerm (now (s .entry)) (now (arities .entry))) n at) ⌝ }
 {
     let mut i = at;
     let mut j: usize = 0;
@@ -113,7 +114,7 @@ pub fn some_facts(
     hi: usize,
 ) -> Seen
     requires { ⌜ length (now s) ≤ 2 ^ 32 ⌝ }
-    ensures { λ r. ⌜ r ≡ seen (any (asks kind lo hi)) (many (fact (now (s .entry)) (now (arities .entry)) (now (ars .entry))) n at) ⌝ }
+    ensures { λ r. ⌜ r ≡ seen (anyBy (asks kind lo hi)) (many (fact (now (s .entry)) (now (arities .entry)) (now (ars .entry))) n at) ⌝ }
 {
     let mut i = at;
     let mut j: usize = 0;
@@ -144,7 +145,7 @@ pub fn one_part(
     hi: usize,
 ) -> Seen
     requires { ⌜ length (now s) ≤ 2 ^ 32 ⌝ }
-    ensures { λ r. ⌜ r ≡ seen (any (asks kind lo hi)) (facts (now (s .entry)) (now (arities .entry)) (now (ars .entry)) at) ⌝ }
+    ensures { λ r. ⌜ r ≡ seen (anyBy (asks kind lo hi)) (facts (now (s .entry)) (now (arities .entry)) (now (ars .entry)) at) ⌝ }
 {
     match number::below(s, at, 9) {
         Number::Value(n, e) => some_facts(s, arities, ars, e, n as usize, kind, lo, hi),
@@ -164,7 +165,7 @@ pub fn some_parts(
     hi: usize,
 ) -> Seen
     requires { ⌜ length (now s) ≤ 2 ^ 32 ⌝ }
-    ensures { λ r. ⌜ r ≡ seen (any (any (asks kind lo hi))) (many (facts (now (s .entry)) (now (arities .entry)) (now (ars .entry))) n at) ⌝ }
+    ensures { λ r. ⌜ r ≡ seen (anyBy (anyBy (asks kind lo hi))) (many (facts (now (s .entry)) (now (arities .entry)) (now (ars .entry))) n at) ⌝ }
 {
     let mut i = at;
     let mut j: usize = 0;
@@ -236,7 +237,7 @@ pub fn one_layout(
 // The three lists of a rule of n variables: no variable from n on stands in them.
 fn closed_parts(s: &[u8], arities: &[u8], ars: &[u8], at: usize, n: usize) -> Seen
     requires { ⌜ length (now s) ≤ 2 ^ 32 ⌝ }
-    ensures { λ r. ⌜ r ≡ closed (seen (any (any (asks 0 n numberLimit))) (many (facts (now (s .entry)) (now (arities .entry)) (now (ars .entry))) 3 at)) ⌝ }
+    ensures { λ r. ⌜ r ≡ closed (seen (anyBy (anyBy (asks 0 n numberLimit))) (many (facts (now (s .entry)) (now (arities .entry)) (now (ars .entry))) 3 at)) ⌝ }
 {
     match some_parts(s, arities, ars, at, 3, 0, n, number::NUMBER_LIMIT) {
         Seen::End(e, h) => {

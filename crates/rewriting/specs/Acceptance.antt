@@ -6,8 +6,8 @@ use mathlib.Core.List.{List}
 use mathlib.Core.Option.{Option·none-ne-some, Option·some-injective}
 use native.Mathlib.Omega.{arith}
 use lib.Dec.{leb, eqb}
-use Rattle.rewriting.specs.Tests.{by-bool, by-option, true-false, eqb-eq, leb-le, leb-gt}
-use Rattle.rewriting.specs.Lists.Laws.{mem-nth, nth-mem}
+use Rattle.lists.specs.Tests.{by-bool, by-option, true-false, eqb-eq, leb-le, leb-gt}
+use Rattle.lists.specs.Lists.Laws.{mem-nth, nth-mem}
 use Rattle.rewriting.specs.Facts.{Facts}
 use Rattle.rewriting.specs.Graph.{Node, Edge, into, outOf, premiseAt, conclusionAt, Accepted}
 use Rattle.rewriting.specs.Table.{Ruling, passed, Absent, Ruled}

@@ -5,7 +5,7 @@ use mathlib.Core.Bool.{true, false}
 use mathlib.Core.List.{List, [], _∷_}
 use mathlib.Core.Option.{none, some}
 use Prim.Native.Nat.{ℕ, _≤_}
-use Rattle.rewriting.specs.Lists.{_∈_, nth, before}
+use Rattle.lists.specs.Lists.{_∈_, nth, before}
 use Rattle.rewriting.specs.Facts.{Facts}
 use Rattle.rewriting.specs.Graph.{Node, Edge, into, outOf, namesOf, premiseAt, conclusionAt}
 use Rattle.rewriting.specs.Machine.{State, ran, lacks, run}

@@ -4,7 +4,7 @@ use mathlib.Core.List.{List}
 use mathlib.Core.Option.{Option, none, some}
 use Prim.Native.Nat.{ℕ}
 use lib.Dec.{leb, ltb, eqb}
-use Rattle.rewriting.specs.Lists.{allBy, firstBad}
+use Rattle.lists.specs.Lists.{allBy, firstBad}
 use Rattle.rewriting.specs.Facts.{Facts}
 use Rattle.rewriting.specs.Graph.{Node, Edge, into, outOf, premiseAt, conclusionAt}
 use Rattle.rewriting.specs.Table.{Ruling, passed, orRefuse}

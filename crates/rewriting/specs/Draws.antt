@@ -7,9 +7,9 @@ use mathlib.Core.List.{List·Memᴰ·tail, List·Memᴰ·not-nil, List·Memᴰ·
 use mathlib.Core.Option.{Option, none, some, Option·some-injective}
 use Prim.Native.Nat.{ℕ, suc, _+_, _≤_, _<_}
 use native.Mathlib.Omega.{arith}
-use Rattle.rewriting.specs.Tests.{by-bool, by-option, true-false, not-true}
-use Rattle.rewriting.specs.Lists.{_∈_, bit, firstBy}
-use Rattle.rewriting.specs.Lists.Laws.{count-append, count-mem, count-remove, first-mem, first-passes, remove-mem}
+use Rattle.lists.specs.Tests.{by-bool, by-option, true-false, not-true}
+use Rattle.lists.specs.Lists.{_∈_, bit, firstBy}
+use Rattle.lists.specs.Lists.Laws.{count-append, count-mem, count-remove, first-mem, first-passes, remove-mem}
 use Rattle.rewriting.specs.Facts.{Facts}
 use Rattle.rewriting.specs.Graph.{Node, Place, Edge, samePlace, into, outOf, NamesOnce, premiseAt, conclusionAt, Joins, Accepted}
 use Rattle.rewriting.specs.Machine.{State, start, Outcome, ran, failed, lacks, after, runFrom, run, IsRun}

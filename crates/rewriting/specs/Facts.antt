@@ -3,7 +3,7 @@ use mathlib.Core.Path.{_≡_}
 use mathlib.Core.Bool.{Bool, true, not}
 use mathlib.Core.List.{List}
 use Prim.Native.Nat.{ℕ}
-use Rattle.rewriting.specs.Lists.{countBy, keepBy}
+use Rattle.lists.specs.Lists.{countBy, keepBy}
 -- What holds of `same`, `linear` and `count`.
 pub mod Laws
 

@@ -5,7 +5,7 @@ use mathlib.Core.List.{List, [], _∷_, _++_}
 use mathlib.Core.Option.{Option, none, some}
 use Prim.Native.Nat.{ℕ, _≤_, _<_}
 use lib.Dec.{eqb}
-use Rattle.rewriting.specs.Lists.{_∈_, countBy, nth}
+use Rattle.lists.specs.Lists.{_∈_, countBy, nth}
 use Rattle.rewriting.specs.Facts.{Facts}
 
 -- A node: "A node's facts are its rule's, with the node's values in place of the variables", and the name that it makes

@@ -1,8 +1,5 @@
 -- The theory of runs, dependency graphs and refusals. It knows no bytes and no messages.
 
--- Lists counted and searched by a Boolean test, and Booleans case by case.
-pub mod Tests
-pub mod Lists
 -- The facts, as one record.
 pub mod Facts
 -- Nodes, places, edges, and what an accepted graph is.

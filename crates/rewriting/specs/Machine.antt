@@ -5,7 +5,7 @@ use mathlib.Core.List.{List, [], _∷_, _++_}
 use mathlib.Core.Option.{Option, none, some}
 use Prim.Native.Nat.{ℕ, suc, _+_, _-_}
 use lib.Dec.{ltb, leb, eqb}
-use Rattle.rewriting.specs.Lists.{countBy, anyBy}
+use Rattle.lists.specs.Lists.{countBy, anyBy}
 use Rattle.rewriting.specs.Facts.{Facts, count, linears, persistents}
 use Rattle.rewriting.specs.Graph.{Node, nameOf}
 -- What the machine's test means in counts, where it stops, and what it leaves.

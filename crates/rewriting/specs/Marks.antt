@@ -6,9 +6,9 @@ use mathlib.Core.List.{List, [], _∷_, _++_, append-assoc, List·Memᴰ·not-ni
 use mathlib.Core.Option.{some, Option·some-injective}
 use Prim.Native.Nat.{ℕ, suc, _≤_, _<_}
 use native.Mathlib.Omega.{arith}
-use Rattle.rewriting.specs.Tests.{by-bool, by-option, true-false, not-true}
-use Rattle.rewriting.specs.Lists.{_∈_, bit, firstBy, removeBy, keepBy}
-use Rattle.rewriting.specs.Lists.Laws.{count-mem, count-append, first-mem, first-keep, keep-ext, keep-all, keep-append, remove-none}
+use Rattle.lists.specs.Tests.{by-bool, by-option, true-false, not-true}
+use Rattle.lists.specs.Lists.{_∈_, bit, firstBy, removeBy, keepBy}
+use Rattle.lists.specs.Lists.Laws.{count-mem, count-append, first-mem, first-keep, keep-ext, keep-all, keep-append, remove-none}
 use Rattle.rewriting.specs.Facts.{Facts}
 use Rattle.rewriting.specs.Graph.{Node, Place, samePlace}
 use Rattle.rewriting.specs.Table.{orRefuse}

@@ -6,10 +6,9 @@ use mathlib.Core.Option.{Option, none, some, Option·some-ne-none}
 use Prim.Native.Nat.{ℕ, suc, _≤_}
 use native.Mathlib.Omega.{arith}
 use lib.Dec.{eqb}
-use Rattle.rewriting.specs.Tests.{by-bool, by-option, true-false, or-split, eqb-self, eqb-eq, leb-le}
-use Rattle.rewriting.specs.Tests.{leb-gt, le-leb, gt-leb, bit-le, bit-true, at-most-one}
-use Rattle.rewriting.specs.Lists.{bit, countBy, nth, before, leaves}
-use Rattle.rewriting.specs.Lists.Laws.{count-append, count-pos, count-mem}
+use Rattle.lists.specs.Tests.{by-bool, by-option, true-false, or-split, eqb-self, eqb-eq, leb-le, leb-gt, le-leb, gt-leb, bit-le, bit-true, at-most-one}
+use Rattle.lists.specs.Lists.{bit, countBy, nth, before, leaves}
+use Rattle.lists.specs.Lists.Laws.{count-append, count-pos, count-mem}
 use Rattle.rewriting.specs.Facts.{Facts}
 use Rattle.rewriting.specs.Graph.{Node, nameOf, namesOf, NamesOnce}
 use Rattle.rewriting.specs.Machine.{State, start, ran, madeAlready, lacks, fails, after, runFrom, IsRun}

@@ -1,7 +1,7 @@
 -- The facts of a list of nodes, each with its place: the one list that runs and graphs are counted over.
 use mathlib.Core.List.{List, [], _∷_, _++_}
 use Prim.Native.Nat.{ℕ, suc}
-use Rattle.rewriting.specs.Lists.{countBy}
+use Rattle.lists.specs.Lists.{countBy}
 use Rattle.rewriting.specs.Facts.{Facts}
 use Rattle.rewriting.specs.Graph.{Node, Place, samePlace}
 -- The placed facts are just the facts at the places, each once.

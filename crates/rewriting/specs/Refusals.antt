@@ -7,9 +7,9 @@ use mathlib.Core.Option.{Option, none, some, Option·none-ne-some}
 use Prim.Native.Nat.{ℕ, suc}
 use native.Mathlib.Omega.{arith}
 use lib.Dec.{leb, ltb}
-use Rattle.rewriting.specs.Tests.{by-bool, by-option, true-false, not-true, eqb-eq, leb-gt, gt-leb}
-use Rattle.rewriting.specs.Lists.{allBy, nth}
-use Rattle.rewriting.specs.Lists.Laws.{all-fails, fails-all}
+use Rattle.lists.specs.Tests.{by-bool, by-option, true-false, not-true, eqb-eq, leb-gt, gt-leb}
+use Rattle.lists.specs.Lists.{allBy, nth}
+use Rattle.lists.specs.Lists.Laws.{all-fails, fails-all}
 use Rattle.rewriting.specs.Facts.{Facts}
 use Rattle.rewriting.specs.Graph.{Node, Edge, inNode, factAt, outOf, premiseAt, conclusionAt}
 use Rattle.rewriting.specs.Table.{Fails, Pass}

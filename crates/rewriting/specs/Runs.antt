@@ -7,10 +7,10 @@ use mathlib.Core.Option.{some, Option·some-injective}
 use Prim.Native.Nat.{ℕ, suc, _+_, _≤_, _<_}
 use native.Mathlib.Omega.{arith}
 use lib.Dec.{leb}
-use Rattle.rewriting.specs.Tests.{and-split, and-both, le-leb, leb-sum}
-use Rattle.rewriting.specs.Lists.{_∈_, countBy, anyBy}
-use Rattle.rewriting.specs.Lists.Laws.{count-append, count-pos, count-mem, any-mem, any-pos}
-use Rattle.rewriting.specs.Lists.Pairing.{covers, packs}
+use Rattle.lists.specs.Tests.{and-split, and-both, le-leb, leb-sum}
+use Rattle.lists.specs.Lists.{_∈_, countBy, anyBy}
+use Rattle.lists.specs.Lists.Laws.{count-append, count-pos, count-mem, any-mem, any-pos}
+use Rattle.lists.specs.Lists.Pairing.{covers, packs}
 use Rattle.rewriting.specs.Facts.{Facts, count}
 use Rattle.rewriting.specs.Graph.{Node, Place, Edge, samePlace, nameOf, namesOf, premiseAt, conclusionAt, Accepted}
 use Rattle.rewriting.specs.Machine.{State, start, ran, madeAlready, after, runFrom, IsRun}

@@ -5,7 +5,7 @@ use mathlib.Core.Option.{none, some}
 use Prim.Native.Nat.{ℕ, _<_}
 use lib.Dec.{eqb, ltb}
 use lib.ListN.{length}
-use Rattle.rewriting.specs.Tests.{eqb-eq, eqb-self}
+use Rattle.lists.specs.Tests.{eqb-eq, eqb-self}
 use Rattle.rewriting.specs.Facts.{Facts}
 use Rattle.rewriting.specs.Graph.{Node, Edge, Accepted}
 use Rattle.rewriting.specs.Machine.{failed, run, IsRun}

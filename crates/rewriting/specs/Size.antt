@@ -5,9 +5,9 @@ use mathlib.Core.List.{List, [], _∷_}
 use Prim.Native.Nat.{ℕ, suc, _+_}
 use native.Mathlib.Omega.{arith}
 use lib.ListN.{length, length-append}
-use Rattle.rewriting.specs.Lists.{_∈_, countBy}
-use Rattle.rewriting.specs.Lists.Laws.{count-all}
-use Rattle.rewriting.specs.Lists.Pairing.{covers, packs}
+use Rattle.lists.specs.Lists.{_∈_, countBy}
+use Rattle.lists.specs.Lists.Laws.{count-all}
+use Rattle.lists.specs.Lists.Pairing.{covers, packs}
 use Rattle.rewriting.specs.Facts.{Facts}
 use Rattle.rewriting.specs.Graph.{Node, Edge, samePlace, Accepted}
 use Rattle.rewriting.specs.Places.{Placed, placed, premisesFrom}

@@ -5,7 +5,7 @@ use mathlib.Core.Bool.{Bool, false}
 use mathlib.Core.List.{List, [], _∷_}
 use mathlib.Core.Option.{Option, none, some}
 use Prim.Native.Nat.{ℕ, _<_}
-use Rattle.rewriting.specs.Lists.{nth}
+use Rattle.lists.specs.Lists.{nth}
 -- A list of passes answers what its rows say; the answer is unique; it passes just where no row applies.
 pub mod Laws
 -- A pass with a state finds the smallest bad item.

@@ -5,8 +5,8 @@ use mathlib.Core.Bool.{Bool, true, _||_}
 use mathlib.Core.List.{List, [], _∷_, _++_}
 use mathlib.Core.Option.{Option, none, some}
 use Prim.Native.Nat.{ℕ, suc}
-use Rattle.rewriting.specs.Tests.{by-bool}
-use Rattle.rewriting.specs.Lists.{before, leaves, scan}
+use Rattle.lists.specs.Tests.{by-bool}
+use Rattle.lists.specs.Lists.{before, leaves, scan}
 use Rattle.rewriting.specs.Facts.{Facts}
 use Rattle.rewriting.specs.Graph.{Node, Edge, NamesOnce, Accepted}
 use Rattle.rewriting.specs.Machine.{State, start, madeAlready, lacks, fails, after, run, IsRun}

@@ -3,7 +3,7 @@ use mathlib.Core.Bool.{Bool, false, cond, not, _&&_, _||_}
 use mathlib.Core.List.{List, [], _∷_, _++_}
 use mathlib.Core.Option.{Option, none, some}
 use Prim.Native.Nat.{ℕ, suc}
-use Rattle.rewriting.specs.Lists.{firstBy, removeBy, scan}
+use Rattle.lists.specs.Lists.{firstBy, removeBy, scan}
 use Rattle.rewriting.specs.Facts.{Facts}
 use Rattle.rewriting.specs.Graph.{Node, Place, Edge, nameOf, samePlace}
 use Rattle.rewriting.specs.Machine.{madeAlready}

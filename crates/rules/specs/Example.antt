@@ -9,7 +9,8 @@ use Rattle.term.specs.Arity.{arity, slots}
 use Rattle.term.specs.Reader.{symbolAt, term, termIn}
 use Rattle.protocol.specs.Protocol.{fact-of, rule-of, protocol-of, ruleTerm, fact, facts, layout, rule, own, protocol}
 use Rattle.protocol.specs.Example.{printed, its-rule}
-use Rattle.rules.specs.Fit.{leastUnfit, least, allBelow, judged, sound}
+use Rattle.rules.specs.Fit.{leastUnfit, judged, sound}
+use Rattle.lists.specs.Below.{least, allBelow}
 use Rattle.rules.specs.Numbered.{ruleOf, fixed, hears}
 
 printed-fit : judged (protocol printed) ≡ sound

@@ -1,12 +1,14 @@
 -- "Conditions P1 to P4", each a test of a rule; the least rule that breaks one; what a protocol file is judged to be.
-use Prim.Native.Nat.{ℕ, zero, suc, _+_}
+use Prim.Native.Nat.{ℕ, _+_}
 use mathlib.Core.List.{List}
-use mathlib.Core.Bool.{Bool, true, _||_, _&&_, not}
+use mathlib.Core.Bool.{Bool, _||_, _&&_, not}
 use lib.ListN.{length, getD}
 use lib.Dec.{eqb}
-use Rattle.octets.specs.Choice.{pick}
+use Rattle.lists.specs.Choice.{pick}
 use Rattle.number.specs.Groups.{numberLimit}
-use Rattle.number.specs.Reading.{Read, got, fault, any}
+use Rattle.number.specs.Reading.{Read, got, fault}
+use Rattle.lists.specs.Lists.{anyBy}
+use Rattle.lists.specs.Below.{allBelow, least}
 use Rattle.protocol.specs.Protocol.{Rule, Protocol, noRule, premises, conclusions, leafIn}
 use Rattle.protocol.specs.Protocol.Walks.{symbolIn}
 -- what the tests mean, in words of occurrence
@@ -16,26 +18,21 @@ pub mod Laws
 
 -- P1, "no fresh name in a rule": premises, actions and conclusions
 abbrev pub p1 : Rule → Bool
-p1 r = not (any (any (leafIn 2 0 numberLimit)) (r .parts))
+p1 r = not (anyBy (anyBy (leafIn 2 0 numberLimit)) (r .parts))
 
 -- P2, "no K or Out among premises": symbols 2 and 3
 abbrev pub p2 : Rule → Bool
-p2 r = not (any (symbolIn 2 4) (premises r))
+p2 r = not (anyBy (symbolIn 2 4) (premises r))
 
 -- P3, "no K, In or Fr among conclusions": symbols 0 and 1, and 3
 abbrev pub p3 : Rule → Bool
-p3 r = not (any (symbolIn 0 2) (conclusions r)) && not (any (symbolIn 3 4) (conclusions r))
+p3 r = not (anyBy (symbolIn 0 2) (conclusions r)) && not (anyBy (symbolIn 3 4) (conclusions r))
 
 -- variable v stands in one of these facts; it is of sort public, or in a premise, or in no conclusion
 abbrev pub bound : Rule → ℕ → Bool
 bound r v =
     eqb (getD (r .sorts) v 0) 2
-    || (any (leafIn 0 v (v + 1)) (premises r) || not (any (leafIn 0 v (v + 1)) (conclusions r)))
-
--- q holds of every number below n
-unfoldable pub allBelow : (ℕ → Bool) → ℕ → Bool
-allBelow q zero = true
-allBelow q (suc n) = allBelow q n && q n
+    || (anyBy (leafIn 0 v (v + 1)) (premises r) || not (anyBy (leafIn 0 v (v + 1)) (conclusions r)))
 
 -- P4, "each variable of a conclusion is in a premise or is of sort public"
 abbrev pub p4 : Rule → Bool
@@ -43,11 +40,6 @@ p4 r = allBelow (bound r) (length (r .sorts))
 
 abbrev pub fits : Rule → Bool
 fits r = p1 r && (p2 r && (p3 r && p4 r))
-
--- the least number below n of which q holds, counted from 1; 0 if there is none
-unfoldable pub least : (ℕ → Bool) → ℕ → ℕ
-least q zero = 0
-least q (suc n) = pick (eqb (least q n) 0) (pick (q n) (suc n) 0) (least q n)
 
 -- the least rule that breaks a condition, its place in the file from 1; 0 if none does
 abbrev pub leastUnfit : List Rule → ℕ

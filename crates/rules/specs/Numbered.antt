@@ -4,7 +4,7 @@ use mathlib.Core.List.{List, [], _∷_, map}
 use mathlib.Core.Option.{Option, some, none}
 use lib.ListN.{replicate}
 use lib.Dec.{ltb, eqb}
-use Rattle.octets.specs.Choice.{pick}
+use Rattle.lists.specs.Choice.{pick}
 use Rattle.term.specs.Term.{Term, leaf, app, variable}
 use Rattle.term.specs.Arity.{arity, slots}
 use Rattle.term.specs.Reader.{terms}

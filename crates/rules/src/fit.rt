@@ -3,11 +3,12 @@ ghost use mathlib.Core.Path.{_≡_};
 ghost use mathlib.Core.List.{List};
 ghost use Prim.Native.Nat.{_^_, _≤_, _<_};
 ghost use lib.ListN.{length};
-ghost use Rattle.number.specs.Reading.{any};
+ghost use Rattle.lists.specs.Lists.{anyBy};
 ghost use Rattle.protocol.specs.Protocol.{Rule, noRule, part, rule, protocol};
 ghost use Rattle.protocol.specs.Protocol.Walks.{asks, ruleAsks};
 ghost use Rattle.protocol.specs.Index.{Placed};
-ghost use Rattle.rules.specs.Fit.{bound, allBelow, p4, fits, least, judged};
+ghost use Rattle.rules.specs.Fit.{bound, p4, fits, judged};
+ghost use Rattle.lists.specs.Below.{least, allBelow};
 ghost use Rattle.rules.specs.Fit.Laws.{hitOf, OfRule, unfit, verdictOf, Indexes};
 use number::Number;
 use number::Seen;
@@ -44,7 +45,7 @@ fn list_asks(
     hi: usize,
 ) -> bool
     requires { ⌜ (length (now s) ≤ 2 ^ 32) × (w < 3) ⌝ }
-    ensures { λ b. ⌜ OfRule (now (s .entry)) (now (arities .entry)) (now (ars .entry)) at (λ (r : Rule). b ≡ any (asks kind lo hi) (part w r)) ⌝ }
+    ensures { λ b. ⌜ OfRule (now (s .entry)) (now (arities .entry)) (now (ars .entry)) at (λ (r : Rule). b ≡ anyBy (asks kind lo hi) (part w r)) ⌝ }
 {
     let list = places::list_at(s, arities, ars, at, w);
     hit_of(walks::one_part(s, arities, ars, list, kind, lo, hi))

@@ -4,7 +4,7 @@ ghost use mathlib.Core.List.{List};
 ghost use Prim.Native.Nat.{ℕ, _≤_, _<_, _+_};
 ghost use lib.ListN.{length, take};
 ghost use Rattle.octets.specs.Splice.{splice};
-ghost use Rattle.number.specs.Layout.{All};
+ghost use Rattle.lists.specs.All.{All};
 ghost use Rattle.term.specs.Arity.{slots};
 ghost use Rattle.protocol.specs.Protocol.{encodeRule};
 ghost use Rattle.protocol.specs.Index.{Entries};

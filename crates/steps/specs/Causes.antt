@@ -3,7 +3,7 @@
 use Prim.Native.Nat.{ℕ}
 use mathlib.Core.List.{List, [], _∷_, _++_}
 use mathlib.Core.Path.{_≡_}
-use Rattle.rewriting.specs.Lists.{firstBad}
+use Rattle.lists.specs.Lists.{firstBad}
 use Rattle.rewriting.specs.Table.{Ruling, passed, refused, Row, row, fixedRow, orRefuse, andThen, rowsAfter}
 use Rattle.rewriting.specs.Causes.{NameTwice}
 use Rattle.rewriting.specs.Writer.{firstNameTwice}

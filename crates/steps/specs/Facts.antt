@@ -6,10 +6,10 @@ use mathlib.Core.Option.{Option, none, some}
 use mathlib.Core.Path.{_≡_}
 use lib.ListN.{getD}
 use lib.Dec.{eqb}
-use Rattle.octets.specs.Choice.{pick}
+use Rattle.lists.specs.Choice.{pick}
 use Rattle.octets.specs.Compare.{compareBytes, isEqual}
 use Rattle.term.specs.Term.{variable, public, fresh, Term, leaf, app, encode}
-use Rattle.rewriting.specs.Lists.{nth}
+use Rattle.lists.specs.Lists.{nth}
 use Rattle.message.specs.Equations.{Same}
 use Rattle.message.specs.Substitution.{sub}
 use Rattle.message.specs.Canon.{canon}

@@ -15,6 +15,3 @@ pub mod Causes
 pub mod Names
 -- what the code has of a protocol
 pub mod Index
--- ── lemmas ──
--- a condition of all elements of a list
-pub mod Lists

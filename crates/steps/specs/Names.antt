@@ -6,7 +6,7 @@ use mathlib.Core.Option.{Option, none, some}
 use mathlib.Core.Path.{_≡_}
 use lib.ListN.{getD}
 use lib.Dec.{eqb, leb}
-use Rattle.rewriting.specs.Lists.{countBy}
+use Rattle.lists.specs.Lists.{countBy}
 use Rattle.rewriting.specs.Graph.{nameOf}
 use Rattle.steps.specs.declared.names.Made.{Made}
 use Rattle.steps.specs.declared.names.Made.the-variants as md

@@ -6,10 +6,11 @@ use mathlib.Core.Option.{Option, none, some}
 use mathlib.Core.Path.{_≡_}
 use lib.ListN.{length}
 use lib.Dec.{eqb}
-use Rattle.octets.specs.Choice.{pick}
+use Rattle.lists.specs.Choice.{pick}
 use Rattle.number.specs.Groups.{groups, numberLimit}
 use Rattle.number.specs.Reading.{Read, got, fault, andThen, readNumber, below, many}
-use Rattle.number.specs.Layout.{flat, listed, All}
+use Rattle.number.specs.Layout.{flat, listed}
+use Rattle.lists.specs.All.{All}
 use Rattle.term.specs.Term.{Term, encode}
 use Rattle.term.specs.Arity.{slots}
 use Rattle.term.specs.Reader.{term}

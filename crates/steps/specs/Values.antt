@@ -5,7 +5,7 @@ use mathlib.Core.Option.{some}
 use mathlib.Core.Path.{_≡_}
 use lib.ListN.{getElem?}
 use Rattle.term.specs.Term.{public, fresh, Term, leaf, symbols}
-use Rattle.rewriting.specs.Lists.{_∈_, nth}
+use Rattle.lists.specs.Lists.{_∈_, nth}
 use Rattle.rewriting.specs.Table.{Row, row}
 use Rattle.message.specs.Canonical.{Canonical}
 use Rattle.message.specs.Substitution.{sub, Ground}

@@ -10,7 +10,7 @@ ghost use Rattle.protocol.specs.Protocol.{Rule, Protocol};
 ghost use Rattle.protocol.specs.Protocol.Walks.{sortsAt};
 ghost use Rattle.protocol.specs.Places.{valueOf, Here};
 ghost use Rattle.protocol.specs.Index.{Placed};
-ghost use Rattle.rewriting.specs.Lists.{firstBad};
+ghost use Rattle.lists.specs.Lists.{firstBad};
 ghost use Rattle.steps.specs.Index.{IndexOf, Given};
 ghost use Rattle.steps.specs.Nodes.{Node, node};
 ghost use Rattle.steps.specs.Nodes.Code.{noNode};

@@ -3,7 +3,8 @@ use Prim.Native.Nat.{ℕ, _+_}
 use mathlib.Core.List.{List, [], _∷_}
 use mathlib.Core.Bool.{Bool, false, _||_, _&&_, not}
 use lib.Dec.{ltb, eqb}
-use Rattle.number.specs.Reading.{Read, got, fault, any}
+use Rattle.number.specs.Reading.{Read, got, fault}
+use Rattle.lists.specs.Lists.{anyBy}
 use Rattle.term.specs.declared.Walk.{Walk}
 use Rattle.term.specs.declared.Walk.the-variants as wk
 use Rattle.term.specs.declared.Part.{Part}
@@ -40,7 +41,7 @@ walked kind lo hi fault = wk.Fault
 
 -- several terms
 abbrev pub walks : ℕ → ℕ → ℕ → Read (List Term) → Walk
-walks kind lo hi (got ts e) = wk.End e (total ts) (any (λ t. holds t kind lo hi) ts)
+walks kind lo hi (got ts e) = wk.End e (total ts) (anyBy (λ t. holds t kind lo hi) ts)
 walks kind lo hi fault = wk.Fault
 
 -- the place behind one term and its symbols; behind several

@@ -8,7 +8,7 @@ use mathlib.Core.Option.{Option, some}
 use native.Mathlib.Omega.{arith}
 use lib.ListN.{length, length-append}
 use borrow.Author.Tests.{ne-eqb}
-use Rattle.octets.specs.Choice.{clash}
+use Rattle.lists.specs.Choice.{clash}
 use Rattle.number.specs.Groups.{groups}
 use Rattle.term.specs.Term.{variable, public, fresh, Term, leaf, app, Terms, nil, _&_}
 use Rattle.term.specs.Term.{count, encode, encodes, symbols, symbolss, Formed, Formeds, InRange, InRanges}

@@ -4,7 +4,7 @@ use Prim.Native.Nat.{ℕ, _≤_, _<_}
 use mathlib.Core.List.{List}
 use mathlib.Core.Logic.{_↔_}
 use mathlib.Core.Path.{_≡_, refl, ap, sym, _∙_, subst}
-use Rattle.octets.specs.Choice.{by-size}
+use Rattle.lists.specs.Choice.{by-size}
 use Rattle.octets.specs.Head.{Bytes}
 use Rattle.term.specs.Term.{Term, encode, symbols, Formed}
 use Rattle.term.specs.Arity.{arity, slots}

@@ -4,7 +4,7 @@ use mathlib.Core.List.{List, [], append-nil}
 use mathlib.Core.Path.{_≡_, refl, ap, sym, _∙_, subst}
 use native.Mathlib.Omega.{arith}
 use lib.ListN.{length, take}
-use Rattle.octets.specs.Choice.{by-size}
+use Rattle.lists.specs.Choice.{by-size}
 use Rattle.octets.specs.Head.{Stands, stands-part, stands-within}
 use Rattle.octets.specs.Splice.{splice}
 use Rattle.term.specs.Term.{Term, encode, symbols}

@@ -5,7 +5,7 @@ use mathlib.Core.List.{List, []}
 use mathlib.Core.Path.{_≡_, refl, sym, _∙_}
 use native.Mathlib.Omega.{arith}
 use lib.ListN.{length}
-use Rattle.octets.specs.Choice.{by-size}
+use Rattle.lists.specs.Choice.{by-size}
 use Rattle.octets.specs.Head.{Bytes}
 use Rattle.octets.specs.Splice.{splice}
 use Rattle.term.specs.Term.{Term, encode, Formed}

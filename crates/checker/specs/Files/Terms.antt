@@ -8,7 +8,7 @@ use lib.ListN.{length, drop}
 use lib.Seq.{drop-length}
 use lib.Dec.{eqb}
 use borrow.Author.Tests.{eq-eqb, eqb-true}
-use Rattle.octets.specs.Choice.{pick, cut, clash}
+use Rattle.lists.specs.Choice.{pick, cut, clash}
 use Rattle.octets.specs.Head.{Bytes}
 use Rattle.number.specs.Groups.{numberLimit}
 use Rattle.number.specs.Reading.{got, fault}
@@ -18,7 +18,7 @@ use Rattle.term.specs.Arity.{arity}
 use Rattle.term.specs.Reader.{term}
 use Rattle.term.specs.Reader.Exact.{term-back, term-form}
 use Rattle.term.specs.Walk.{holds}
-use Rattle.rewriting.specs.Tests.{not-split, and-split}
+use Rattle.lists.specs.Tests.{not-split, and-split}
 use Rattle.message.specs.Substitution.{Ground}
 use Rattle.message.specs.Substitution.Decided.{none-ground, ground-none}
 use Rattle.checker.specs.Files.{termFile}

@@ -6,15 +6,16 @@ use mathlib.Core.Option.{Option, some, none}
 use mathlib.Core.Path.{_≡_, refl, ap, sym, _∙_}
 use native.Mathlib.Omega.{arith}
 use lib.ListN.{length, getD, getElem?}
-use Rattle.octets.specs.Choice.{cut-eq, clash}
+use Rattle.lists.specs.Choice.{cut-eq, clash}
 use Rattle.number.specs.Reading.{Read, got, fault}
-use Rattle.rewriting.specs.Lists.{firstBad}
+use Rattle.lists.specs.Lists.{firstBad}
 use Rattle.rewriting.specs.Table.{passed, refused, Fails, Finds, Least, andThen, orRefuse}
 use Rattle.rewriting.specs.Table.Laws.{least-unique}
 use Rattle.rewriting.specs.Table.Passes.{first-bad}
 use Rattle.protocol.specs.Protocol.{Rule, Protocol, noRule, protocol}
 use Rattle.rules.specs.Fit.{fits, leastUnfit, sound, broken, malformed, judged}
-use Rattle.rules.specs.Fit.Laws.{false-of, unfit}
+use Rattle.lists.specs.Tests.{not-split}
+use Rattle.rules.specs.Fit.Laws.{unfit}
 use Rattle.rules.specs.Fit.Meaning.Judged.{First, least-zero, least-some}
 use Rattle.checker.specs.Files.{protocolItem, layout, fitRuling, protocolRuling}
 
@@ -64,7 +65,7 @@ module _ (rs : List Rule) where
     here = record {
       which = getD rs m noRule;
       stands = there rs m (h .inside);
-      is-false = false-of (fits (getD rs m noRule)) (h .hit);
+      is-false = not-split (fits (getD rs m noRule)) (h .hit);
     };
     below = earlier;
   }

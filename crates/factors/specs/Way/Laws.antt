@@ -6,7 +6,7 @@ use mathlib.Core.List.{List}
 use native.Mathlib.Omega.{arith}
 use lib.ListN.{length, drop, length-append}
 use borrow.Author.Tests.{eq-eqb, ne-eqb}
-use Rattle.octets.specs.Choice.{cut-eq, clash}
+use Rattle.lists.specs.Choice.{cut-eq, clash}
 use Rattle.number.specs.Groups.{groups}
 use Rattle.number.specs.Groups.Laws.{groups-some}
 use Rattle.term.specs.Term.{Term, leaf, app, Terms, count, encode, encodes, symbols, symbolss}

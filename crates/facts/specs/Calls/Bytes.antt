@@ -8,12 +8,12 @@ use borrow.Author.Tests.{eqb-true}
 use lib.ListN.{length, getD}
 use lib.Dec.{eqb}
 use Rattle.octets.specs.Compare.{compareBytes, isEqual}
-use Rattle.number.specs.Layout.{All}
+use Rattle.lists.specs.All.{All}
 use Rattle.term.specs.Term.{public, Term, leaf, encode, Formed}
 use Rattle.term.specs.Term.Laws.{encode-prefix}
 use Rattle.term.specs.Arity.{arity, slots}
 use Rattle.term.specs.Arity.Laws.{no-leaf}
-use Rattle.rewriting.specs.Tests.{and-split, and-both, true-false}
+use Rattle.lists.specs.Tests.{and-split, and-both, true-false}
 use Rattle.message.specs.Canon.{canon}
 use Rattle.message.specs.Theorems.{canon-is-formed}
 use Rattle.canonical.specs.Builtins.{Builtins, group, declared}

@@ -5,7 +5,7 @@ use mathlib.Core.Bool.{true}
 use mathlib.Core.Logic.{_↔_}
 use mathlib.Core.Path.{_≡_}
 use Rattle.octets.specs.Head.{Bytes}
-use Rattle.number.specs.Layout.{All}
+use Rattle.lists.specs.All.{All}
 use Rattle.term.specs.Term.{public, leaf, Formed}
 use Rattle.term.specs.Arity.{arity, slots}
 use Rattle.message.specs.Promise.{Message, SameMessage, publicName}
@@ -14,7 +14,7 @@ use Rattle.message.specs.Theorems.{declared}
 use Rattle.protocol.specs.Protocol.{Fact, Protocol, noFact}
 use Rattle.protocol.specs.Protocol.Limits.{Within}
 use Rattle.steps.specs.Nodes.{Node, NodeWithin}
-use Rattle.steps.specs.Lists.{all-inside}
+use Rattle.lists.specs.All.Laws.{all-inside}
 use Rattle.steps.specs.Facts.{factsOf, sameFact, sameTerm, SameFact}
 use Rattle.steps.specs.Facts.Formed.{FactFormed, facts-formed, formed-decides, facts-ground}
 use Rattle.steps.specs.Facts.Laws.{term-decides}

@@ -20,7 +20,7 @@ use Rattle.canonical.specs.Contract.{mostSymbols, Job, Ready, Done}
 use Rattle.canonical.specs.Contract.Laws.{written-canons}
 use Rattle.protocol.specs.Protocol.{Fact}
 use Rattle.protocol.specs.Places.{termPlace}
-use Rattle.steps.specs.Lists.{all-inside, map-at}
+use Rattle.lists.specs.All.Laws.{all-inside, map-at}
 use Rattle.steps.specs.Facts.{valueAt, filledFact}
 use Rattle.steps.specs.Values.Parts.{noTerm, term-there}
 use Rattle.facts.specs.Writing.{factRoom, FactJob, ArgumentReady, ArgumentDone}

@@ -8,14 +8,13 @@ use native.Mathlib.Omega.{arith}
 use lib.ListN.{length, getD, getElem?}
 use Rattle.octets.specs.Head.{Bytes}
 use Rattle.number.specs.Groups.{numberLimit}
-use Rattle.number.specs.Reading.{any}
-use Rattle.number.specs.Layout.{All}
+use Rattle.lists.specs.Lists.{anyBy, _∈_}
+use Rattle.lists.specs.All.{All}
 use Rattle.term.specs.Term.{Term, symbols}
 use Rattle.term.specs.Arity.{slots}
 use Rattle.term.specs.Reader.{term}
 use Rattle.term.specs.Reader.Exact.{Good}
-use Rattle.rewriting.specs.Lists.{_∈_}
-use Rattle.rewriting.specs.Tests.{not-split}
+use Rattle.lists.specs.Tests.{not-split}
 use Rattle.message.specs.Canonical.{Canonical}
 use Rattle.message.specs.Substitution.{sub, Ground}
 use Rattle.message.specs.Canon.{canon}
@@ -27,7 +26,7 @@ use Rattle.protocol.specs.Protocol.Limits.{FactWithin, OwnWithin, RuleWithin, W
 use Rattle.protocol.specs.Places.{Here}
 use Rattle.protocol.specs.Index.{Placed}
 use Rattle.rules.specs.Numbered.Limits.{rule-within}
-use Rattle.steps.specs.Lists.{all-map, all-both, all-at, map-all, none-all}
+use Rattle.lists.specs.All.Laws.{all-map, all-both, all-at, map-all, none-all}
 use Rattle.steps.specs.Nodes.{Node, NodeWithin}
 use Rattle.steps.specs.Facts.{valueAt}
 use Rattle.steps.specs.Facts.Formed.{part-within}
@@ -90,9 +89,9 @@ module _ (p : Protocol) (fit : Within p) (x : Node) (b : NodeWithin p x) (r : No
 
   node-bound : All (All Bound) (b .is .parts)
   node-bound =
-      all-map (λ fs. any (leafIn 0 (length (b .is .sorts)) numberLimit) fs ≡ false) (All Bound)
+      all-map (λ fs. anyBy (leafIn 0 (length (b .is .sorts)) numberLimit) fs ≡ false) (All Bound)
       (λ fs h. none-all (leafIn 0 (length (b .is .sorts)) numberLimit) fs h) (b .is .parts)
-      (none-all (any (leafIn 0 (length (b .is .sorts)) numberLimit)) (b .is .parts) (not-split _ (lawful .bound)))
+      (none-all (anyBy (leafIn 0 (length (b .is .sorts)) numberLimit)) (b .is .parts) (not-split _ (lawful .bound)))
 
   node-few : (w : ℕ) → All (λ f. length (f .terms) ≤ 8) (part w (b .is))
   node-few w =

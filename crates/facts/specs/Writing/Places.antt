@@ -4,7 +4,7 @@ use mathlib.Core.List.{List}
 use mathlib.Core.Path.{_≡_, refl, ap, _∙_}
 use native.Mathlib.Omega.{arith}
 use lib.ListN.{length, getD, drop}
-use Rattle.octets.specs.Choice.{clash}
+use Rattle.lists.specs.Choice.{clash}
 use Rattle.octets.specs.Head.{Bytes}
 use Rattle.number.specs.Reading.{Read, got, fault}
 use Rattle.term.specs.Term.{variable, Term, leaf}
@@ -15,7 +15,7 @@ use Rattle.term.specs.declared.Part.the-variants as part
 use Rattle.message.specs.Canon.{canon}
 use Rattle.canonical.specs.Contract.{Value}
 use Rattle.protocol.specs.Index.{Placed}
-use Rattle.steps.specs.Lists.{same-inside}
+use Rattle.lists.specs.All.Laws.{same-inside}
 use Rattle.steps.specs.Facts.{valueAt}
 use Rattle.steps.specs.Values.Parts.{noTerm}
 

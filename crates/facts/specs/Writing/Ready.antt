@@ -8,7 +8,8 @@ use native.Mathlib.Omega.{arith}
 use lib.ListN.{length, length-append}
 use Rattle.octets.specs.Head.{Bytes}
 use Rattle.number.specs.Groups.{numberLimit}
-use Rattle.number.specs.Layout.{flat, All}
+use Rattle.number.specs.Layout.{flat}
+use Rattle.lists.specs.All.{All}
 use Rattle.term.specs.Term.{variable, Term, leaf, encode, symbols, InRange}
 use Rattle.term.specs.Reader.{terms, term}
 use Rattle.term.specs.Walk.{holds}
@@ -22,7 +23,7 @@ use Rattle.protocol.specs.Protocol.{Fact, fact, leafIn}
 use Rattle.protocol.specs.Protocol.Limits.{TermWithin}
 use Rattle.protocol.specs.Places.{Here}
 use Rattle.protocol.specs.Index.{Placed}
-use Rattle.steps.specs.Lists.{all-at, none-all}
+use Rattle.lists.specs.All.Laws.{all-at, none-all}
 use Rattle.steps.specs.Facts.{valueAt}
 use Rattle.steps.specs.Facts.Formed.{occurs-below}
 use Rattle.facts.specs.Writing.Places.{placed-value}

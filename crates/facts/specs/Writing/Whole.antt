@@ -8,7 +8,8 @@ use lib.ListN.{length, getD, drop, length-append}
 use Rattle.octets.specs.Head.{Bytes, Stands}
 use Rattle.octets.specs.Splice.Prefix.{Wrote, widen}
 use Rattle.number.specs.Reading.{Read, andThen, below, many}
-use Rattle.number.specs.Layout.{flat, All}
+use Rattle.number.specs.Layout.{flat}
+use Rattle.lists.specs.All.{All}
 use Rattle.number.specs.Layout.Laws.{many-form}
 use Rattle.term.specs.Term.{Term, encode, encodes, symbols, Formed, Formeds, InRanges}
 use Rattle.term.specs.Arity.{arity}

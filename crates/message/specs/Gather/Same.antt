@@ -4,7 +4,7 @@ use Prim.Native.Nat.{zero, suc}
 use mathlib.Core.Path.{_≡_, refl, sym, _∙_, ap, ap₂}
 use mathlib.Core.Bool.{Bool, true, false, not}
 use lib.IntN.{ℤ, pos, negsuc, _+ℤ_, negℤ, +ℤ-idl, +ℤ-idr, +ℤ-assoc, +ℤ-comm, negℤ-+ℤ, negℤ-negℤ}
-use Rattle.octets.specs.Choice.{pick, pick-same}
+use Rattle.lists.specs.Choice.{pick, pick-same}
 use Rattle.octets.specs.Compare.{compareBytes}
 use Rattle.octets.specs.Compare.Laws.{compare-same}
 use Rattle.octets.specs.declared.Order.{Order}

@@ -5,7 +5,7 @@ use mathlib.Core.Path.{_≡_, refl, ap₂}
 use mathlib.Mathlib.Data.Bool.Basic.{or-eq-false-eq-eq-false-and-eq-false}
 use native.Mathlib.Omega.{arith}
 use borrow.Author.Tests.{lt-ltb, le-ltb}
-use Rattle.octets.specs.Choice.{clash}
+use Rattle.lists.specs.Choice.{clash}
 use Rattle.number.specs.Groups.{numberLimit}
 use Rattle.term.specs.Term.{variable, public, fresh, Term, leaf, app, Terms, nil, _&_, InRange, InRanges}
 use Rattle.term.specs.Walk.{hits, holds, holdss}

@@ -7,7 +7,7 @@ use mathlib.Core.Bool.{Bool}
 use mathlib.Core.Option.{Option, some}
 use native.Mathlib.Omega.{arith}
 use borrow.Author.Tests.{ne-eqb}
-use Rattle.octets.specs.Choice.{pick, cut-eq, clash}
+use Rattle.lists.specs.Choice.{pick, cut-eq, clash}
 use Rattle.term.specs.Term.{Term, app, nil, _&_}
 use Rattle.message.specs.Functions.{enc, pair}
 use Rattle.message.specs.Equations.{Figure2, dec-enc, fst-pair, snd-pair, mul-assoc, mul-comm, mul-one, mul-inv, inv-inv, exp-exp, exp-one}

@@ -4,8 +4,7 @@ use native.Mathlib.Omega.{arith}
 use mathlib.Core.Path.{ap, sym, _∙_}
 use Rattle.number.specs.Reading.Numbers.{now-none, now-end, now-one, now-more, in-small}
 use Rattle.number.specs.Reading.{longer, asRead}
-use Prim.Native.Nat.{_-_, _+_}
-use Prim.Native.Nat.{ℕ, _<_}
+use Prim.Native.Nat.{_-_, _+_, ℕ, _<_}
 use borrow.Fn.Kinds.{In}
 use borrow.Fn.PlainCycle.{Measures, is, falls, and}
 use Rattle.number.proofs.read_groups.Reads as read-groups

@@ -6,7 +6,7 @@ use mathlib.Core.Path.{_≡_, refl, ap, sym, _∙_}
 use native.Mathlib.Omega.{arith}
 use lib.ListN.{length}
 use borrow.Author.Tests.{lt-ltb, le-ltb}
-use Rattle.octets.specs.Choice.{by-size}
+use Rattle.lists.specs.Choice.{by-size}
 use Rattle.number.specs.Groups.{groupsIn, groups}
 
 -- ── the two cases ──

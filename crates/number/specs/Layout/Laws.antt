@@ -5,13 +5,14 @@ use mathlib.Core.Bool.{Bool, true}
 use mathlib.Core.Path.{_≡_, refl, ap, ap₂, sym, _∙_, subst, subst₂}
 use native.Mathlib.Omega.{arith}
 use lib.ListN.{length, drop, length-append}
-use Rattle.octets.specs.Choice.{pick, cut, clash}
+use Rattle.lists.specs.Choice.{pick, cut, clash}
 use Rattle.octets.specs.Head.{Bytes, Stands, stands-join, behind}
 use Rattle.number.specs.Groups.{groups, numberLimit}
 use Rattle.number.specs.Reading.{Read, got, fault, andThen, below, many, counted}
 use Rattle.number.specs.Reading.Laws.{cut-got, then-got}
 use Rattle.number.specs.Reading.Numbers.{below-back, below-inside}
-use Rattle.number.specs.Layout.{flat, listed, All, Exact}
+use Rattle.number.specs.Layout.{flat, listed, Exact}
+use Rattle.lists.specs.All.{All}
 
 -- a number below n
 pub below-exact : (s : List ℕ) → Bytes s → (n : ℕ) → Exact s (below s n) (λ v. (v < n) × (v < numberLimit)) groups

@@ -7,7 +7,8 @@ use native.Mathlib.Omega.{arith}
 use native.Mathlib.Numerals.{add-one}
 use lib.ListN.{length}
 use Rattle.number.specs.declared.Seen.the-variants as sn
-use Rattle.number.specs.Reading.{Read, got, fault, andThen, many, any, seen, below, counted}
+use Rattle.number.specs.Reading.{Read, got, fault, andThen, many, seen, below, counted}
+use Rattle.lists.specs.Lists.{anyBy}
 use Rattle.number.specs.Reading.Laws.{cut-got, then-got, then-fault, then-same, then-then, then-ext, cut-seen, cut-fault, then-same-at}
 
 module _ {A : Type 0} (p : ℕ → Read A) where
@@ -97,20 +98,22 @@ module _ {A : Type 0} (p : ℕ → Read A) where
 
   -- what code has of a reading of n things: the place behind them, and whether the test hit one
   module _ (q : A → Bool) where
-    any-snoc : (xs : List A) (x : A) → any q (xs ++ (x ∷ [])) ≡ (any q xs || q x)
+    any-snoc : (xs : List A) (x : A) → anyBy q (xs ++ (x ∷ [])) ≡ (anyBy q xs || q x)
     any-snoc [] x = or-false (q x)
-    any-snoc (y ∷ xs) x = ap (λ (b : Bool). q y || b) (any-snoc xs x) ∙ sym (or-assoc (q y) (any q xs) (q x))
+    any-snoc (y ∷ xs) x = ap (λ (b : Bool). q y || b) (any-snoc xs x) ∙ sym (or-assoc (q y) (anyBy q xs) (q x))
 
-    pub walk-more : (i at₀ at e : ℕ) (b c : Bool) → seen (any q) (many p i at₀) ≡ sn.End at b → seen q (p at) ≡ sn.End e c → seen (any q) (many p (i + 1) at₀)
+    pub walk-more : (i at₀ at e : ℕ) (b c : Bool) → seen (anyBy q) (many p i at₀) ≡ sn.End at b → seen q (p at) ≡ sn.End e c → seen (anyBy q)
+        (many p (i + 1) at₀)
         ≡ sn.End e (b || c)
     walk-more i at₀ at e b c h k =
-        rw add-one (cut-seen (any q) (many p i at₀) h (λ xs g hb. cut-seen q (p at) k (λ x g′ hc.
-        ap (seen (any q)) (many-snoc i at₀ at e xs x g g′) ∙ ap (sn.End e) (any-snoc xs x ∙ ap₂ _||_ hb hc))))
+        rw add-one (cut-seen (anyBy q) (many p i at₀) h (λ xs g hb. cut-seen q (p at) k (λ x g′ hc.
+        ap (seen (anyBy q)) (many-snoc i at₀ at e xs x g g′) ∙ ap (sn.End e) (any-snoc xs x ∙ ap₂ _||_ hb hc))))
 
-    pub walk-stop : (i n at₀ at : ℕ) (b : Bool) → seen (any q) (many p i at₀) ≡ sn.End at b → seen q (p at) ≡ sn.Fault → i < n → seen (any q) (many p n at₀) ≡
+    pub walk-stop : (i n at₀ at : ℕ) (b : Bool) → seen (anyBy q) (many p i at₀) ≡ sn.End at b → seen q (p at) ≡ sn.Fault → i < n → seen (anyBy q)
+        (many p n at₀) ≡
         sn.Fault
     walk-stop i n at₀ at b h k l =
-        cut-seen (any q) (many p i at₀) h (λ xs g hb. ap (seen (any q)) (many-stop i n at₀ at xs g (cut-fault q (p at) k) l))
+        cut-seen (anyBy q) (many p i at₀) h (λ xs g hb. ap (seen (anyBy q)) (many-stop i n at₀ at xs g (cut-fault q (p at) k) l))
 
 -- ── readings that go forward, and two that agree from a place on ──
 module _ {A : Type 0} (q : ℕ → Read A) (forward : (at : ℕ) (x : A) (e : ℕ) → q at ≡ got x e → at ≤ e) where
@@ -147,12 +150,12 @@ module _ {A : Type 0} (p : ℕ → Read A) where
   came-stop at j i n c h l = many-stop p j n at i (c .items) (c .there) h l
 
   module _ (q : A → Bool) where
-    pub walk-none : (at : ℕ) → seen (any q) (many p 0 at) ≡ sn.End at false
+    pub walk-none : (at : ℕ) → seen (anyBy q) (many p 0 at) ≡ sn.End at false
     unfolding many
     walk-none at = refl
 
-    pub walk-came : (at j i : ℕ) (b : Bool) → seen (any q) (many p j at) ≡ sn.End i b → Came at j i
-    walk-came at j i b h = cut-seen (any q) (many p j at) h (λ xs g k. record { items = xs; there = g })
+    pub walk-came : (at j i : ℕ) (b : Bool) → seen (anyBy q) (many p j at) ≡ sn.End i b → Came at j i
+    walk-came at j i b h = cut-seen (anyBy q) (many p j at) h (λ xs g k. record { items = xs; there = g })
 
 module _ {A : Type 0} (s : List ℕ) (p : ℕ → Read A) (limit at : ℕ) where
   pub counted-got : (n e : ℕ) → below s (limit + 1) at ≡ got n e → counted s limit p at ≡ many p n e

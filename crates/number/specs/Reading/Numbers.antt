@@ -6,7 +6,7 @@ use native.Mathlib.Omega.{arith}
 use native.Mathlib.Nat.{pow-succ', pow-zero, one-le-pow, pow-le-pow-right}
 use lib.ListN.{length, getD, drop}
 use borrow.Author.Tests.{lt-ltb, le-ltb, eq-eqb, ne-eqb}
-use Rattle.octets.specs.Choice.{cut-lt, cut-eq, by-size, clash}
+use Rattle.lists.specs.Choice.{cut-lt, cut-eq, by-size, clash}
 use Rattle.octets.specs.Head.{head-at, head-of, Bytes, Stands, stands-within}
 use Rattle.octets.specs.Splice.{splice}
 use Rattle.octets.specs.Splice.Laws.{part-splice}

@@ -1,14 +1,11 @@
 use denote.Ref.{now}
 use lib.Seq.{take-all}
-use lib.ListN.{set, getD, length-set}
+use lib.ListN.{set, getD, length-set, length, take}
 use native.Mathlib.Omega.{arith}
-use mathlib.Core.Path.{ap}
+use mathlib.Core.Path.{ap, _≡_, sym, _∙_}
 use mathlib.Core.List.{List}
-use Prim.Native.Nat.{ℕ, _+_}
+use Prim.Native.Nat.{ℕ, _+_, _≤_, _-_}
 use Rattle.octets.specs.Splice.Laws.{splice-copy, splice-nil}
-use lib.ListN.{length, take}
-use mathlib.Core.Path.{_≡_, sym, _∙_}
-use Prim.Native.Nat.{_≤_, _-_}
 use borrow.Author.Needs.{needs}
 use Rattle.octets.specs.Splice.{splice}
 use Rattle.octets.proofs.copy_into.Statement.{statement}

@@ -1,14 +1,11 @@
 use denote.Ref.{now}
 use lib.Seq.{getD-drop, length-take-le}
-use lib.ListN.{set, getD, length-set, length-drop}
+use lib.ListN.{set, getD, length-set, length-drop, length, take, drop}
 use native.Mathlib.Omega.{arith}
-use mathlib.Core.Path.{ap, ap₂}
+use mathlib.Core.Path.{ap, ap₂, _≡_, sym, _∙_}
 use mathlib.Core.List.{List}
-use Prim.Native.Nat.{ℕ, _+_}
+use Prim.Native.Nat.{ℕ, _+_, _≤_, _-_}
 use Rattle.octets.specs.Splice.Laws.{splice-copy, splice-nil, splice-behind}
-use lib.ListN.{length, take, drop}
-use mathlib.Core.Path.{_≡_, sym, _∙_}
-use Prim.Native.Nat.{_≤_, _-_}
 use borrow.Author.Needs.{needs}
 use Rattle.octets.specs.Splice.{splice}
 use Rattle.octets.proofs.move_down.Statement.{statement}

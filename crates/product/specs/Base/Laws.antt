@@ -7,7 +7,7 @@ use mathlib.Core.Option.{some}
 use native.Mathlib.Omega.{arith}
 use lib.ListN.{length, drop, length-append}
 use borrow.Author.Tests.{eq-eqb, ne-eqb}
-use Rattle.octets.specs.Choice.{cut-eq, clash}
+use Rattle.lists.specs.Choice.{cut-eq, clash}
 use Rattle.number.specs.Groups.{groups}
 use Rattle.number.specs.Groups.Laws.{groups-one}
 use Rattle.term.specs.Term.{Term, leaf, app, Terms, nil, _&_, count, encode, encodes}

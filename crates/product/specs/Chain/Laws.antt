@@ -6,7 +6,7 @@ use mathlib.Core.List.{List, [], _∷_, _++_, append-nil, append-assoc}
 use native.Mathlib.Omega.{arith}
 use native.Mathlib.Numerals.{add-one}
 use lib.ListN.{length, length-append}
-use Rattle.octets.specs.Choice.{pick, clash}
+use Rattle.lists.specs.Choice.{pick, clash}
 use Rattle.number.specs.Groups.Laws.{groups-one}
 use Rattle.term.specs.Term.{Term, app, Terms, nil, _&_, encode}
 use Rattle.term.specs.Term.Laws.{encode-some}

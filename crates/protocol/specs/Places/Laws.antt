@@ -4,7 +4,7 @@ use mathlib.Core.List.{List, [], _∷_, _++_}
 use mathlib.Core.Path.{_≡_, refl, ap, ap₂, sym, _∙_}
 use native.Mathlib.Omega.{arith}
 use lib.ListN.{length, getD}
-use Rattle.octets.specs.Choice.{cut, clash}
+use Rattle.lists.specs.Choice.{cut, clash}
 use Rattle.number.specs.Reading.{Read, got, andThen, below, many, counted}
 use Rattle.number.specs.Reading.Laws.{cut-got, then-got}
 use Rattle.number.specs.Reading.Many.{many-nth, many-length}

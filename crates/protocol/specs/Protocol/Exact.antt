@@ -8,13 +8,14 @@ use native.Mathlib.Omega.{arith}
 use lib.ListN.{length, getD, drop, length-append, length-map, drop-of-length-le}
 use lib.Dec.{ltb}
 use borrow.Author.Tests.{ltb-true, lt-ltb, eq-eqb}
-use Rattle.octets.specs.Choice.{pick, cut-eq, clash}
+use Rattle.lists.specs.Choice.{pick, cut-eq, clash}
 use Rattle.octets.specs.Head.{Bytes, stands-join, stands-within, behind}
 use Rattle.number.specs.Groups.{groups, numberLimit}
 use Rattle.number.specs.Groups.Laws.{groups-some}
 use Rattle.number.specs.Reading.{Read, got, below, many, counted}
 use Rattle.number.specs.Reading.Laws.{cut-got, then-got}
-use Rattle.number.specs.Layout.{flat, listed, All, Exact}
+use Rattle.number.specs.Layout.{flat, listed, Exact}
+use Rattle.lists.specs.All.{All}
 use Rattle.number.specs.Layout.Laws.{below-exact, test-exact, many-exact, counted-exact, then-exact}
 use Rattle.term.specs.Term.{encode, symbols}
 use Rattle.term.specs.Arity.{slots}

@@ -4,7 +4,7 @@ use mathlib.Core.List.{List}
 use mathlib.Core.Bool.{true}
 use mathlib.Core.Path.{_≡_}
 use lib.ListN.{length, getD}
-use Rattle.number.specs.Layout.{All}
+use Rattle.lists.specs.All.{All}
 use Rattle.term.specs.Term.{Term, symbols, Formed, InRange}
 use Rattle.term.specs.Arity.{arity, slots}
 use Rattle.protocol.specs.Protocol.{Fact, Rule, Own, Protocol, factArities, declared}

@@ -6,9 +6,10 @@ use mathlib.Core.Path.{_≡_, refl, ap, ap₂, sym, _∙_}
 use lib.ListN.{length, getD}
 use lib.Dec.{ltb}
 use borrow.Author.Tests.{lt-ltb, le-ltb}
-use Rattle.octets.specs.Choice.{pick, clash}
+use Rattle.lists.specs.Choice.{pick, clash}
 use Rattle.number.specs.Groups.{numberLimit}
-use Rattle.number.specs.Reading.{Read, got, fault, andThen, below, many, counted, any, seen}
+use Rattle.number.specs.Reading.{Read, got, fault, andThen, below, many, counted, seen}
+use Rattle.lists.specs.Lists.{anyBy}
 use Rattle.number.specs.Reading.Laws.{then-got, then-fault, then-same-at}
 use Rattle.number.specs.Reading.Many.{many-length, counted-got, counted-fault, Came}
 use Rattle.number.specs.declared.Seen.{Seen}
@@ -35,7 +36,7 @@ asks kind lo hi f = pick (ltb kind 3) (leafIn kind lo hi f) (symbolIn lo hi f)
 
 -- in one of the three lists of a rule
 abbrev pub ruleAsks : ℕ → ℕ → ℕ → Rule → Bool
-ruleAsks kind lo hi r = any (any (asks kind lo hi)) (r .parts)
+ruleAsks kind lo hi r = anyBy (anyBy (asks kind lo hi)) (r .parts)
 
 -- ── a term of a rule ──
 abbrev cutWalk : Walk → Seen
@@ -75,17 +76,17 @@ module _ (kind lo hi y : ℕ) where
   abbrev as-fact : Read (List Term) → Seen
   as-fact r = seen (asks kind lo hi) (andThen r (λ ts f. got (fact-of y ts) f))
 
-  fact-leaves : kind < 3 → (r : Read (List Term)) → as-fact r ≡ seen (any (leafAt kind lo hi)) r
+  fact-leaves : kind < 3 → (r : Read (List Term)) → as-fact r ≡ seen (anyBy (leafAt kind lo hi)) r
   fact-leaves l (got ts f) = simp (lt-ltb kind 3 l)
   fact-leaves l fault = refl
 
   fact-symbol :
-      3 ≤ kind → (r : Read (List Term)) {e : ℕ} {b : Bool} → sn.End e b ≡ seen (any (leafAt kind lo hi)) r
+      3 ≤ kind → (r : Read (List Term)) {e : ℕ} {b : Bool} → sn.End e b ≡ seen (anyBy (leafAt kind lo hi)) r
       → as-fact r ≡ sn.End e (not (ltb y lo) && ltb y hi)
   fact-symbol l (got ts f) {e} {b} h = let a : f ≡ e = cc in simp (le-ltb kind 3 l, a)
   fact-symbol l fault h = clash (cc)
 
-  fact-none : (r : Read (List Term)) → sn.Fault ≡ seen (any (leafAt kind lo hi)) r → as-fact r ≡ sn.Fault
+  fact-none : (r : Read (List Term)) → sn.Fault ≡ seen (anyBy (leafAt kind lo hi)) r → as-fact r ≡ sn.Fault
   fact-none (got ts f) h = clash (cc)
   fact-none fault h = refl
 
@@ -94,17 +95,17 @@ module _ (kind lo hi y : ℕ) where
     its-terms = many (ruleTerm s slots) (getD ars y 0) at
 
     pub from-leaves :
-        kind < 3 → {r : Seen} → r ≡ seen (any (leafAt kind lo hi)) its-terms → r ≡ seen (asks kind lo hi) (factFrom s slots ars y at)
+        kind < 3 → {r : Seen} → r ≡ seen (anyBy (leafAt kind lo hi)) its-terms → r ≡ seen (asks kind lo hi) (factFrom s slots ars y at)
     unfolding factFrom
     from-leaves l h = h ∙ sym (fact-leaves l its-terms)
 
     pub from-symbol :
-        3 ≤ kind → {e : ℕ} {b : Bool} → sn.End e b ≡ seen (any (leafAt kind lo hi)) its-terms
+        3 ≤ kind → {e : ℕ} {b : Bool} → sn.End e b ≡ seen (anyBy (leafAt kind lo hi)) its-terms
         → sn.End e (not (ltb y lo) && ltb y hi) ≡ seen (asks kind lo hi) (factFrom s slots ars y at)
     unfolding factFrom
     from-symbol l h = sym (fact-symbol l its-terms h)
 
-    pub from-none : sn.Fault ≡ seen (any (leafAt kind lo hi)) its-terms → sn.Fault ≡ seen (asks kind lo hi) (factFrom s slots ars y at)
+    pub from-none : sn.Fault ≡ seen (anyBy (leafAt kind lo hi)) its-terms → sn.Fault ≡ seen (asks kind lo hi) (factFrom s slots ars y at)
     unfolding factFrom
     from-none h = sym (fact-none its-terms h)
 
@@ -170,11 +171,11 @@ closed (sn.End e b) = pick b sn.Fault (sn.End e false)
 closed sn.Fault = sn.Fault
 
 -- as the code has it
-module _ (n : ℕ) (o : Read (List (List Fact))) {w : Seen} (asked : w ≡ seen (any (any (asks 0 n 2097152))) o) where
-  pub parts-closed : closed w ≡ closed (seen (any (any (asks 0 n numberLimit))) o)
-  parts-closed = ap closed (asked ∙ ap (λ (m : ℕ). seen (any (any (asks 0 n m))) o) limit-is)
+module _ (n : ℕ) (o : Read (List (List Fact))) {w : Seen} (asked : w ≡ seen (anyBy (anyBy (asks 0 n 2097152))) o) where
+  pub parts-closed : closed w ≡ closed (seen (anyBy (anyBy (asks 0 n numberLimit))) o)
+  parts-closed = ap closed (asked ∙ ap (λ (m : ℕ). seen (anyBy (anyBy (asks 0 n m))) o) limit-is)
 
-  pub parts-by : (e : ℕ) (b : Bool) → w ≡ sn.End e b → pick b sn.Fault (sn.End e false) ≡ closed (seen (any (any (asks 0 n numberLimit))) o)
+  pub parts-by : (e : ℕ) (b : Bool) → w ≡ sn.End e b → pick b sn.Fault (sn.End e false) ≡ closed (seen (anyBy (anyBy (asks 0 n numberLimit))) o)
   parts-by e b h = ap closed (sym h) ∙ parts-closed
 
 module _ (s slots ars : List ℕ) (at : ℕ) where
@@ -184,22 +185,22 @@ module _ (s slots ars : List ℕ) (at : ℕ) where
   module _ (kind lo hi : ℕ) where
     parts-seen :
         (vs : List ℕ) (r : Read (List (List Fact)))
-        → seen (ruleAsks kind lo hi) (andThen r (λ ps f. got (rule-of vs ps) f)) ≡ seen (any (any (asks kind lo hi))) r
+        → seen (ruleAsks kind lo hi) (andThen r (λ ps f. got (rule-of vs ps) f)) ≡ seen (anyBy (anyBy (asks kind lo hi))) r
     parts-seen vs (got ps f) = refl
     parts-seen vs fault = refl
 
     layout-from :
         (r : Read (List ℕ)) {n e : ℕ} → andThen r (λ vs e. got (length vs) e) ≡ got n e
-        → seen (ruleAsks kind lo hi) (andThen r lists-from) ≡ seen (any (any (asks kind lo hi))) (many (facts s slots ars) 3 e)
+        → seen (ruleAsks kind lo hi) (andThen r lists-from) ≡ seen (anyBy (anyBy (asks kind lo hi))) (many (facts s slots ars) 3 e)
     layout-from (got vs d) {n} {e} h =
         let b : d ≡ e = cc in
         parts-seen vs (many (facts s slots ars) 3 d)
-        ∙ ap (λ (i : ℕ). seen (any (any (asks kind lo hi))) (many (facts s slots ars) 3 i)) b
+        ∙ ap (λ (i : ℕ). seen (anyBy (anyBy (asks kind lo hi))) (many (facts s slots ars) 3 i)) b
     layout-from fault h = clash (cc)
 
     pub layout-got :
         {n e : ℕ} → sortsAt s at ≡ got n e
-        → seen (ruleAsks kind lo hi) (layout s slots ars at) ≡ seen (any (any (asks kind lo hi))) (many (facts s slots ars) 3 e)
+        → seen (ruleAsks kind lo hi) (layout s slots ars at) ≡ seen (anyBy (anyBy (asks kind lo hi))) (many (facts s slots ars) 3 e)
     unfolding sortsAt layout
     layout-got h = layout-from (counted s 16 (below s 3) at) h
 
@@ -219,24 +220,24 @@ module _ (s slots ars : List ℕ) (at : ℕ) where
   lists-closed :
       (vs : List ℕ) (o : Read (List (List Fact)))
       → ended (andThen (andThen o (λ ps f. got (rule-of vs ps) f)) (λ x f. pick (declared x) (got x f) fault))
-      ≡ closed (seen (any (any (asks 0 (length vs) numberLimit))) o)
-  lists-closed vs (got ps f) = by-hit (any (any (leafIn 0 (length vs) numberLimit)) ps) (rule-of vs ps) f
+      ≡ closed (seen (anyBy (anyBy (asks 0 (length vs) numberLimit))) o)
+  lists-closed vs (got ps f) = by-hit (anyBy (anyBy (leafIn 0 (length vs) numberLimit)) ps) (rule-of vs ps) f
   lists-closed vs fault = refl
 
   closed-from :
       (r : Read (List ℕ)) {n e : ℕ} → andThen r (λ vs e. got (length vs) e) ≡ got n e
       → ended (andThen (andThen r lists-from) (λ x f. pick (declared x) (got x f) fault))
-      ≡ closed (seen (any (any (asks 0 n numberLimit))) (many (facts s slots ars) 3 e))
+      ≡ closed (seen (anyBy (anyBy (asks 0 n numberLimit))) (many (facts s slots ars) 3 e))
   closed-from (got vs c) {n} {e} h =
       let a : length vs ≡ n = cc in
       let k : c ≡ e = cc in
       lists-closed vs (many (facts s slots ars) 3 c)
-      ∙ ap₂ (λ (m i : ℕ). closed (seen (any (any (asks 0 m numberLimit))) (many (facts s slots ars) 3 i))) a k
+      ∙ ap₂ (λ (m i : ℕ). closed (seen (anyBy (anyBy (asks 0 m numberLimit))) (many (facts s slots ars) 3 i))) a k
   closed-from fault h = clash (cc)
 
   pub rule-got :
       {n e : ℕ} → sortsAt s at ≡ got n e
-      → ended (rule s slots ars at) ≡ closed (seen (any (any (asks 0 n numberLimit))) (many (facts s slots ars) 3 e))
+      → ended (rule s slots ars at) ≡ closed (seen (anyBy (anyBy (asks 0 n numberLimit))) (many (facts s slots ars) 3 e))
   unfolding sortsAt rule layout
   rule-got h = closed-from (counted s 16 (below s 3) at) h
 

@@ -2,8 +2,8 @@
 use mathlib.Core.Path.{_≡_, sym, _∙_, ap}
 use mathlib.Core.Bool.{true, false, not}
 use mathlib.Core.List.{List}
-use Rattle.rewriting.specs.Tests.{by-bool, true-false, not-true}
-use Rattle.rewriting.specs.Lists.Laws.{count-ext, count-keep}
+use Rattle.lists.specs.Tests.{by-bool, true-false, not-true}
+use Rattle.lists.specs.Lists.Laws.{count-ext, count-keep}
 use Rattle.rewriting.specs.Facts.{Facts, count, linears, persistents}
 
 module _ (F : Facts) where

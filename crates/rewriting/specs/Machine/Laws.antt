@@ -7,9 +7,9 @@ use mathlib.Core.Option.{Option, none, some, Option·some-ne-none}
 use Prim.Native.Nat.{ℕ, suc, _+_, _-_, _≤_}
 use native.Mathlib.Omega.{arith}
 use lib.Dec.{leb, ltb}
-use Rattle.rewriting.specs.Tests.{by-bool, true-false, not-true, not-split, zero-or-pos, leb-le, leb-gt}
-use Rattle.rewriting.specs.Lists.{_∈_, leaves, scan}
-use Rattle.rewriting.specs.Lists.Laws.{any-mem, any-pos, count-pos}
+use Rattle.lists.specs.Tests.{by-bool, true-false, not-true, not-split, zero-or-pos, leb-le, leb-gt}
+use Rattle.lists.specs.Lists.{_∈_, leaves, scan}
+use Rattle.lists.specs.Lists.Laws.{any-mem, any-pos, count-pos}
 use Rattle.rewriting.specs.Facts.{Facts, count, linears}
 use Rattle.rewriting.specs.Facts.Laws.{count-same, count-linears, count-persistents}
 use Rattle.rewriting.specs.Graph.{Node, nameOf, namesOf}

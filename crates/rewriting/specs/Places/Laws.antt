@@ -9,10 +9,10 @@ use Prim.Native.Nat.{ℕ, zero, suc, _+_, _≤_}
 use native.Mathlib.Omega.{arith}
 use lib.Dec.{eqb}
 use lib.ListN.{getElem?}
-use Rattle.rewriting.specs.Tests.{bit-le, bit-true, at-most-one, and-split, and-both, eqb-eq, eqb-self}
-use Rattle.rewriting.specs.Lists.{_∈_, bit, countBy, nth}
-use Rattle.rewriting.specs.Lists.Laws.{count-append, count-ext, count-pos, count-mem}
-use Rattle.rewriting.specs.Lists.Pairing.{Apart}
+use Rattle.lists.specs.Tests.{bit-le, bit-true, at-most-one, and-split, and-both, eqb-eq, eqb-self}
+use Rattle.lists.specs.Lists.{_∈_, bit, countBy, nth}
+use Rattle.lists.specs.Lists.Laws.{count-append, count-ext, count-pos, count-mem}
+use Rattle.lists.specs.Lists.Pairing.{Apart}
 use Rattle.rewriting.specs.Facts.{Facts, count}
 use Rattle.rewriting.specs.Facts.Laws.{same-right}
 use Rattle.rewriting.specs.Graph.{Node, Place, samePlace, inNode, factAt}

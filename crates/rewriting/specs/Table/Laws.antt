@@ -6,7 +6,7 @@ use mathlib.Core.Option.{Option, none, some}
 use Prim.Native.Nat.{ℕ, suc}
 use native.Mathlib.Omega.{arith}
 use lib.Dec.{ltb}
-use Rattle.rewriting.specs.Tests.{by-bool, leb-le, leb-gt}
+use Rattle.lists.specs.Tests.{by-bool, leb-le, leb-gt}
 use Rattle.rewriting.specs.Table.{Ruling, passed, refused, Row, Least, Nowhere, Absent, Ruled, Says}
 use Rattle.rewriting.specs.Table.{Finds, Pass, orRefuse, rowsThen, rulingThen, rowsOf, rulingOf, andThen, rowsAfter}
 

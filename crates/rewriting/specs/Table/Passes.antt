@@ -6,8 +6,8 @@ use mathlib.Core.Option.{Option, none, some, Option·none-ne-some, Option·some-
 use Prim.Native.Nat.{ℕ, suc, _<_}
 use native.Mathlib.Omega.{arith}
 use lib.Dec.{ltb}
-use Rattle.rewriting.specs.Tests.{true-false, not-split, le-leb, leb-le}
-use Rattle.rewriting.specs.Lists.{firstBad}
+use Rattle.lists.specs.Tests.{true-false, not-split, le-leb, leb-le}
+use Rattle.lists.specs.Lists.{firstBad}
 use Rattle.rewriting.specs.Table.Laws.{finds-iff}
 use Rattle.rewriting.specs.Table.Scans.{Hit, scan-finds}
 use Rattle.rewriting.specs.Table.{row, fixedRow, Fails, Finds, Pass}

@@ -6,7 +6,7 @@ use mathlib.Core.Option.{Option, none, some, Option·none-ne-some, Option·some-
 use Prim.Native.Nat.{ℕ, _<_}
 use lib.Dec.{leb}
 use lib.ListN.{length}
-use Rattle.rewriting.specs.Tests.{true-false}
+use Rattle.lists.specs.Tests.{true-false}
 use Rattle.rewriting.specs.Table.{Ruling, passed, refused, Row, row, fixedRow, Fails, Absent, Ruled, Pass, rulingOf, andThen, rowsAfter}
 use Rattle.rewriting.specs.Table.Laws.{ruled, ruled-and-then}
 use Rattle.rewriting.specs.Table.Passes.{restated, toldPass, testPass, boolPass, lessPass, needPass, leastPass}

@@ -6,8 +6,8 @@ use mathlib.Core.Option.{none, some, Option·none-ne-some, Option·some-injectiv
 use Prim.Native.Nat.{ℕ, zero, suc, _+_, _<_}
 use native.Mathlib.Omega.{arith}
 use lib.ListN.{getElem?, take}
-use Rattle.rewriting.specs.Tests.{by-bool, true-false, not-true}
-use Rattle.rewriting.specs.Lists.{nth, before, leaves, scan}
+use Rattle.lists.specs.Tests.{by-bool, true-false, not-true}
+use Rattle.lists.specs.Lists.{nth, before, leaves, scan}
 use Rattle.rewriting.specs.Table.{Least, Finds}
 use Rattle.rewriting.specs.Table.Laws.{finds-iff}
 

@@ -7,9 +7,9 @@ use mathlib.Core.Option.{Option, none, some, Option·none-ne-some, Option·some-
 use Prim.Native.Nat.{ℕ, suc, _+_, _≤_}
 use native.Mathlib.Omega.{arith}
 use lib.Dec.{leb}
-use Rattle.rewriting.specs.Tests.{by-bool, leb-le, le-leb, leb-sum}
-use Rattle.rewriting.specs.Lists.{_∈_, bit}
-use Rattle.rewriting.specs.Lists.Laws.{count-append, count-mem, count-remove, count-remove-other, first-some, first-passes, first-mem}
+use Rattle.lists.specs.Tests.{by-bool, leb-le, le-leb, leb-sum}
+use Rattle.lists.specs.Lists.{_∈_, bit}
+use Rattle.lists.specs.Lists.Laws.{count-append, count-mem, count-remove, count-remove-other, first-some, first-passes, first-mem}
 use Rattle.rewriting.specs.Facts.{Facts, count}
 use Rattle.rewriting.specs.Facts.Laws.{same-left, not-same, not-same′}
 use Rattle.rewriting.specs.Graph.{Node, Place, Edge}

@@ -1,15 +1,15 @@
 -- The tests of a rule as the code makes them, the least of several, and the judgement of a file.
-use Prim.Native.Nat.{ℕ, zero, suc, _+_, _≤_, _<_}
+use Prim.Native.Nat.{ℕ, _+_, _≤_, _<_}
 use mathlib.Core.List.{List}
-use mathlib.Core.Bool.{Bool, true, false, _||_, _&&_, not}
-use mathlib.Core.Path.{_≡_, refl, ap, ap₂, sym, _∙_, subst}
+use mathlib.Core.Bool.{Bool, false, _||_, not}
+use mathlib.Core.Path.{_≡_, ap, ap₂, sym, _∙_, subst}
 use native.Mathlib.Omega.{arith}
-use native.Mathlib.Numerals.{add-one}
 use lib.ListN.{length, getD, take}
 use lib.Dec.{eqb}
 use borrow.Author.Tests.{ne-eqb}
-use Rattle.octets.specs.Choice.{pick, by-size, clash}
-use Rattle.number.specs.Reading.{Read, got, fault, any, seen}
+use Rattle.lists.specs.Choice.{clash}
+use Rattle.number.specs.Reading.{Read, got, fault, seen}
+use Rattle.lists.specs.Lists.{anyBy}
 use Rattle.number.specs.declared.Seen.{Seen}
 use Rattle.number.specs.declared.Seen.the-variants as sn
 use Rattle.protocol.specs.Protocol.{Rule, part, noRule, premises, conclusions, facts, layout, rule, protocol}
@@ -21,7 +21,8 @@ use Rattle.protocol.specs.declared.index.Index.{Index}
 use Rattle.protocol.specs.declared.index.Index.the-variants as ix
 use Rattle.rules.specs.declared.fit.Judged.{Judged}
 use Rattle.rules.specs.declared.fit.Judged.the-variants as jd
-use Rattle.rules.specs.Fit.{p1, p4, bound, allBelow, fits, least, Verdict, sound, broken, malformed, outcome, judged}
+use Rattle.rules.specs.Fit.{p1, p4, bound, fits, Verdict, sound, broken, malformed, outcome, judged}
+use Rattle.lists.specs.Below.{least, allBelow}
 
 -- ── what code has of a test ──
 abbrev pub hitOf : Seen → Bool
@@ -39,9 +40,9 @@ module _ (s slots ars : List ℕ) (at : ℕ) where
   -- the answer on list w of the rule
   pub list-asked :
       (w kind lo hi l : ℕ) {o : Seen} {b : Bool} → w < 3 → b ≡ hitOf o → l ≡ listPlace s slots ars at w
-      → o ≡ seen (any (asks kind lo hi)) (facts s slots ars l) → OfRule s slots ars at (λ r. b ≡ any (asks kind lo hi) (part w r))
+      → o ≡ seen (anyBy (asks kind lo hi)) (facts s slots ars l) → OfRule s slots ars at (λ r. b ≡ anyBy (asks kind lo hi) (part w r))
   list-asked w kind lo hi l {o} {b} small hb hl ho r h =
-      hb ∙ hit-is (any (asks kind lo hi)) (facts s slots ars l) ho
+      hb ∙ hit-is (anyBy (asks kind lo hi)) (facts s slots ars l) ho
       (ap (facts s slots ars) hl ∙ list-law s slots ars at r h w small .reads)
 
   -- the answer on all of the rule
@@ -57,8 +58,8 @@ module _ (s slots ars : List ℕ) (at : ℕ) where
   -- a variable that the code finds bound
   pub bound-is :
       (v m : ℕ) (b a c : Bool) → b ≡ eqb m 2 → m ≡ valueOf (sortOf s at v)
-      → OfRule s slots ars at (λ r. a ≡ any (asks 0 v (v + 1)) (premises r))
-      → OfRule s slots ars at (λ r. c ≡ any (asks 0 v (v + 1)) (conclusions r))
+      → OfRule s slots ars at (λ r. a ≡ anyBy (asks 0 v (v + 1)) (premises r))
+      → OfRule s slots ars at (λ r. c ≡ anyBy (asks 0 v (v + 1)) (conclusions r))
       → OfRule s slots ars at (λ r. v < length (r .sorts) → (b || (a || not c)) ≡ bound r v)
   bound-is v m b a c hb hm ha hc r h l =
       ap₂ _||_ (hb ∙ ap (λ (k : ℕ). eqb k 2) (hm ∙ sort-law s slots ars at r h v l))
@@ -75,63 +76,6 @@ module _ (s slots ars : List ℕ) (at : ℕ) where
   -- no rule there
   pub none-there : (P : Rule → Type 0) → sortsAt s at ≡ fault → OfRule s slots ars at P
   none-there P n r h = let k = layout-fault s slots ars at n in let g = h .reads in clash (cc)
-
--- ── all numbers below n, and the least ──
-module _ (q : ℕ → Bool) where
-  pub all-none : allBelow q 0 ≡ true
-  unfolding allBelow
-  all-none = refl
-
-  pub all-more : (j : ℕ) → allBelow q j ≡ true → q j ≡ true → allBelow q (j + 1) ≡ true
-  unfolding allBelow
-  all-more j h k = rw add-one (ap₂ _&&_ h k)
-
-  and-false : (b : Bool) → (b && false) ≡ false
-  and-false true = refl
-  and-false false = refl
-
-  pub all-stop : (n j : ℕ) → q j ≡ false → j < n → allBelow q n ≡ false
-  unfolding allBelow
-  all-stop zero j h l = absurd (omega arith)
-  all-stop (suc n) j h l =
-      by-size j n
-      (λ k. ap (λ (b : Bool). b && q n) (all-stop n j h k))
-      (λ k. let e : n ≡ j = omega arith in ap (λ (b : Bool). allBelow q n && b) (ap q e ∙ h) ∙ and-false (allBelow q n))
-
-  pub least-none : least q 0 ≡ 0
-  unfolding least
-  least-none = refl
-
-  pub least-more : (j : ℕ) → least q j ≡ 0 → q j ≡ false → least q (j + 1) ≡ 0
-  unfolding least
-  least-more j h k = rw add-one (ap₂ (λ (m : ℕ) (b : Bool). pick (eqb m 0) (pick b (suc j) 0) m) h k)
-
-  stays : (n j : ℕ) → least q n ≡ suc j → least q (suc n) ≡ suc j
-  unfolding least
-  stays n j h =
-      ap (λ (m : ℕ). pick (eqb m 0) (pick (q n) (suc n) 0) m) h ∙ simp (ne-eqb (suc j) 0 (λ e. omega arith))
-
-  hit-here : (n j : ℕ) → least q j ≡ 0 → q j ≡ true → n ≡ j → least q (suc n) ≡ j + 1
-  unfolding least
-  hit-here n j h k e =
-      let z : suc n ≡ j + 1 = omega arith in
-      ap₂ (λ (m : ℕ) (b : Bool). pick (eqb m 0) (pick b (suc n) 0) m) (ap (least q) e ∙ h) (ap q e ∙ k) ∙ z
-
-  pub least-hit : (n j : ℕ) → least q j ≡ 0 → q j ≡ true → j < n → least q n ≡ j + 1
-  unfolding least
-  least-hit zero j h k l = absurd (omega arith)
-  least-hit (suc n) j h k l =
-      by-size j n
-      (λ b. rw add-one (stays n j (rw add-one at (least-hit n j h k b))))
-      (λ b. hit-here n j h k (omega arith))
-
-pub false-of : (b : Bool) → not b ≡ true → b ≡ false
-false-of true h = clash (cc)
-false-of false h = refl
-
-pub true-of : (b : Bool) → not b ≡ false → b ≡ true
-true-of true h = refl
-true-of false h = clash (cc)
 
 -- ── the rules of a file ──
 -- whether the rule of number k breaks a condition

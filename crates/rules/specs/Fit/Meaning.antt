@@ -1,25 +1,18 @@
 -- P1 to P4 as statements: which names, symbols and variables stand where. The tests decide just these.
 use Prim.Native.Nat.{ℕ}
-use mathlib.Core.List.{List, _∷_}
+use mathlib.Core.List.{List}
 use mathlib.Core.Logic.{_⊎_}
 use mathlib.Core.Path.{_≡_}
 use lib.ListN.{getD}
+use Rattle.lists.specs.Some.{Some}
 use Rattle.term.specs.Term.{Kind, variable, fresh, Term, leaf, app, Terms, _&_}
 use Rattle.protocol.specs.Protocol.{Fact, Rule, premises, conclusions, frSymbol, inSymbol, outSymbol, kSymbol}
--- one of several, and the test for it
-pub mod Several
 -- leaves and symbols, and the tests for them
 pub mod Leaves
 -- the tests decide P1 to P4
 pub mod Laws
 -- what a verdict says of a file's rules
 pub mod Judged
-
-module _ {A : Type 0} (P : A → Type 0) where
-  -- one of these has the property
-  pub data Some : List A → Type 0 where
-    here : {x : A} {xs : List A} → P x → Some (x ∷ xs)
-    later : {x : A} {xs : List A} → Some xs → Some (x ∷ xs)
 
 -- the variable or name of a kind and number stands in a term: "plain occurrence, below dec or inv too"
 module _ (k : Kind) (n : ℕ) where

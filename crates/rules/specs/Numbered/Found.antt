@@ -7,11 +7,11 @@ use native.Mathlib.Omega.{arith}
 use lib.ListN.{length, getD, take}
 use lib.Dec.{ltb}
 use borrow.Author.Tests.{lt-ltb, le-ltb}
-use Rattle.octets.specs.Choice.{pick, by-size}
+use Rattle.lists.specs.Choice.{pick, by-size}
 use Rattle.octets.specs.Head.{Bytes}
 use Rattle.octets.specs.Splice.{splice}
 use Rattle.octets.specs.Splice.Laws.{take-past, length-splice}
-use Rattle.number.specs.Layout.{All}
+use Rattle.lists.specs.All.{All}
 use Rattle.term.specs.Arity.{arity, slots, undeclared}
 use Rattle.term.specs.Arity.Laws.{slot-inside, arity-none, arity-some}
 use Rattle.protocol.specs.Protocol.{Rule, Protocol, noRule, factArities, encodeRule, rule}

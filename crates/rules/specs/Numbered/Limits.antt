@@ -7,9 +7,9 @@ use mathlib.Core.Path.{_≡_, refl, ap, sym, _∙_, subst}
 use native.Mathlib.Omega.{arith}
 use lib.ListN.{length, getD, replicate, length-map, length-replicate}
 use lib.Dec.{eqb}
-use Rattle.octets.specs.Choice.{pick, cut-lt, cut-eq, clash}
+use Rattle.lists.specs.Choice.{pick, cut-lt, cut-eq, clash}
 use Rattle.number.specs.Groups.{numberLimit}
-use Rattle.number.specs.Layout.{All}
+use Rattle.lists.specs.All.{All}
 use Rattle.term.specs.Term.{Term, leaf, app, variable, count, symbolss, Formeds, InRanges}
 use Rattle.term.specs.Arity.{arity, slots, builtin, padded, undeclared}
 use Rattle.term.specs.Reader.{terms}

@@ -4,7 +4,7 @@ use mathlib.Core.List.{List}
 use mathlib.Core.Option.{Option, none, some}
 use mathlib.Core.Path.{_≡_, refl, ap, sym, _∙_, subst}
 use lib.ListN.{length}
-use Rattle.rewriting.specs.Lists.{firstBad}
+use Rattle.lists.specs.Lists.{firstBad}
 use Rattle.rewriting.specs.Table.{Ruling, passed, refused, orRefuse}
 use Rattle.rewriting.specs.Writer.{firstNameTwice}
 use Rattle.octets.specs.Head.{Bytes}

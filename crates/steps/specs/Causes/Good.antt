@@ -4,7 +4,7 @@ use mathlib.Core.List.{List}
 use mathlib.Core.Path.{_≡_, refl, ap, sym, _∙_, subst}
 use lib.ListN.{length}
 use Rattle.octets.specs.Head.{Bytes}
-use Rattle.number.specs.Layout.{All}
+use Rattle.lists.specs.All.{All}
 use Rattle.rewriting.specs.Table.{Ruling, passed, refused, Ruled}
 use Rattle.rewriting.specs.Table.Laws.{refused-passed, passed-inj, passed-good}
 use Rattle.protocol.specs.Protocol.{Protocol}

@@ -4,9 +4,9 @@ use mathlib.Core.List.{List, [], _∷_, _++_}
 use mathlib.Core.Logic.{inl, inr}
 use mathlib.Core.Path.{_≡_, refl, ap, sym, _∙_}
 use native.Mathlib.Omega.{arith}
-use Rattle.octets.specs.Choice.{clash}
+use Rattle.lists.specs.Choice.{clash}
 use Rattle.octets.specs.Head.{Bytes}
-use Rattle.number.specs.Layout.{All}
+use Rattle.lists.specs.All.{All}
 use Rattle.rewriting.specs.Table.{Ruling, Row, row, Ruled}
 use Rattle.rewriting.specs.Table.Laws.{ruled, ruled-then, ruled-and-then}
 use Rattle.rewriting.specs.Causes.{NameTwice}

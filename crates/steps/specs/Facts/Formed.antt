@@ -8,22 +8,22 @@ use mathlib.Core.Path.{_≡_, refl, ap, sym, _∙_, subst}
 use native.Mathlib.Omega.{arith}
 use borrow.Author.Tests.{lt-ltb, le-ltb}
 use lib.ListN.{length, getD, length-map}
-use Rattle.octets.specs.Choice.{by-size}
+use Rattle.lists.specs.Choice.{by-size}
 use Rattle.number.specs.Groups.{numberLimit}
-use Rattle.number.specs.Reading.{any}
-use Rattle.number.specs.Layout.{All}
+use Rattle.lists.specs.Lists.{anyBy}
+use Rattle.lists.specs.All.{All}
 use Rattle.term.specs.Term.{variable, public, fresh, Term, leaf, app, Terms, nil, _&_, Formed, InRange, InRanges}
 use Rattle.term.specs.Arity.{arity, slots}
 use Rattle.term.specs.Reader.Exact.{Good}
 use Rattle.term.specs.Walk.{hits, holds, holdss}
-use Rattle.rewriting.specs.Tests.{true-false, or-split, not-split}
+use Rattle.lists.specs.Tests.{true-false, or-split, not-split}
 use Rattle.message.specs.Substitution.{sub, Occurs, Occurss, Ground}
 use Rattle.message.specs.Substitution.Laws.{sub-formed, sub-ground}
 use Rattle.message.specs.Theorems.{declared}
 use Rattle.protocol.specs.Protocol.{Fact, Rule, Protocol, part, factArities, leafIn}
 use Rattle.rules.specs.Numbered.Limits.{rule-within}
 use Rattle.protocol.specs.Protocol.Limits.{TermWithin, FactWithin, FactsWithin, RuleWithin, Within}
-use Rattle.steps.specs.Lists.{all-map, all-both, all-at, map-all, none-all}
+use Rattle.lists.specs.All.Laws.{all-map, all-both, all-at, map-all, none-all}
 use Rattle.steps.specs.Nodes.{Node, NodeWithin}
 use Rattle.steps.specs.Facts.{valueAt, filledFact, filledPart, factsOf, SameFact, sameFact}
 use Rattle.steps.specs.Facts.Laws.{fact-decides}
@@ -120,9 +120,9 @@ module _ (p : Protocol) (fit : Within p) where
       (λ f h. fact-ground (x .values) (length (b .is .sorts)) g (omega (arith, b .takes)) f (h .0) (h .1)) (part w (b .is))
       (all-both (Fitting p) (λ f. leafIn 0 (length (b .is .sorts)) numberLimit f ≡ false) (part w (b .is)) (part-within p (b .is) fits w)
       (all-at (All (λ f. leafIn 0 (length (b .is .sorts)) numberLimit f ≡ false)) [] tt (b .is .parts)
-      (all-map (λ fs. any (leafIn 0 (length (b .is .sorts)) numberLimit) fs ≡ false) (All (λ f. leafIn 0 (length (b .is .sorts)) numberLimit f ≡ false))
+      (all-map (λ fs. anyBy (leafIn 0 (length (b .is .sorts)) numberLimit) fs ≡ false) (All (λ f. leafIn 0 (length (b .is .sorts)) numberLimit f ≡ false))
       (λ fs h. none-all (leafIn 0 (length (b .is .sorts)) numberLimit) fs h)
-      (b .is .parts) (none-all (any (leafIn 0 (length (b .is .sorts)) numberLimit)) (b .is .parts) (not-split _ (fits .bound)))) w)))
+      (b .is .parts) (none-all (anyBy (leafIn 0 (length (b .is .sorts)) numberLimit)) (b .is .parts) (not-split _ (fits .bound)))) w)))
     where
       fits : RuleWithin (slots (p .functions)) (factArities (p .symbols)) (b .is)
       fits = rule-within p fit (x .rule) (b .is) (b .known)

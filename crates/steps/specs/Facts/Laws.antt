@@ -7,14 +7,14 @@ use mathlib.Core.Option.{Option}
 use mathlib.Core.Path.{_≡_, refl, ap, ap₂, sym, _∙_}
 use lib.ListN.{getD}
 use lib.Dec.{eqb}
-use Rattle.octets.specs.Choice.{clash}
+use Rattle.lists.specs.Choice.{clash}
 use Rattle.octets.specs.Compare.{compareBytes, isEqual}
 use Rattle.octets.specs.Compare.Laws.{compare-refl, compare-same}
 use Rattle.octets.specs.declared.Order.{Order}
 use Rattle.octets.specs.declared.Order.the-variants.{Less, Equal, Greater}
-use Rattle.number.specs.Layout.{All}
+use Rattle.lists.specs.All.{All}
 use Rattle.term.specs.Term.{Term, encode, Formed}
-use Rattle.rewriting.specs.Tests.{and-split, and-both, eqb-eq, eqb-self}
+use Rattle.lists.specs.Tests.{and-split, and-both, eqb-eq, eqb-self}
 use Rattle.message.specs.Equations.{Same}
 use Rattle.message.specs.Rules.{FitArities}
 use Rattle.message.specs.Canon.{canon}

@@ -9,10 +9,10 @@ use lib.Dec.{eqb, leb}
 use lib.ListN.{length, getD, take, drop, set, drop-of-length-le}
 use lib.Seq.{drop-cons, take-suc, getD-set-same, getD-set-other}
 use borrow.Author.Tests.{eqb-true, eqb-false, eq-eqb, ne-eqb}
-use Rattle.octets.specs.Choice.{by-order}
-use Rattle.rewriting.specs.Lists.{countBy}
-use Rattle.rewriting.specs.Lists.Laws.{count-append}
-use Rattle.rewriting.specs.Tests.{leb-sum}
+use Rattle.lists.specs.Choice.{by-order}
+use Rattle.lists.specs.Lists.{countBy}
+use Rattle.lists.specs.Lists.Laws.{count-append}
+use Rattle.lists.specs.Tests.{leb-sum}
 use Rattle.rewriting.specs.Graph.{nameOf}
 use Rattle.rewriting.specs.Machine.{madeAlready}
 use Rattle.rewriting.specs.Writer.{nameTwiceFrom, firstNameTwice}

@@ -8,9 +8,9 @@ use mathlib.Core.Path.{_≡_, refl, ap, sym, _∙_, subst}
 use native.Mathlib.Omega.{arith}
 use borrow.Author.Tests.{eq-eqb}
 use lib.ListN.{length, getElem?, take}
-use Rattle.octets.specs.Choice.{pick}
+use Rattle.lists.specs.Choice.{pick}
 use Rattle.term.specs.Term.{fresh, Term, leaf}
-use Rattle.rewriting.specs.Lists.{_∈_, nth}
+use Rattle.lists.specs.Lists.{_∈_, nth}
 use Rattle.rewriting.specs.Graph.{nameOf, namesOf}
 use Rattle.rewriting.specs.Graph as graph
 use Rattle.rewriting.specs.Causes.{NameTwice}

@@ -8,13 +8,14 @@ use mathlib.Core.Path.{_≡_, refl, ap, ap₂, sym, _∙_, subst}
 use native.Mathlib.Omega.{arith}
 use lib.ListN.{length, drop, drop-of-length-le}
 use borrow.Author.Tests.{eq-eqb}
-use Rattle.octets.specs.Choice.{pick, cut, cut-eq, clash}
+use Rattle.lists.specs.Choice.{pick, cut, cut-eq, clash}
 use Rattle.octets.specs.Head.{Bytes, Stands}
 use Rattle.number.specs.Groups.{groups, numberLimit}
 use Rattle.number.specs.Reading.{Read, got, fault, andThen, readNumber, below, many, counted}
 use Rattle.number.specs.Reading.Laws.{cut-got, then-got}
 use Rattle.number.specs.Reading.Numbers.{read-back, read-form}
-use Rattle.number.specs.Layout.{flat, All, Exact}
+use Rattle.number.specs.Layout.{flat, Exact}
+use Rattle.lists.specs.All.{All}
 use Rattle.number.specs.Layout.Laws.{many-exact, then-exact, counted-exact}
 use Rattle.term.specs.Term.{Term, encode}
 use Rattle.term.specs.Arity.{slots}

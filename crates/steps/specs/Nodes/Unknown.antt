@@ -6,7 +6,7 @@ use mathlib.Core.Logic.{_↔_}
 use mathlib.Core.Option.{Option, none, some}
 use mathlib.Core.Path.{_≡_, refl, ap, sym, _∙_}
 use native.Mathlib.Omega.{arith}
-use Rattle.octets.specs.Choice.{pick, cut, clash}
+use Rattle.lists.specs.Choice.{pick, cut, clash}
 use Rattle.number.specs.Reading.{Read, got, fault, readNumber, below, many}
 use Rattle.number.specs.Reading.Laws.{cut-got}
 use Rattle.number.specs.Reading.Many.{many-cons}

@@ -8,7 +8,7 @@ use native.Mathlib.Omega.{arith}
 use lib.ListN.{length}
 use lib.Dec.{ltb, eqb}
 use borrow.Author.Tests.{lt-ltb, le-ltb, eq-eqb, ne-eqb}
-use Rattle.octets.specs.Choice.{pick, clash}
+use Rattle.lists.specs.Choice.{pick, clash}
 use Rattle.octets.specs.Head.{Bytes}
 use Rattle.number.specs.Groups.{numberLimit}
 use Rattle.number.specs.Reading.{got, many}
@@ -24,7 +24,7 @@ use Rattle.term.specs.declared.Symbol.{Symbol}
 use Rattle.term.specs.declared.Symbol.the-variants as sy
 use Rattle.term.specs.declared.Walk.{Walk}
 use Rattle.term.specs.declared.Walk.the-variants as wk
-use Rattle.rewriting.specs.Tests.{by-bool, true-false, not-true}
+use Rattle.lists.specs.Tests.{by-bool, true-false, not-true}
 use Rattle.canonical.specs.Builtins.{Builtins, group}
 use Rattle.canonical.specs.Contract.{MessageAt, IsCanonical}
 use Rattle.steps.specs.declared.values.Name.{Name}

@@ -8,7 +8,7 @@ use mathlib.Core.Path.{_≡_, ap, sym, _∙_, subst}
 use native.Mathlib.Omega.{arith}
 use lib.ListN.{length, getD, take, length-drop, List·getD-eq-default}
 use lib.Seq.{getD-take, length-take-le}
-use Rattle.octets.specs.Choice.{by-size}
+use Rattle.lists.specs.Choice.{by-size}
 use Rattle.octets.specs.Head.{Bytes, stands-within}
 use Rattle.number.specs.Reading.{got, many}
 use Rattle.number.specs.Reading.Laws.{cut-got}
@@ -29,7 +29,7 @@ use Rattle.rules.specs.declared.numbered.Found.the-variants as fd
 use Rattle.steps.specs.Index.{IndexOf}
 use Rattle.steps.specs.Nodes.{Node}
 use Rattle.steps.specs.Nodes.Code.{part-rule}
-use Rattle.steps.specs.Lists.{same-inside}
+use Rattle.lists.specs.All.Laws.{same-inside}
 use Rattle.steps.specs.Facts.{valueAt}
 use Rattle.steps.specs.Values.Tests.{ruleOk, ofRule, nodeTermsOk}
 use Rattle.steps.specs.Values.Weights.{sizeIn}

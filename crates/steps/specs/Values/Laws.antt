@@ -9,14 +9,14 @@ use native.Mathlib.Omega.{arith}
 use lib.ListN.{getElem?}
 use lib.Dec.{ltb}
 use borrow.Author.Tests.{ltb-true, lt-ltb, ltb-false, le-ltb}
-use Rattle.octets.specs.Choice.{clash}
+use Rattle.lists.specs.Choice.{clash}
 use Rattle.number.specs.Groups.{numberLimit}
 use Rattle.term.specs.Term.{variable, public, fresh, Term, leaf, app, encode, symbols, Formed}
 use Rattle.term.specs.Arity.{arity}
 use Rattle.term.specs.Reader.Exact.{Good}
 use Rattle.term.specs.Walk.{holds}
-use Rattle.rewriting.specs.Tests.{by-bool, not-split, and-split, and-both}
-use Rattle.rewriting.specs.Lists.Laws.{all-fails, fails-all}
+use Rattle.lists.specs.Tests.{by-bool, not-split, and-split, and-both}
+use Rattle.lists.specs.Lists.Laws.{all-fails, fails-all}
 use Rattle.message.specs.Canonical.{Canonical}
 use Rattle.message.specs.Substitution.Decided.{none-ground, ground-none}
 use Rattle.message.specs.Rules.{FitArities}

@@ -7,7 +7,7 @@ use mathlib.Core.Path.{_≡_, refl, ap, ap₂, sym, _∙_, subst}
 use native.Mathlib.Omega.{arith}
 use lib.ListN.{length, getD, drop, drop-of-length-le}
 use lib.Seq.{drop-cons}
-use Rattle.octets.specs.Choice.{clash}
+use Rattle.lists.specs.Choice.{clash}
 use Rattle.number.specs.Reading.{Read, got, fault, andThen, readNumber, many}
 use Rattle.number.specs.Reading.Laws.{cut-got}
 use Rattle.number.specs.Reading.Many.{many-length}

@@ -7,7 +7,7 @@ use native.Mathlib.Omega.{arith}
 use lib.ListN.{length, getD, drop, drop-of-length-le}
 use lib.Seq.{drop-cons}
 use lib.Dec.{ltb}
-use Rattle.octets.specs.Choice.{cut, clash}
+use Rattle.lists.specs.Choice.{cut, clash}
 use Rattle.octets.specs.Head.{Bytes}
 use Rattle.number.specs.Reading.{got, below}
 use Rattle.number.specs.Reading.Laws.{cut-got}
@@ -18,7 +18,7 @@ use Rattle.term.specs.Reader.{term}
 use Rattle.protocol.specs.Protocol.{Fact, Rule, noFact, ruleTerm, fact, facts, layout, rule}
 use Rattle.protocol.specs.Places.{Here, listPlace, factPlace, termPlace, valueOf}
 use Rattle.protocol.specs.Places.Laws.{rule-layout, rule-parts, list-law, count-law, fact-law, symbol-law, terms-law, term-law, fact-fields}
-use Rattle.rewriting.specs.Lists.{allBy}
+use Rattle.lists.specs.Lists.{allBy}
 use Rattle.steps.specs.Facts.{valueAt}
 use Rattle.steps.specs.Values.Tests.{termOk, factOk, ruleOk}
 use Rattle.steps.specs.Values.Weights.{weigh, weighs, weigh-filled}

@@ -7,19 +7,19 @@ use mathlib.Core.Option.{Option, none, some, Option·some-injective}
 use mathlib.Core.Path.{_≡_, refl, ap, sym, _∙_, subst}
 use native.Mathlib.Omega.{arith}
 use lib.ListN.{getElem?}
-use Rattle.octets.specs.Choice.{by-size}
-use Rattle.number.specs.Layout.{All}
+use Rattle.lists.specs.Choice.{by-size}
+use Rattle.lists.specs.All.{All}
 use Rattle.term.specs.Term.{Term}
 use Rattle.term.specs.Arity.{slots}
 use Rattle.term.specs.Reader.Exact.{Good}
-use Rattle.rewriting.specs.Tests.{by-bool, true-false, not-true}
-use Rattle.rewriting.specs.Lists.{nth}
+use Rattle.lists.specs.Tests.{by-bool, true-false, not-true}
+use Rattle.lists.specs.Lists.{nth}
 use Rattle.rewriting.specs.Table.{Fails, Absent, Pass}
 use Rattle.rewriting.specs.Table.Passes.{restated, leastPass}
 use Rattle.message.specs.Theorems.{declared}
 use Rattle.protocol.specs.Protocol.{Rule, Protocol}
 use Rattle.rules.specs.Numbered.{ruleOf}
-use Rattle.steps.specs.Lists.{all-nth, nth-all}
+use Rattle.lists.specs.All.Laws.{all-nth, nth-all}
 use Rattle.steps.specs.Nodes.{Node, NodeWithin}
 use Rattle.steps.specs.Values.{ValueAt, TermOf, mostFilledIn, filledSymbols, NodeRight, WrongValue, TermLong, valueRows}
 use Rattle.steps.specs.Values.Tests.{valueOk, valuesOk, ruleOk, ofRule, nodeValuesOk, nodeTermsOk}

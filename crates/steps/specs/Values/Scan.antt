@@ -10,7 +10,7 @@ use lib.ListN.{length, getD, drop, drop-of-length-le}
 use lib.Seq.{drop-cons}
 use Rattle.protocol.specs.Protocol.{Protocol}
 use Rattle.protocol.specs.Index.{Placed}
-use Rattle.rewriting.specs.Lists.{firstBad}
+use Rattle.lists.specs.Lists.{firstBad}
 use Rattle.steps.specs.Index.{IndexOf}
 use Rattle.steps.specs.Nodes.{Node, node}
 use Rattle.steps.specs.Nodes.Code.{noNode}

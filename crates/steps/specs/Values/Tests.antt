@@ -8,7 +8,7 @@ use Rattle.octets.specs.Compare.{compareBytes, isEqual}
 use Rattle.number.specs.Groups.{numberLimit}
 use Rattle.term.specs.Term.{variable, public, fresh, Term, leaf, app, encode, symbols}
 use Rattle.term.specs.Walk.{holds}
-use Rattle.rewriting.specs.Lists.{allBy}
+use Rattle.lists.specs.Lists.{allBy}
 use Rattle.message.specs.Canon.{canon}
 use Rattle.protocol.specs.Protocol.{Fact, Rule, Protocol}
 use Rattle.rules.specs.Numbered.{ruleOf}

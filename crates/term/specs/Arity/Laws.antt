@@ -8,7 +8,7 @@ use lib.ListN.{length, getD, List·getD-append, length-append, List·getD-eq-def
 use lib.Seq.{getD-append-add}
 use lib.Dec.{ltb}
 use borrow.Author.Tests.{lt-ltb, le-ltb, eq-eqb, ne-eqb}
-use Rattle.octets.specs.Choice.{cut-lt, pick-same, clash}
+use Rattle.lists.specs.Choice.{cut-lt, pick-same, clash}
 use Rattle.term.specs.Arity.{undeclared, arity, builtin, padded, slots}
 
 -- a slot in the table, and past its end

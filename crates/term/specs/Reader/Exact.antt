@@ -5,14 +5,15 @@ use mathlib.Core.Option.{Option, some}
 use mathlib.Core.Path.{_≡_, refl, ap, ap₂, sym, _∙_, subst, subst₂}
 use native.Mathlib.Omega.{arith}
 use lib.ListN.{length, drop, length-append}
-use Rattle.octets.specs.Choice.{clash}
+use Rattle.lists.specs.Choice.{clash}
 use Rattle.octets.specs.Head.{Bytes, Stands, stands-join, behind}
 use Rattle.number.specs.Groups.{groups, numberLimit}
 use Rattle.number.specs.Reading.{Read, got, many}
 use Rattle.number.specs.Reading.Laws.{cut-got, then-got}
 use Rattle.number.specs.Reading.Many.{many-cons}
 use Rattle.number.specs.Reading.Numbers.{read-back, read-form}
-use Rattle.number.specs.Layout.{flat, All, Exact}
+use Rattle.number.specs.Layout.{flat, Exact}
+use Rattle.lists.specs.All.{All}
 use Rattle.number.specs.Layout.Laws.{many-form}
 use Rattle.term.specs.declared.Symbol.{Symbol}
 use Rattle.term.specs.declared.Symbol.the-variants as sy

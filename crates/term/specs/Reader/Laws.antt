@@ -6,7 +6,7 @@ use mathlib.Core.Path.{_≡_, refl, ap, ap₂, sym, _∙_}
 use native.Mathlib.Omega.{arith}
 use lib.ListN.{length}
 use borrow.Author.Tests.{lt-ltb, le-ltb}
-use Rattle.octets.specs.Choice.{cut-lt, clash}
+use Rattle.lists.specs.Choice.{cut-lt, clash}
 use Rattle.octets.specs.Head.{Bytes, stands-within}
 use Rattle.number.specs.Groups.Laws.{groups-some}
 use Rattle.number.specs.Reading.{Read, got, fault, andThen, readNumber, many}

@@ -6,7 +6,7 @@ use mathlib.Core.Logic.{_↔_}
 use mathlib.Core.Path.{_≡_, refl, ap, ap₂, sym, _∙_}
 use native.Mathlib.Omega.{arith}
 use lib.ListN.{take, drop}
-use Rattle.octets.specs.Choice.{clash}
+use Rattle.lists.specs.Choice.{clash}
 use Rattle.octets.specs.Head.{Bytes, Stands, stands-part, stands-within}
 use Rattle.number.specs.Reading.{Read, got, fault}
 use Rattle.term.specs.declared.Part.the-variants as part

@@ -5,9 +5,10 @@ use mathlib.Core.List.{List, [], _∷_, _++_}
 use mathlib.Core.Bool.{Bool, false, _||_, or-assoc, or-false}
 use mathlib.Core.Path.{_≡_, refl, ap, ap₂, sym, _∙_}
 use native.Mathlib.Omega.{arith}
-use Rattle.octets.specs.Choice.{clash}
+use Rattle.lists.specs.Choice.{clash}
 use Rattle.octets.specs.Head.{Bytes}
-use Rattle.number.specs.Reading.{Read, got, fault, andThen, many, any}
+use Rattle.number.specs.Reading.{Read, got, fault, andThen, many}
+use Rattle.lists.specs.Lists.{anyBy}
 use Rattle.number.specs.Reading.Laws.{then-then}
 use Rattle.number.specs.Reading.Many.{many-split}
 use Rattle.term.specs.declared.Symbol.{Symbol}
@@ -42,17 +43,17 @@ module _ (kind lo hi : ℕ) where
   stepOf (sy.Op t k e) = st.Takes k false e
   stepOf sy.Fault = st.Fault
 
-  holdss-any : (ts : List Term) → holdss (terms ts) kind lo hi ≡ any test ts
+  holdss-any : (ts : List Term) → holdss (terms ts) kind lo hi ≡ anyBy test ts
   holdss-any [] = refl
   holdss-any (t ∷ ts) = ap (λ (b : Bool). test t || b) (holdss-any ts)
 
-  any-append : (ts us : List Term) → any test (ts ++ us) ≡ (any test ts || any test us)
+  any-append : (ts us : List Term) → anyBy test (ts ++ us) ≡ (anyBy test ts || anyBy test us)
   any-append [] us = refl
-  any-append (t ∷ ts) us = ap (λ (b : Bool). test t || b) (any-append ts us) ∙ sym (or-assoc (test t) (any test ts) (any test us))
+  any-append (t ∷ ts) us = ap (λ (b : Bool). test t || b) (any-append ts us) ∙ sym (or-assoc (test t) (anyBy test ts) (anyBy test us))
 
   -- `count` symbols and `found` before, these terms behind
   abbrev pub tally : ℕ → Bool → Read (List Term) → Walk
-  tally count found (got ts e) = wk.End e (count + total ts) (found || any test ts)
+  tally count found (got ts e) = wk.End e (count + total ts) (found || anyBy test ts)
   tally count found fault = wk.Fault
 
   pub tally-begins : (r : Read (List Term)) → tally 0 false r ≡ walks kind lo hi r
@@ -64,7 +65,7 @@ module _ (kind lo hi : ℕ) where
       → tally count found (andThen r (λ xs f. got (leaf k n ∷ xs) f)) ≡ tally (count + 1) (found || hits kind lo hi t n) r
   leaf-turn count found k t n h (got ts e) =
       ap₂ (wk.End e) (omega arith)
-      (ap (λ (x : ℕ). found || (hits kind lo hi x n || any test ts)) h ∙ sym (or-assoc found (hits kind lo hi t n) (any test ts)))
+      (ap (λ (x : ℕ). found || (hits kind lo hi x n || anyBy test ts)) h ∙ sym (or-assoc found (hits kind lo hi t n) (anyBy test ts)))
   leaf-turn count found k t n h fault = refl
 
   op-last :
@@ -73,7 +74,7 @@ module _ (kind lo hi : ℕ) where
       ≡ tally (count + 1) (found || false) (andThen r (λ xs f. got (ts ++ xs) f))
   op-last count found t ts (got xs f) =
       ap₂ (wk.End f) (omega (arith, symbolss-total ts, total-append ts xs))
-      (ap₂ _||_ (sym (or-false found)) (ap (λ (b : Bool). b || any test xs) (holdss-any ts) ∙ sym (any-append ts xs)))
+      (ap₂ _||_ (sym (or-false found)) (ap (λ (b : Bool). b || anyBy test xs) (holdss-any ts) ∙ sym (any-append ts xs)))
   op-last count found t ts fault = refl
 
   op-turn :

@@ -5,7 +5,7 @@ use Rattle.protocol.specs.Index.Fill.{places-more, places-end}
 use Rattle.term.specs.Reader.{term}
 use Rattle.number.specs.Reading.Many.{Came, came-none, came-more, came-stop}
 use Rattle.number.specs.Reading.{got, fault}
-use Rattle.octets.specs.Choice.{clash}
+use Rattle.lists.specs.Choice.{clash}
 use Prim.Native.Nat.{ℕ, _-_, _≤_, _<_}
 use mathlib.Core.Path.{_≡_, sym, _∙_}
 use lib.ListN.{length, getD, length-set}

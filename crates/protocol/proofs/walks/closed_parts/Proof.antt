@@ -2,7 +2,7 @@ use Rattle.protocol.specs.Protocol.Walks.{closed, parts-closed, parts-by
 use Rattle.protocol.specs.Protocol.{facts}
 use Rattle.number.specs.Reading.{many}
 use Rattle.number.specs.declared.Seen.the-variants as sn
-use Rattle.octets.specs.Choice.{pick}
+use Rattle.lists.specs.Choice.{pick}
 use mathlib.Core.Path.{ap, sym, _∙_}
 use mathlib.Core.Bool.{Bool, false}
 use denote.Ref.{now}

@@ -1,6 +1,7 @@
 use borrow.Author.Needs.{needs}
 use Rattle.number.specs.Reading.Many.{walk-none, walk-more, walk-stop}
-use Rattle.number.specs.Reading.{many, any, seen}
+use Rattle.number.specs.Reading.{many, seen}
+use Rattle.lists.specs.Lists.{anyBy}
 use Rattle.number.specs.declared.Seen.the-variants.{End}
 use Rattle.protocol.specs.Protocol.Walks.{leafAt}
 use Rattle.protocol.specs.Protocol.{ruleTerm}
@@ -13,7 +14,7 @@ use Rattle.protocol.proofs.walks.rule_terms.Tie as tie
 
 abbrev Inv-loop : tie.InvT-loop
 Inv-loop s arities at n kind lo hi i₀ j₀ found₀ i j found =
-    (j ≤ n) × (seen (any (leafAt kind lo hi)) (many (ruleTerm s arities) j at) ≡ End i found)
+    (j ≤ n) × (seen (anyBy (leafAt kind lo hi)) (many (ruleTerm s arities) j at) ≡ End i found)
 
 abbrev μ-loop : tie.MeasureT-loop
 μ-loop s arities at n kind lo hi i₀ j₀ found₀ i j found =
@@ -60,7 +61,7 @@ returns-2 : tie.Need-returns-2 Inv-loop μ-loop
 returns-2 c =
     let c4 = c .before .before .before .before in
     let m : c .before .loop .j ≡ c4 .args .n = omega arith in
-    sym (ap (λ (k : ℕ). seen (any (leafAt (c4 .args .kind) (c4 .args .lo) (c4 .args .hi)))
+    sym (ap (λ (k : ℕ). seen (anyBy (leafAt (c4 .args .kind) (c4 .args .lo) (c4 .args .hi)))
     (many (ruleTerm (now (c4 .args .s)) (now (c4 .args .arities))) k (c4 .args .at))) (sym m) ∙ c .before .loop .inv .1)
 
 pub rule-terms-spec : {M : Type 1} → statement M

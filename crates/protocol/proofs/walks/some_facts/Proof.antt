@@ -1,6 +1,7 @@
 use borrow.Author.Needs.{needs}
 use Rattle.number.specs.Reading.Many.{walk-none, walk-more, walk-stop}
-use Rattle.number.specs.Reading.{many, any, seen}
+use Rattle.number.specs.Reading.{many, seen}
+use Rattle.lists.specs.Lists.{anyBy}
 use Rattle.number.specs.declared.Seen.the-variants.{End}
 use Rattle.protocol.specs.Protocol.Walks.{asks}
 use Rattle.protocol.specs.Protocol.{fact}
@@ -13,7 +14,7 @@ use Rattle.protocol.proofs.walks.some_facts.Tie as tie
 
 abbrev Inv-loop : tie.InvT-loop
 Inv-loop s arities ars at n kind lo hi i₀ j₀ found₀ i j found =
-    (j ≤ n) × (seen (any (asks kind lo hi)) (many (fact s arities ars) j at) ≡ End i found)
+    (j ≤ n) × (seen (anyBy (asks kind lo hi)) (many (fact s arities ars) j at) ≡ End i found)
 
 abbrev μ-loop : tie.MeasureT-loop
 μ-loop s arities ars at n kind lo hi i₀ j₀ found₀ i j found =
@@ -60,7 +61,7 @@ returns-2 : tie.Need-returns-2 Inv-loop μ-loop
 returns-2 c =
     let c5 = c .before .before .before .before .before in
     let m : c .before .loop .j ≡ c5 .args .n = omega arith in
-    sym (ap (λ (k : ℕ). seen (any (asks (c5 .args .kind) (c5 .args .lo) (c5 .args .hi)))
+    sym (ap (λ (k : ℕ). seen (anyBy (asks (c5 .args .kind) (c5 .args .lo) (c5 .args .hi)))
     (many (fact (now (c5 .args .s)) (now (c5 .args .arities)) (now (c5 .args .ars))) k (c5 .args .at))) (sym m) ∙ c .before .loop .inv .1)
 
 pub some-facts-spec : {M : Type 1} → statement M

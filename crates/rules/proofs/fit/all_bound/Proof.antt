@@ -1,6 +1,8 @@
 use borrow.Author.Needs.{needs}
-use Rattle.rules.specs.Fit.Laws.{OfRule, all-none, all-more, all-stop, false-of, true-of}
-use Rattle.rules.specs.Fit.{bound, allBelow}
+use Rattle.rules.specs.Fit.Laws.{OfRule}
+use Rattle.lists.specs.Below.{all-none, all-more, all-stop, allBelow}
+use Rattle.lists.specs.Tests.{not-split, not-false}
+use Rattle.rules.specs.Fit.{bound}
 use Rattle.protocol.specs.Protocol.{Rule}
 use mathlib.Core.Path.{_≡_, ap, sym, _∙_}
 use mathlib.Core.Bool.{true}
@@ -29,7 +31,7 @@ returns : tie.Need-returns Inv-loop μ-loop
 returns c =
     let c3 = c .before .before .before in
     let c7 = c3 .before .before .before .before in
-    λ r h l. sym (all-stop (bound r) (c7 .args .n) (c3 .loop .j) (sym (c .before .is-bound .ensures r h (omega arith)) ∙ false-of _ (c .if1 .taken))
+    λ r h l. sym (all-stop (bound r) (c7 .args .n) (c3 .loop .j) (sym (c .before .is-bound .ensures r h (omega arith)) ∙ not-split _ (c .if1 .taken))
     (c .before .before .loop-test .taken))
 
 add-j : tie.Need-add-j Inv-loop μ-loop
@@ -43,7 +45,7 @@ loop-again c =
     let c3 = c .before .before .before in (
       search needs,
       (λ r h l. all-more (bound r) (c3 .loop .j) (c3 .loop .inv .1 r h l)
-          (sym (c .before .is-bound .ensures r h (omega arith)) ∙ true-of _ (c .if1 .left))),
+          (sym (c .before .is-bound .ensures r h (omega arith)) ∙ not-false _ (c .if1 .left))),
     )
 
 returns-2 : tie.Need-returns-2 Inv-loop μ-loop

@@ -1,6 +1,6 @@
 use borrow.Author.Needs.{needs}
-use Rattle.rules.specs.Fit.Laws.{unfit, placed-fits, least-none, least-more, least-hit}
-use Rattle.rules.specs.Fit.{least}
+use Rattle.rules.specs.Fit.Laws.{unfit, placed-fits}
+use Rattle.lists.specs.Below.{least-none, least-more, least-hit, least}
 use Rattle.protocol.specs.Index.{Placed}
 use Rattle.protocol.specs.Protocol.{Rule, noRule, rule}
 use mathlib.Core.Path.{_≡_, ap, sym, _∙_}

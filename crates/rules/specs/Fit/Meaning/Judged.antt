@@ -7,18 +7,19 @@ use mathlib.Core.Path.{_≡_, refl, ap, _∙_, subst}
 use native.Mathlib.Omega.{arith}
 use lib.ListN.{length, getD}
 use lib.Dec.{eqb}
-use Rattle.octets.specs.Choice.{pick, cut, cut-eq, by-size, clash}
+use Rattle.lists.specs.Choice.{pick, cut, cut-eq, by-size, clash}
 use Rattle.octets.specs.Head.{Bytes}
 use Rattle.number.specs.Reading.{Read, got, fault}
-use Rattle.number.specs.Layout.{All}
+use Rattle.lists.specs.All.{All}
 use Rattle.term.specs.Arity.{slots}
 use Rattle.protocol.specs.Protocol.{Protocol, noRule, factArities, protocol}
 use Rattle.protocol.specs.Protocol.Limits.{RuleWithin, Within}
 use Rattle.protocol.specs.Protocol.Exact.{protocol-form}
-use Rattle.rules.specs.Fit.{fits, least, sound, broken, outcome, judged}
-use Rattle.rules.specs.Fit.Laws.{unfit, true-of, least-hit, some-broken}
+use Rattle.rules.specs.Fit.{fits, sound, broken, outcome, judged}
+use Rattle.lists.specs.Below.{least, least-hit}
+use Rattle.rules.specs.Fit.Laws.{unfit, some-broken}
+use Rattle.lists.specs.Tests.{not-false, not-from}
 use Rattle.rules.specs.Fit.Meaning.{Fit}
-use Rattle.rules.specs.Fit.Meaning.Several.{refuse}
 use Rattle.rules.specs.Fit.Meaning.Laws.{fit-exactly}
 
 -- ── the least of several ──
@@ -84,7 +85,7 @@ module _ (p : Protocol) (w : Within p) where
       (all-nth (RuleWithin (slots (p .functions)) (factArities (p .symbols))) noRule (p .rules) (w .rules) k l)
 
   fine-to : (k : ℕ) → k < length (p .rules) → unfit (p .rules) k ≡ false → Fine k
-  fine-to k l h = decided k l .0 (true-of (fits (getD (p .rules) k noRule)) h)
+  fine-to k l h = decided k l .0 (not-false (fits (getD (p .rules) k noRule)) h)
 
   fine-from : (k : ℕ) → k < length (p .rules) → Fine k → unfit (p .rules) k ≡ false
   fine-from k l f = ap not (decided k l .1 f)
@@ -123,7 +124,7 @@ module _ (p : Protocol) (w : Within p) where
       (first-least (unfit (p .rules)) (length (p .rules)) k
       record {
         inside = b .inside;
-        hit = refuse (fits (getD (p .rules) k noRule)) (λ h. b .not-fit (decided k (b .inside) .0 h));
+        hit = not-from (fits (getD (p .rules) k noRule)) (λ h. b .not-fit (decided k (b .inside) .0 h));
         before = λ i l. fine-from i (omega (arith, b .inside)) (b .before i l);
       })
       ∙ some-broken (λ h. absurd (omega arith))

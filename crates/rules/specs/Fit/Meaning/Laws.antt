@@ -8,17 +8,20 @@ use native.Mathlib.Omega.{arith}
 use lib.ListN.{length, getD}
 use lib.Dec.{eqb}
 use borrow.Author.Tests.{eqb-true, eq-eqb}
-use Rattle.octets.specs.Choice.{by-size}
+use Rattle.lists.specs.Choice.{by-size}
 use Rattle.number.specs.Groups.{numberLimit}
-use Rattle.number.specs.Reading.{any}
-use Rattle.number.specs.Layout.{All}
+use Rattle.lists.specs.Lists.{anyBy}
+use Rattle.lists.specs.All.{All}
 use Rattle.term.specs.Term.{variable, fresh, InRange}
 use Rattle.protocol.specs.Protocol.{Rule, premises, conclusions, leafIn}
 use Rattle.protocol.specs.Protocol.Walks.{symbolIn}
 use Rattle.protocol.specs.Protocol.Limits.{TermWithin, FactWithin, FactsWithin, RuleWithin}
 use Rattle.rules.specs.Fit.{p1, p2, p3, p4, bound, fits}
-use Rattle.rules.specs.Fit.Meaning.{Some, Occurs, OccursIn, Fit}
-use Rattle.rules.specs.Fit.Meaning.Several.{either, or-right, refuse, never, some-part, all-map, below-to, below-from}
+use Rattle.lists.specs.Some.{Some, some-part}
+use Rattle.rules.specs.Fit.Meaning.{Occurs, OccursIn, Fit}
+use Rattle.lists.specs.Tests.{or-cases, or-right, not-from, not-both}
+use Rattle.lists.specs.All.Laws.{all-map}
+use Rattle.lists.specs.Below.{below-to, below-from}
 use Rattle.rules.specs.Fit.Meaning.Leaves.{lists-asked, asked-lists, variable-occurs, occurs-variable, among-asked, asked-two, asked-one}
 
 module _ (slots ars : List ℕ) (r : Rule) (w : RuleWithin slots ars r) where
@@ -33,52 +36,52 @@ module _ (slots ars : List ℕ) (r : Rule) (w : RuleWithin slots ars r) where
   in-sorts : (v : ℕ) → OccursIn variable v (conclusions r) → v < length (r .sorts)
   in-sorts v s =
       by-size v (length (r .sorts)) (λ l. l)
-      (λ l. absurd (never (any (any (leafIn 0 (length (r .sorts)) numberLimit)) (r .parts)) (w .bound)
+      (λ l. absurd (not-both (anyBy (anyBy (leafIn 0 (length (r .sorts)) numberLimit)) (r .parts)) (w .bound)
       (asked-lists variable (length (r .sorts)) v (r .parts) ranges l
       (some-part (λ f. Some (Occurs variable v) (f .terms)) (r .parts) 2 s))))
 
   bound-to : (v : ℕ) → bound r v ≡ true → OccursIn variable v (conclusions r) → OccursIn variable v (premises r) ⊎ (getD (r .sorts) v 0 ≡ 2)
   bound-to v h s =
-      elim (either (eqb (getD (r .sorts) v 0) 2) (any (leafIn 0 v (v + 1)) (premises r) || not (any (leafIn 0 v (v + 1)) (conclusions r))) h) [
+      elim (or-cases (eqb (getD (r .sorts) v 0) 2) (anyBy (leafIn 0 v (v + 1)) (premises r) || not (anyBy (leafIn 0 v (v + 1)) (conclusions r))) h) [
         | inl e ↦ inr (eqb-true (getD (r .sorts) v 0) 2 e)
         | inr e ↦
-            elim (either (any (leafIn 0 v (v + 1)) (premises r)) (not (any (leafIn 0 v (v + 1)) (conclusions r))) e) [
+            elim (or-cases (anyBy (leafIn 0 v (v + 1)) (premises r)) (not (anyBy (leafIn 0 v (v + 1)) (conclusions r))) e) [
               | inl e ↦ inl (variable-occurs v (premises r) e)
-              | inr e ↦ absurd (never (any (leafIn 0 v (v + 1)) (conclusions r)) e (occurs-variable v (conclusions r) s))
+              | inr e ↦ absurd (not-both (anyBy (leafIn 0 v (v + 1)) (conclusions r)) e (occurs-variable v (conclusions r) s))
             ]
       ]
 
   bound-from : (v : ℕ) → (OccursIn variable v (conclusions r) → OccursIn variable v (premises r) ⊎ (getD (r .sorts) v 0 ≡ 2)) → bound r v ≡ true
-  bound-from v f = by-test (any (leafIn 0 v (v + 1)) (conclusions r)) refl
+  bound-from v f = by-test (anyBy (leafIn 0 v (v + 1)) (conclusions r)) refl
     where
-      by-test : (c : Bool) → any (leafIn 0 v (v + 1)) (conclusions r) ≡ c → bound r v ≡ true
+      by-test : (c : Bool) → anyBy (leafIn 0 v (v + 1)) (conclusions r) ≡ c → bound r v ≡ true
       by-test true h =
           elim (f (variable-occurs v (conclusions r) h)) [
-            | inl s ↦ or-right (eqb (getD (r .sorts) v 0) 2) _ (ap (λ (b : Bool). b || not (any (leafIn 0 v (v + 1)) (conclusions r)))
+            | inl s ↦ or-right (eqb (getD (r .sorts) v 0) 2) _ (ap (λ (b : Bool). b || not (anyBy (leafIn 0 v (v + 1)) (conclusions r)))
                 (occurs-variable v (premises r) s))
-            | inr e ↦ ap (λ (b : Bool). b || (any (leafIn 0 v (v + 1)) (premises r) || not (any (leafIn 0 v (v + 1)) (conclusions r))))
+            | inr e ↦ ap (λ (b : Bool). b || (anyBy (leafIn 0 v (v + 1)) (premises r) || not (anyBy (leafIn 0 v (v + 1)) (conclusions r))))
                 (eq-eqb (getD (r .sorts) v 0) 2 e)
           ]
       by-test false h =
-          or-right (eqb (getD (r .sorts) v 0) 2) _ (or-right (any (leafIn 0 v (v + 1)) (premises r)) _ (ap not h))
+          or-right (eqb (getD (r .sorts) v 0) 2) _ (or-right (anyBy (leafIn 0 v (v + 1)) (premises r)) _ (ap not h))
 
   fit-to : fits r ≡ true → Fit r
   fit-to h =
       let a = and-eq-true-iff (p1 r) (p2 r && (p3 r && p4 r)) .0 h in
       let b = and-eq-true-iff (p2 r) (p3 r && p4 r) .0 (a .1) in
       let c = and-eq-true-iff (p3 r) (p4 r) .0 (b .1) in
-      let d = and-eq-true-iff (not (any (symbolIn 0 2) (conclusions r))) (not (any (symbolIn 3 4) (conclusions r))) .0 (c .0) in
+      let d = and-eq-true-iff (not (anyBy (symbolIn 0 2) (conclusions r))) (not (anyBy (symbolIn 3 4) (conclusions r))) .0 (c .0) in
       record {
-        p1 = λ n s. never (any (any (leafIn 2 0 numberLimit)) (r .parts)) (a .0) (asked-lists fresh 0 n (r .parts) ranges (omega arith) s);
-        p2 = λ s. never (any (symbolIn 2 4) (premises r)) (b .0)
+        p1 = λ n s. not-both (anyBy (anyBy (leafIn 2 0 numberLimit)) (r .parts)) (a .0) (asked-lists fresh 0 n (r .parts) ranges (omega arith) s);
+        p2 = λ s. not-both (anyBy (symbolIn 2 4) (premises r)) (b .0)
             (elim s [
               | inl s ↦ among-asked 2 4 3 (premises r) (omega arith) (omega arith) s
               | inr s ↦ among-asked 2 4 2 (premises r) (omega arith) (omega arith)
                   s
             ]);
         p3 = λ s. elim s [
-          | inl s ↦ never (any (symbolIn 3 4) (conclusions r)) (d .1) (among-asked 3 4 3 (conclusions r) (omega arith) (omega arith) s)
-          | inr s ↦ never (any (symbolIn 0 2) (conclusions r)) (d .0)
+          | inl s ↦ not-both (anyBy (symbolIn 3 4) (conclusions r)) (d .1) (among-asked 3 4 3 (conclusions r) (omega arith) (omega arith) s)
+          | inr s ↦ not-both (anyBy (symbolIn 0 2) (conclusions r)) (d .0)
               (elim s [
                 | inl s ↦ among-asked 0 2 1 (conclusions r) (omega arith) (omega arith) s
                 | inr s ↦ among-asked 0 2 0 (conclusions r) (omega arith)
@@ -91,12 +94,12 @@ module _ (slots ars : List ℕ) (r : Rule) (w : RuleWithin slots ars r) where
   fit-from : Fit r → fits r ≡ true
   fit-from f =
       ap₂ _&&_
-      (refuse (any (any (leafIn 2 0 numberLimit)) (r .parts)) (λ h. let z = lists-asked fresh 0 numberLimit (r .parts) h in f .p1 (z .number) (z .has)))
-      (ap₂ _&&_ (refuse (any (symbolIn 2 4) (premises r)) (λ h. f .p2 (asked-two 2 (premises r) h)))
+      (not-from (anyBy (anyBy (leafIn 2 0 numberLimit)) (r .parts)) (λ h. let z = lists-asked fresh 0 numberLimit (r .parts) h in f .p1 (z .number) (z .has)))
+      (ap₂ _&&_ (not-from (anyBy (symbolIn 2 4) (premises r)) (λ h. f .p2 (asked-two 2 (premises r) h)))
       (ap₂ _&&_
       (ap₂ _&&_
-      (refuse (any (symbolIn 0 2) (conclusions r)) (λ h. f .p3 (inr (asked-two 0 (conclusions r) h))))
-      (refuse (any (symbolIn 3 4) (conclusions r)) (λ h. f .p3 (inl (asked-one 3 (conclusions r) h)))))
+      (not-from (anyBy (symbolIn 0 2) (conclusions r)) (λ h. f .p3 (inr (asked-two 0 (conclusions r) h))))
+      (not-from (anyBy (symbolIn 3 4) (conclusions r)) (λ h. f .p3 (inl (asked-one 3 (conclusions r) h)))))
       (below-from (bound r) (length (r .sorts)) (λ v l. bound-from v (f .p4 v)))))
 
   -- the tests decide P1 to P4

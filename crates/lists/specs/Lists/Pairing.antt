@@ -5,9 +5,9 @@ use mathlib.Core.Bool.{Bool, true, not, _&&_}
 use mathlib.Core.List.{List, [], _∷_, List·Memᴰ·head, List·Memᴰ·tail, List·Memᴰ·not-nil, List·Memᴰ·cases-cons}
 use Prim.Native.Nat.{_≤_}
 use native.Mathlib.Omega.{arith}
-use Rattle.rewriting.specs.Lists.{_∈_, bit, countBy}
-use Rattle.rewriting.specs.Tests.{by-bool, true-false, not-true, not-split, and-split, and-both, zero-or-pos}
-use Rattle.rewriting.specs.Lists.Laws.{count-mono, count-split, count-pos}
+use Rattle.lists.specs.Lists.{_∈_, bit, countBy}
+use Rattle.lists.specs.Tests.{by-bool, true-false, not-true, not-split, and-split, and-both, zero-or-pos}
+use Rattle.lists.specs.Lists.Laws.{count-mono, count-split, count-pos}
 
 module _ {A B : Type 0} (key : A → B → Bool) where
   -- No `e` belongs to two places of the list.

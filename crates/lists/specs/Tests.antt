@@ -6,7 +6,7 @@ use mathlib.Core.Option.{Option, none, some}
 use Prim.Native.Nat.{ℕ, zero, suc, _+_, _≤_, _<_}
 use native.Mathlib.Omega.{arith}
 use lib.Dec.{T, leb, eqb, leb→le, nleb→lt, eqb→eq, eqb-refl}
-use Rattle.rewriting.specs.Lists.{bit}
+use Rattle.lists.specs.Lists.{bit}
 
 pub by-bool : {C : Type 0} (b : Bool) → (b ≡ true → C) → (b ≡ false → C) → C
 by-bool true t f = t refl
@@ -27,6 +27,17 @@ pub not-split : (b : Bool) → not b ≡ true → b ≡ false
 not-split true h = true-false false h refl
 not-split false h = refl
 
+pub not-false : (b : Bool) → not b ≡ false → b ≡ true
+not-false true h = refl
+not-false false h = true-false true refl h
+
+pub not-from : (b : Bool) → (b ≡ true → ⊥) → not b ≡ true
+not-from true h = absurd (h refl)
+not-from false h = refl
+
+pub not-both : (b : Bool) → not b ≡ true → b ≡ true → ⊥
+not-both b h k = true-false b k (not-split b h)
+
 pub and-split : (a b : Bool) → (a && b) ≡ true → (a ≡ true) × (b ≡ true)
 and-split true b h = (refl, h)
 and-split false b h = true-false false h refl
@@ -34,6 +45,18 @@ and-split false b h = true-false false h refl
 pub or-split : (a b : Bool) → (a || b) ≡ false → (a ≡ false) × (b ≡ false)
 or-split true b h = true-false true refl h
 or-split false b h = (refl, h)
+
+pub or-cases : (a b : Bool) → (a || b) ≡ true → (a ≡ true) ⊎ (b ≡ true)
+or-cases true b h = inl refl
+or-cases false b h = inr h
+
+pub or-right : (a b : Bool) → b ≡ true → (a || b) ≡ true
+or-right true b h = refl
+or-right false b h = h
+
+pub and-false : (b : Bool) → (b && false) ≡ false
+and-false true = refl
+and-false false = refl
 
 pub and-both : (a b : Bool) → a ≡ true → b ≡ true → (a && b) ≡ true
 and-both a b h k = rw (h, k)

@@ -7,8 +7,8 @@ use mathlib.Core.Option.{Option, none, some, Option·none-ne-some, Option·some-
 use Prim.Native.Nat.{ℕ, zero, suc, _+_, _≤_}
 use native.Mathlib.Omega.{arith}
 use lib.ListN.{getElem?, length}
-use Rattle.rewriting.specs.Lists.{_∈_, bit, countBy, anyBy, allBy, firstBy, removeBy, keepBy, nth}
-use Rattle.rewriting.specs.Tests.{by-bool, by-option, true-false, not-true}
+use Rattle.lists.specs.Lists.{_∈_, bit, countBy, anyBy, allBy, firstBy, removeBy, keepBy, nth}
+use Rattle.lists.specs.Tests.{by-bool, by-option, true-false, not-true}
 
 -- Counting.
 

@@ -1,4 +1,4 @@
--- A condition of all elements of a list.
+-- What holds of a condition of all elements of a list.
 use Prim.Native.Nat.{ℕ, zero, suc, _<_}
 use mathlib.Core.List.{List, [], _∷_, map}
 use mathlib.Core.Bool.{Bool, false}
@@ -6,10 +6,9 @@ use mathlib.Core.Option.{some, Option·none-ne-some, Option·some-injective}
 use mathlib.Core.Path.{_≡_, refl, subst}
 use native.Mathlib.Omega.{arith}
 use lib.ListN.{length, getD}
-use Rattle.number.specs.Reading.{any}
-use Rattle.number.specs.Layout.{All}
-use Rattle.rewriting.specs.Lists.{nth}
-use Rattle.rewriting.specs.Tests.{or-split}
+use Rattle.lists.specs.Lists.{anyBy, nth}
+use Rattle.lists.specs.All.{All}
+use Rattle.lists.specs.Tests.{or-split}
 
 module _ {A : Type 0} (P Q : A → Type 0) where
   pub all-map : ((x : A) → P x → Q x) → (xs : List A) → All P xs → All Q xs
@@ -66,6 +65,6 @@ map-at f (x ∷ xs) zero a b l = refl
 map-at f (x ∷ xs) (suc i) a b l = map-at f xs i a b (omega arith)
 
 -- no element passes a test
-pub none-all : {A : Type 0} (q : A → Bool) (xs : List A) → any q xs ≡ false → All (λ x. q x ≡ false) xs
+pub none-all : {A : Type 0} (q : A → Bool) (xs : List A) → anyBy q xs ≡ false → All (λ x. q x ≡ false) xs
 none-all q [] h = tt
-none-all q (x ∷ xs) h = let (a, b) = or-split (q x) (any q xs) h in (a, none-all q xs b)
+none-all q (x ∷ xs) h = let (a, b) = or-split (q x) (anyBy q xs) h in (a, none-all q xs b)

@@ -1,0 +1,15 @@
+-- List and Boolean vocabulary, said once for all crates. It knows no bytes and no files.
+
+-- a value by a test, and what a definition by tests says of its value
+pub mod Choice
+-- Booleans, options and numbers, case by case
+pub mod Tests
+-- lists counted and searched by a test; elements by number, from 1; their laws
+pub mod Lists
+-- a condition of all elements, and of one of them; their laws
+pub mod All
+pub mod Some
+-- a test of the numbers below a bound: whether it holds of all, and the least of which it holds
+pub mod Below
+-- what a contract asks and promises of the trees at a place
+pub mod Asks

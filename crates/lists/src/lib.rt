@@ -1,0 +1,1 @@
+// The crate is theory: its definitions and lemmas stand in specs/.
