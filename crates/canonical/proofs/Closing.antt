@@ -6,6 +6,7 @@ use mathlib.Core.Logic.{_≢_}
 use mathlib.Core.Bool.{Bool, true, false}
 use mathlib.Core.Option.{some}
 use native.Mathlib.Omega.{arith}
+use Rattle.lists.specs.Asks.{Asks, Asks₂, Promises, Promises₂}
 use Rattle.lists.specs.Choice.{clash}
 use Rattle.octets.specs.Splice.Prefix.{Wrote}
 use Rattle.term.specs.Term.{Term, app, Terms, nil, _&_, count, encode}
@@ -19,7 +20,7 @@ use Rattle.canonical.specs.Builtins.{group}
 use Rattle.canonical.specs.Size.{bytes-few}
 use Rattle.canonical.specs.Loose.{isProduct, closed}
 use Rattle.canonical.specs.Loose.Laws.{closed-stays, closed-product, closed-other}
-use Rattle.canonical.specs.Inner.{Built, Whole, Replaced}
+use Rattle.canonical.specs.Inner.{Built}
 use Rattle.canonical.proofs.Parts.{two-args, stays}
 
 module _ (slots out : List ℕ) (o e : ℕ) where
@@ -44,11 +45,12 @@ module _ (slots out : List ℕ) (o e : ℕ) where
 
   -- ── the tag is g ──
   module _ (tag g : ℕ) (is : tag ≡ g) where
-    pub as-tag : Whole slots out o e tag → Whole slots out o e g
-    as-tag w = subst (λ (f : ℕ). Whole slots out o e f) is w
+    pub as-tag : Asks (Built slots out o e tag) → Asks (Built slots out o e g)
+    as-tag w = subst (λ (f : ℕ). (Asks (Built slots out o e f))) is w
 
-    pub by-tag : (out′ : List ℕ) (r : ℕ) → Replaced slots out o e g (mk rules g) out′ r → Replaced slots out o e tag (mk rules tag) out′ r
-    by-tag out′ r h = subst (λ (f : ℕ). Replaced slots out o e f (mk rules f) out′ r) (sym is) h
+    pub by-tag : (out′ : List ℕ) (r : ℕ) → Promises (Built slots out o e g) (λ (us : Terms). Wrote e out o out′ r (encode (mk rules g us))) → Promises
+        (Built slots out o e tag) (λ (us : Terms). Wrote e out o out′ r (encode (mk rules tag us)))
+    by-tag out′ r h = subst (λ (f : ℕ). (Promises (Built slots out o e f) (λ (us : Terms). Wrote e out o out′ r (encode (mk rules f us))))) (sym is) h
 
   -- ── exp ──
   record Exp (us : Terms) : Type 0 where
@@ -63,10 +65,11 @@ module _ (slots out : List ℕ) (o e : ℕ) where
       let w = two-args us (cc) in
       record { x = w .0; y = w .1; is = w .2; built = subst (Built slots out o e 10) (w .2) b }
 
-  pub exp-asks : Whole slots out o e 10 → product.Raises slots out o e
+  pub exp-asks : Asks (Built slots out o e 10) → Asks₂ (product.WholePower slots out o e)
   exp-asks (us, b) = let p = exp-of us b in (p .x, p .y, as-asked 10 (p .x & (p .y & nil)) (p .built))
 
-  pub exp-done : (out′ : List ℕ) (r : ℕ) → product.RaisedAs slots out o e out′ r → Replaced slots out o e 10 (mk rules 10) out′ r
+  pub exp-done : (out′ : List ℕ) (r : ℕ) → Promises₂ (product.WholePower slots out o e) (λ (x y : Term). Wrote e out o out′ r (encode (raised (as2 10 x) x y)))
+      → Promises (Built slots out o e 10) (λ (us : Terms). Wrote e out o out′ r (encode (mk rules 10 us)))
   exp-done out′ r h us b =
       let p = exp-of us b in
       let w = p .built .here .formed .1 in
@@ -76,7 +79,8 @@ module _ (slots out : List ℕ) (o e : ℕ) where
 
   -- ── a function without a rule ──
   pub free-done :
-      (tag : ℕ) → isProduct tag ≡ false → tag ≢ 5 → tag ≢ 8 → tag ≢ 9 → tag ≢ 10 → Replaced slots out o e tag (mk rules tag) out e
+      (tag : ℕ) → isProduct tag ≡ false → tag ≢ 5 → tag ≢ 8 → tag ≢ 9 → tag ≢ 10 → Promises (Built slots out o e tag)
+      (λ (us : Terms). Wrote e out o out e (encode (mk rules tag us)))
   free-done tag p a b c d us h =
       let other : (g : ℕ) → isProduct g ≡ true → tag ≢ g =
       λ g t q. let z : true ≡ false = sym t ∙ ap isProduct (sym q) ∙ p in clash (cc) in
@@ -86,23 +90,25 @@ module _ (slots out : List ℕ) (o e : ℕ) where
 
   -- ── inside a product and outside ──
   module _ (tag : ℕ) (inside : Bool) where
-    pub inner-done : isProduct tag ≡ true → inside ≡ true → Replaced slots out o e tag (closed inside tag) out e
+    pub inner-done : isProduct tag ≡ true → inside ≡ true → Promises (Built slots out o e tag)
+        (λ (us : Terms). Wrote e out o out e (encode (closed inside tag us)))
     inner-done p i us b =
         as-it-stands tag us (closed inside tag us) (ap (λ (z : Bool). closed z tag us) i ∙ closed-stays true tag us p) b
 
-    pub product-asks : Whole slots out o e tag → product.Multiplies slots out o e
+    pub product-asks : Asks (Built slots out o e tag) → Asks (product.Whole slots out o e)
     product-asks (us, b) = (app tag us, as-asked tag us b)
 
     pub product-done :
-        isProduct tag ≡ true → inside ≡ false → (out′ : List ℕ) (r : ℕ) → product.MultipliedAs slots out o e out′ r
-        → Replaced slots out o e tag (closed inside tag) out′ r
+        isProduct tag ≡ true → inside ≡ false → (out′ : List ℕ) (r : ℕ) → Promises (product.Whole slots out o e)
+        (λ (t : Term). Wrote e out o out′ r (encode (multiplied (t & nil))))
+        → Promises (Built slots out o e tag) (λ (us : Terms). Wrote e out o out′ r (encode (closed inside tag us)))
     product-done p i out′ r h us b =
         let q : closed inside tag us ≡ multiplied (app tag us & nil) =
         ap (λ (z : Bool). closed z tag us) i ∙ closed-product false tag us p in
         subst (λ (t : Term). Wrote e out o out′ r (encode t)) (sym q) (h (app tag us) (as-asked tag us b))
 
     pub other-done :
-        isProduct tag ≡ false → (out′ : List ℕ) (r : ℕ) → Replaced slots out o e tag (mk rules tag) out′ r
-        → Replaced slots out o e tag (closed inside tag) out′ r
+        isProduct tag ≡ false → (out′ : List ℕ) (r : ℕ) → Promises (Built slots out o e tag) (λ (us : Terms). Wrote e out o out′ r (encode (mk rules tag us)))
+        → Promises (Built slots out o e tag) (λ (us : Terms). Wrote e out o out′ r (encode (closed inside tag us)))
     other-done p out′ r h us b =
         subst (λ (t : Term). Wrote e out o out′ r (encode t)) (sym (closed-other inside tag us p)) (h us b)

@@ -6,6 +6,8 @@ use mathlib.Core.Logic.{_≢_, inl}
 use mathlib.Core.Bool.{Bool, false}
 use native.Mathlib.Omega.{arith}
 use lib.ListN.{length, length-append}
+use Rattle.canonical.specs.First.{FirstAt}
+use Rattle.lists.specs.Asks.{Asks, Asks₂, Promises, Promises₂}
 use Rattle.octets.specs.Splice.Prefix.{Wrote, widen, wrote-then, wrote-there}
 use Rattle.number.specs.Groups.{groups, numberLimit}
 use Rattle.term.specs.Term.{Term, app, Terms, _&_, count, encode, encodes}
@@ -18,20 +20,20 @@ use Rattle.product.specs.Writing.{wrote-over}
 use Rattle.canonical.specs.Builtins.{group}
 use Rattle.canonical.specs.Loose.{isProduct, closed, mades}
 use Rattle.canonical.specs.Loose.Laws.{sub-range, app-size, sound, sounds}
-use Rattle.canonical.specs.Contract.{Job, Ready, Out}
-use Rattle.canonical.specs.Inner.{Making, FirstIs, Built, Whole, Replaced}
+use Rattle.canonical.specs.Contract.{Job, Out}
+use Rattle.canonical.specs.Inner.{Built, Here}
 use Rattle.canonical.proofs.Steps.{room-one, next-job, args-job, op-case}
 
 module _ (slots vals starts src : List ℕ) (at k : ℕ) (out : List ℕ) (o : ℕ) (isLeaf : Bool) (tag number next : ℕ)
-    (F : FirstIs slots src at isLeaf tag number next) (more : k ≢ 0) (b : isLeaf ≡ false) where
+    (F : Promises₂ (Here slots src at) (λ (e : ℕ) (t : Term). FirstAt t at isLeaf tag number next)) (more : k ≢ 0) (b : isLeaf ≡ false) where
   by-op :
-      (P : Type 0) → Ready slots vals starts src at k (length out) o
+      (P : Type 0) → Asks₂ (Job slots vals starts src at k (length out) o)
       → ((θ : ℕ → Term) (args us : Terms) → count args ≡ number → next ≡ at + length (groups tag)
       → Job slots vals starts src at k (length out) o θ (app tag args & us) → P)
       → P
   by-op P (θ, ts, J) c = op-case slots vals starts src at k (length out) o isLeaf tag number next F more (λ ts. P) θ ts b J (c θ)
 
-  pub tag-asks : Ready slots vals starts src at k (length out) o → (tag < numberLimit) × (o + length (groups tag) ≤ length out)
+  pub tag-asks : Asks₂ (Job slots vals starts src at k (length out) o) → (tag < numberLimit) × (o + length (groups tag) ≤ length out)
   tag-asks R = by-op _ R (λ θ args us c e J.
       let r = room-one slots vals starts src at k (length out) o θ (app tag args) us J in
       (J .range .0 .0, omega (arith, r, length-append (groups tag) (encodes (subs θ args)))))
@@ -43,11 +45,12 @@ module _ (slots vals starts src : List ℕ) (at k : ℕ) (out : List ℕ) (o : �
     arguments θ args us c e J =
         args-job slots vals starts src at k (length out) o θ tag args us J next number (length out₁) a e c same₁ (A .ends)
 
-    pub args-asks : Ready slots vals starts src at k (length out) o → Ready slots vals starts src next number (length out₁) a
+    pub args-asks : Asks₂ (Job slots vals starts src at k (length out) o) → Asks₂ (Job slots vals starts src next number (length out₁) a)
     args-asks R = by-op _ R (λ θ args us c e J. (θ, args, arguments θ args us c e J))
 
     module _ (p : Bool) (is : p ≡ isProduct tag) (out₂ : List ℕ) (at₂ e : ℕ) (same₂ : length out₂ ≡ length out)
-        (M : Making slots vals starts src next number p out₁ a out₂ at₂ e) where
+        (M : Promises₂ (Job slots vals starts src next number (length out₁) a) (λ (θ : ℕ → Term) (ts : Terms). Out (a + length (encodes (subs θ ts))) next out₁
+        a out₂ at₂ e (encodes ts) (encodes (mades p θ ts)))) where
       record Inner (θ : ℕ → Term) (args us : Terms) : Type 0 where
         built : Built slots out₂ o e tag (mades (isProduct tag) θ args)
         wrote : Wrote (o + length (encodes (subs θ (app tag args & us)))) out o out₂ e (encode (app tag (mades (isProduct tag) θ args)))
@@ -91,14 +94,14 @@ module _ (slots vals starts src : List ℕ) (at k : ℕ) (out : List ℕ) (o : �
             ends = omega (arith, wrote .ends, z .bytes-less);
           }
 
-      pub close-asks : Ready slots vals starts src at k (length out) o → Whole slots out₂ o e tag
+      pub close-asks : Asks₂ (Job slots vals starts src at k (length out) o) → Asks (Built slots out₂ o e tag)
       close-asks R = by-op _ R (λ θ args us c d J. (mades (isProduct tag) θ args, inner θ args us c d J .built))
 
-      pub onward : Ready slots vals starts src at k (length out) o → at < at₂
+      pub onward : Asks₂ (Job slots vals starts src at k (length out) o) → at < at₂
       onward R = by-op _ R (λ θ args us c d J. omega (arith, inner θ args us c d J .read, encode-some (app tag args)))
 
       module _ (inside : Bool) (out₃ : List ℕ) (r : ℕ) (same₃ : length out₃ ≡ length out)
-          (C : Replaced slots out₂ o e tag (closed inside tag) out₃ r) where
+          (C : Promises (Built slots out₂ o e tag) (λ (us : Terms). Wrote e out₂ o out₃ r (encode (closed inside tag us)))) where
         after-job :
             (θ : ℕ → Term) (args us : Terms) → count args ≡ number → next ≡ at + length (groups tag)
             → Job slots vals starts src at k (length out) o θ (app tag args & us) → Job slots vals starts src at₂ (k - 1) (length out₃) r θ us
@@ -108,12 +111,14 @@ module _ (slots vals starts src : List ℕ) (at k : ℕ) (out : List ℕ) (o : �
             next-job slots vals starts src at k (length out) o θ (app tag args) us J at₂ (length out₃) r (i .read) same₃
             (omega (arith, w .ends, i .smaller inside))
 
-        pub rest-asks : Ready slots vals starts src at k (length out) o → Ready slots vals starts src at₂ (k - 1) (length out₃) r
+        pub rest-asks : Asks₂ (Job slots vals starts src at k (length out) o) → Asks₂ (Job slots vals starts src at₂ (k - 1) (length out₃) r)
         rest-asks R = by-op _ R (λ θ args us c d J. (θ, us, after-job θ args us c d J))
 
         pub op-done :
-            (out′ : List ℕ) (at′ o′ : ℕ) → Making slots vals starts src at₂ (k - 1) inside out₃ r out′ at′ o′
-            → Making slots vals starts src at k inside out o out′ at′ o′
+            (out′ : List ℕ) (at′ o′ : ℕ) → Promises₂ (Job slots vals starts src at₂ (k - 1) (length out₃) r)
+            (λ (θ : ℕ → Term) (ts : Terms). Out (r + length (encodes (subs θ ts))) at₂ out₃ r out′ at′ o′ (encodes ts) (encodes (mades inside θ ts)))
+            → Promises₂ (Job slots vals starts src at k (length out) o) (λ (θ : ℕ → Term) (ts : Terms). Out (o + length (encodes (subs θ ts))) at out o out′
+            at′ o′ (encodes ts) (encodes (mades inside θ ts)))
         op-done out′ at′ o′ N θ ts J =
             op-case slots vals starts src at k (length out) o isLeaf tag number next F more
             (λ ts. Out (o + length (encodes (subs θ ts))) at out o out′ at′ o′ (encodes ts) (encodes (mades inside θ ts))) θ ts b J

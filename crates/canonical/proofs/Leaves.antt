@@ -4,6 +4,7 @@ use mathlib.Core.List.{List, _++_}
 use mathlib.Core.Path.{_≡_, refl, ap, sym, _∙_, subst}
 use native.Mathlib.Omega.{arith}
 use lib.ListN.{length, getD, length-append}
+use Rattle.lists.specs.Asks.{Promises₂}
 use Rattle.octets.specs.Head.{Bytes, stands-at}
 use Rattle.octets.specs.Splice.{splice}
 use Rattle.octets.specs.Splice.Prefix.{Wrote, widen, wrote-then}
@@ -12,7 +13,7 @@ use Rattle.term.specs.Term.{Kind, variable, public, fresh, Term, leaf, encode}
 use Rattle.term.specs.Reader.{term}
 use Rattle.term.specs.Walk.{bytesOf}
 use Rattle.message.specs.Substitution.{sub}
-use Rattle.canonical.specs.Inner.{LeafJob, LeafDone}
+use Rattle.canonical.specs.Inner.{LeafJob}
 use Rattle.canonical.proofs.Writes.{spliced}
 use Rattle.canonical.proofs.Parts.{bytes-are}
 
@@ -62,7 +63,8 @@ module _ (slots vals starts : List ℕ) (n o tag number : ℕ) where
 module _ (slots vals starts : List ℕ) (bytes : Bytes vals) (out : List ℕ) (o tag number : ℕ) where
   pub value-done :
       tag ≡ 0 → (part out′ : List ℕ) (r : ℕ) → part ≡ bytesOf (term vals slots (getD starts number 0)) → r ≡ o + length part
-      → out′ ≡ splice out o part → LeafDone slots vals starts out o tag number out′ r
+      → out′ ≡ splice out o part → Promises₂ (LeafJob slots vals starts (length out) o tag number)
+      (λ (θ : ℕ → Term) (k : Kind). Wrote r out o out′ r (encode (sub θ (leaf k number))))
   value-done z part out′ r p e w θ k j =
       let v = value-of slots vals starts (length out) o tag number bytes θ k z j in
       let q : part ≡ encode (θ number) = p ∙ v .part-is in
@@ -71,7 +73,7 @@ module _ (slots vals starts : List ℕ) (bytes : Bytes vals) (out : List ℕ) (o
 
   pub name-done :
       (tag ≡ 0 → ⊥) → (out₁ out′ : List ℕ) (a r : ℕ) → Wrote a out o out₁ a (groups tag) → Wrote r out₁ a out′ r (groups number)
-      → LeafDone slots vals starts out o tag number out′ r
+      → Promises₂ (LeafJob slots vals starts (length out) o tag number) (λ (θ : ℕ → Term) (k : Kind). Wrote r out o out′ r (encode (sub θ (leaf k number))))
   name-done z out₁ out′ a r v w θ k j =
       let q = name-of slots vals starts (length out) o tag number θ k z j in
       subst (λ (l : List ℕ). Wrote r out o out′ r l) (sym (q .is)) (wrote-then (widen r (omega (arith, w .ends)) v) w)

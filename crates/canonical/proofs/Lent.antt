@@ -6,6 +6,8 @@ use mathlib.Core.Bool.{false}
 use native.Mathlib.Omega.{arith}
 use lib.ListN.{length, take, drop}
 use borrow.Rule.Slice.PartMut.{putMid}
+use Rattle.message.specs.Filled.{filleds}
+use Rattle.lists.specs.Asks.{Asks₂, Promises₂}
 use Rattle.octets.specs.Splice.Prefix.{Wrote, widen, lent-length, wrote-lent}
 use Rattle.term.specs.Term.{Term, Terms, encodes}
 use Rattle.term.specs.Arity.{arity}
@@ -14,8 +16,7 @@ use Rattle.message.specs.Substitution.Laws.{subs-formed}
 use Rattle.canonical.specs.Builtins.{group}
 use Rattle.canonical.specs.Loose.{mades}
 use Rattle.canonical.specs.Loose.Laws.{Sounds, sounds}
-use Rattle.canonical.specs.Contract.{Job, Ready, Done}
-use Rattle.canonical.specs.Inner.{Making}
+use Rattle.canonical.specs.Contract.{Job, Out, longest}
 
 abbrev part : List ℕ → ℕ → List ℕ
 part out o = take (length out - o) (drop o out)
@@ -37,7 +38,7 @@ module _ (slots vals starts src : List ℕ) (at k : ℕ) (out : List ℕ) (o : �
     values-short = J .values-short;
   }
 
-  pub part-ready : Ready slots vals starts src at k (length out) o → Ready slots vals starts src at k (length (part out o)) 0
+  pub part-ready : Asks₂ (Job slots vals starts src at k (length out) o) → Asks₂ (Job slots vals starts src at k (length (part out o)) 0)
   part-ready (θ, ts, J) = (θ, ts, part-job θ ts J)
 
   made-sounds :
@@ -47,13 +48,15 @@ module _ (slots vals starts src : List ℕ) (at k : ℕ) (out : List ℕ) (o : �
       sounds (arity slots) (group slots (J .table)) θ ts false (subs-formed (arity slots) θ ts (J .formed) (λ v i. J .values v i .formed))
       (λ v i. J .values v i .own)
 
-  module _ (ys : List ℕ) (at′ r : ℕ) (M : Making slots vals starts src at k false (part out o) 0 ys at′ r) where
-    pub part-ends : Ready slots vals starts src at k (length out) o → (o + r ≤ length out) × (length out ≤ 4294967296)
+  module _ (ys : List ℕ) (at′ r : ℕ) (M : Promises₂ (Job slots vals starts src at k (length (part out o)) 0)
+      (λ (θ : ℕ → Term) (ts : Terms). Out (0 + length (encodes (subs θ ts))) at (part out o) 0 ys at′ r (encodes ts) (encodes (mades false θ ts)))) where
+    pub part-ends : Asks₂ (Job slots vals starts src at k (length out) o) → (o + r ≤ length out) × (length out ≤ longest)
     part-ends (θ, ts, J) =
         let m = M θ ts (part-job θ ts J) in
         (omega (arith, m .wrote .ends, made-sounds θ ts J .sizes .bytess-less, J .room), J .short)
 
-    pub part-done : Done slots vals starts src at k out o (putMid o (length out - o) out ys) at′ (o + r)
+    pub part-done : Promises₂ (Job slots vals starts src at k (length out) o) (λ (θ : ℕ → Term) (ts : Terms). Out (o + length (encodes (subs θ ts))) at out o
+        (putMid o (length out - o) out ys) at′ (o + r) (encodes ts) (encodes (filleds θ ts)))
     part-done θ ts J =
         let m = M θ ts (part-job θ ts J) in
         let n : ℕ = length (encodes (subs θ ts)) in

@@ -7,9 +7,10 @@ use mathlib.Core.Bool.{Bool, true}
 use native.Mathlib.Omega.{arith}
 use lib.ListN.{length, take, drop}
 use lib.Seq.{length-take-le}
+use Rattle.lists.specs.Asks.{Asks, Asks₂, Promises, Promises₂}
 use Rattle.octets.specs.Compare.{compareBytes, isEqual}
 use Rattle.octets.specs.Compare.Laws.{compare-refl}
-use Rattle.octets.specs.Head.{stands-at, stands-within, stands-part}
+use Rattle.octets.specs.Head.{stands-at, stands-within, stands-part, Stands}
 use Rattle.octets.specs.Splice.Prefix.{wrote-there}
 use Rattle.term.specs.Term.{variable, public, fresh, Term, leaf, app, Terms, nil, _&_, encode, encodes, Formed}
 use Rattle.term.specs.Term.Laws.{encode-some}
@@ -22,8 +23,8 @@ use Rattle.message.specs.Filled.{filled, filleds}
 use Rattle.message.specs.Filled.Laws.{filled-canon}
 use Rattle.canonical.specs.Builtins.{group}
 use Rattle.canonical.specs.Size.{bytes-few}
-use Rattle.canonical.specs.Contract.{Job, Ready, Done, MessageAt, HasMessage}
-use Rattle.canonical.specs.Inner.{Here, CanonAt}
+use Rattle.canonical.specs.Contract.{Job, MessageAt, Out}
+use Rattle.canonical.specs.Inner.{Here}
 use Rattle.canonical.proofs.Parts.{same-term}
 
 -- ── no variable stands in a message ──
@@ -69,11 +70,13 @@ module _ (slots s starts : List ℕ) (at : ℕ) where
     values-short = m .short;
   }
 
-  pub message-ready : HasMessage slots s at → (n : ℕ) → n ≡ 1280 → Ready slots s starts s at 1 n 0
+  pub message-ready : Asks (MessageAt slots s at) → (n : ℕ) → n ≡ 1280 → Asks₂ (Job slots s starts s at 1 n 0)
   message-ready (t, m) n l = (leaf variable, (t & nil), message-job t m n l)
 
   pub message-canon :
-      (out out′ : List ℕ) (at′ r : ℕ) → length out ≡ 1280 → Done slots s starts s at 1 out 0 out′ at′ r → CanonAt slots s at out′ r
+      (out out′ : List ℕ) (at′ r : ℕ) → length out ≡ 1280 → Promises₂ (Job slots s starts s at 1 (length out) 0)
+      (λ (θ : ℕ → Term) (ts : Terms). Out (0 + length (encodes (subs θ ts))) at out 0 out′ at′ r (encodes ts) (encodes (filleds θ ts))) → Promises
+      (MessageAt slots s at) (λ (t : Term). Stands out′ 0 (encode (canon t)) r)
   message-canon out out′ at′ r l D t m =
       let w = D (leaf variable) (t & nil) (message-job t m (length out) l) .wrote in
       let q : encodes (filleds (leaf variable) (t & nil)) ≡ encode (canon t) =
@@ -111,11 +114,11 @@ decides-same slots s u i j x y b m n e =
     (λ h. c .1 (d .0 h), λ h. d .1 (c .0 h))
 
 -- ── the buffer's bytes ──
-module _ (slots s : List ℕ) (at : ℕ) (out : List ℕ) (r : ℕ) (C : CanonAt slots s at out r) where
-  pub canon-within : HasMessage slots s at → r ≤ length out
+module _ (slots s : List ℕ) (at : ℕ) (out : List ℕ) (r : ℕ) (C : Promises (MessageAt slots s at) (λ (t : Term). Stands out 0 (encode (canon t)) r)) where
+  pub canon-within : Asks (MessageAt slots s at) → r ≤ length out
   canon-within (t, m) = stands-within (C t m) (encode-some (canon t))
 
-  pub canon-long : HasMessage slots s at → r ≡ length (take r out)
+  pub canon-long : Asks (MessageAt slots s at) → r ≡ length (take r out)
   canon-long m = sym (length-take-le r out (canon-within m))
 
   pub canon-part : (t : Term) → MessageAt slots s at t → take r out ≡ encode (canon t)

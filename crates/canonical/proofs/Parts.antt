@@ -8,6 +8,7 @@ use mathlib.Core.Option.{some}
 use native.Mathlib.Omega.{arith}
 use lib.ListN.{length, take, drop, length-append}
 use lib.Seq.{take-add, take-append-seam}
+use Rattle.lists.specs.Asks.{Promises₂}
 use Rattle.lists.specs.Choice.{clash}
 use Rattle.octets.specs.Compare.{compareBytes, isEqual}
 use Rattle.octets.specs.Compare.Laws.{compare-refl, compare-same}
@@ -27,7 +28,7 @@ use Rattle.term.specs.Reader.{term}
 use Rattle.term.specs.Reader.Exact.{term-back}
 use Rattle.term.specs.Walk.{ended, bytesOf}
 use Rattle.canonical.specs.First.{FirstAt}
-use Rattle.canonical.specs.Inner.{Here, EndIs}
+use Rattle.canonical.specs.Inner.{Here}
 
 -- ── the readers' answers where a term stands ──
 module _ (slots s : List ℕ) (bytes : Bytes s) (at : ℕ) where
@@ -35,11 +36,11 @@ module _ (slots s : List ℕ) (bytes : Bytes s) (at : ℕ) where
   reads t e h =
       term-back s slots bytes t at _ (h .formed) (h .range) (h .stands .there) ∙ ap (got t) (sym (h .stands .ends))
 
-  pub end-is : (r n : ℕ) → ended (term s slots at) ≡ part.End r n → EndIs slots s at r
-  end-is r n g t e h = let q : part.End r n ≡ part.End e (symbols t) = sym g ∙ ap ended (reads t e h) in cc
+  pub end-is : (r n : ℕ) → ended (term s slots at) ≡ part.End r n → Promises₂ (Here slots s at) (λ (e : ℕ) (t : Term). r ≡ e)
+  end-is r n g e t h = let q : part.End r n ≡ part.End e (symbols t) = sym g ∙ ap ended (reads t e h) in cc
 
-  pub end-none : ended (term s slots at) ≡ part.Fault → (r : ℕ) → EndIs slots s at r
-  end-none g r t e h = let q : part.Fault ≡ part.End e (symbols t) = sym g ∙ ap ended (reads t e h) in clash (cc)
+  pub end-none : ended (term s slots at) ≡ part.Fault → (r : ℕ) → Promises₂ (Here slots s at) (λ (e : ℕ) (t : Term). r ≡ e)
+  end-none g r e t h = let q : part.Fault ≡ part.End e (symbols t) = sym g ∙ ap ended (reads t e h) in clash (cc)
 
   pub bytes-are : (t : Term) (e : ℕ) → Here slots s at e t → bytesOf (term s slots at) ≡ encode t
   bytes-are t e h = ap bytesOf (reads t e h)

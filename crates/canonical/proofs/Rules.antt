@@ -7,6 +7,11 @@ use mathlib.Core.Bool.{Bool, true, false}
 use mathlib.Core.Option.{some}
 use native.Mathlib.Omega.{arith}
 use lib.ListN.{length}
+use Rattle.canonical.specs.Contract.{longest}
+use Rattle.octets.specs.Compare.{isEqual, compareBytes}
+use Rattle.octets.specs.Head.{Stands}
+use Rattle.canonical.specs.First.{FirstAt}
+use Rattle.lists.specs.Asks.{Asks, Promises, Promises₂}
 use Rattle.octets.specs.Splice.Prefix.{Wrote, widen}
 use Rattle.term.specs.Term.{Term, app, Terms, nil, _&_, encode}
 use Rattle.term.specs.Arity.{arity}
@@ -15,27 +20,28 @@ use Rattle.message.specs.Table.{rules}
 use Rattle.message.specs.Canon.{mk}
 use Rattle.message.specs.Made.{made-dec, made-dec-stays}
 use Rattle.canonical.specs.Builtins.{enc-arity, dec-arity, pair-arity, group}
-use Rattle.canonical.specs.Inner.{Here, EndIs, FirstIs, SameTerms, Moves, Built, Whole, Replaced}
+use Rattle.canonical.specs.Inner.{Here, Built}
 use Rattle.canonical.proofs.Parts.{one-at, Two, two-at, shut, opened, same-term, other-term, stays, here-within}
 
 -- the arguments begin within the slice
-pub place-fits : (slots out : List ℕ) (o e f : ℕ) → Whole slots out o e f → (o < length out) × (length out ≤ 4294967296)
+pub place-fits : (slots out : List ℕ) (o e f : ℕ) → Asks (Built slots out o e f) → (o < length out) × (length out ≤ longest)
 place-fits slots out o e f (us, b) = let w = here-within (app f us) (b .here) in (omega (arith, w .0, w .1), b .short)
 
 -- a part of the term moved to its place
 pub taken :
-    {slots out out′ : List ℕ} {o e i j r : ℕ} (x : Term) → o ≤ i → j ≤ e → Here slots out i j x → Moves out o i j out′ r
+    {slots out out′ : List ℕ} {o e i j r : ℕ} (x : Term) → o ≤ i → j ≤ e → Here slots out i j x → Promises (λ (q : List ℕ). Stands out i q j)
+    (λ (q : List ℕ). Wrote r out o out′ r q)
     → Wrote e out o out′ r (encode x)
 taken {e = e} x a b h m = let w = m (encode x) (h .stands) in widen e (omega (arith, w .ends, h .stands .ends)) w
 
 -- ── fst and snd, of tag f: the two parts of a pair ──
 module _ (slots out : List ℕ) (o e f : ℕ) (small : f < 128) (takes : arity slots f ≡ some 1) (isLeaf : Bool) (tag number next : ℕ)
-    (F : FirstIs slots out (o + 1) isLeaf tag number next) where
+    (F : Promises₂ (Here slots out (o + 1)) (λ (e : ℕ) (t : Term). FirstAt t (o + 1) isLeaf tag number next)) where
   -- no pair
   pub side-shut : (us : Terms) → Built slots out o e f us → tag ≢ 7 → (x : Term) × (us ≡ x & nil) × ((a b : Term) → x ≢ pair a b)
   side-shut us b d =
       let w = one-at slots out o e f small us takes (b .here) in
-      (w .x, w .is, shut slots out (o + 1) e 7 (omega arith) isLeaf tag number next (w .x) (F (w .x) e (w .x-here)) d)
+      (w .x, w .is, shut slots out (o + 1) e 7 (omega arith) isLeaf tag number next (w .x) (F e (w .x) (w .x-here)) d)
 
   pub record Pair (y : ℕ) (us : Terms) : Type 0 where
     pub one : Term
@@ -45,12 +51,12 @@ module _ (slots out : List ℕ) (o e f : ℕ) (small : f < 128) (takes : arity s
     pub one-here : Here slots out next y one
     pub two-here : Here slots out y e two
 
-  pub side-open : (us : Terms) → Built slots out o e f us → tag ≡ 7 → (y : ℕ) → EndIs slots out next y → Pair y us
+  pub side-open : (us : Terms) → Built slots out o e f us → tag ≡ 7 → (y : ℕ) → Promises₂ (Here slots out next) (λ (e : ℕ) (t : Term). y ≡ e) → Pair y us
   side-open us b d y E =
       let w = one-at slots out o e f small us takes (b .here) in
       let v = opened slots out (o + 1) e 7 (omega arith) isLeaf tag number next (w .x) (omega arith) (pair-arity slots (b .table)) (w .x-here)
-      (F (w .x) e (w .x-here)) d in
-      let q : v .middle ≡ y = sym (E (v .x) (v .middle) (v .x-here)) in
+      (F e (w .x) (w .x-here)) d in
+      let q : v .middle ≡ y = sym (E (v .middle) (v .x) (v .x-here)) in
       record {
         one = v .x;
         two = v .y;
@@ -62,7 +68,8 @@ module _ (slots out : List ℕ) (o e f : ℕ) (small : f < 128) (takes : arity s
 
   -- where they lie
   pub side-bounds :
-      Whole slots out o e f → tag ≡ 7 → (y : ℕ) → EndIs slots out next y → (o ≤ next) × (next ≤ y) × (y ≤ e) × (e ≤ length out)
+      Asks (Built slots out o e f) → tag ≡ 7 → (y : ℕ) → Promises₂ (Here slots out next) (λ (e : ℕ) (t : Term). y ≡ e) → (o ≤ next) × (next ≤ y) × (y ≤ e) ×
+      (e ≤ length out)
   side-bounds (us, b) d y E =
       let p = side-open us b d y E in
       let k = here-within (p .one) (p .one-here) in
@@ -72,15 +79,16 @@ module _ (slots out : List ℕ) (o e f : ℕ) (small : f < 128) (takes : arity s
   -- what is made of it, by the rule of f
   pub side-stays :
       ((x : Term) → ((a b : Term) → x ≢ pair a b) → mk rules f (x & nil) ≡ app f (x & nil)) → tag ≢ 7
-      → Replaced slots out o e f (mk rules f) out e
+      → Promises (Built slots out o e f) (λ (us : Terms). Wrote e out o out e (encode (mk rules f us)))
   side-stays law d us b =
       let w = side-shut us b d in
       let q : mk rules f us ≡ app f us = ap (mk rules f) (w .1) ∙ law (w .0) (w .2) ∙ ap (app f) (sym (w .1)) in
       subst (λ (t : Term). Wrote e out o out e (encode t)) (sym q) (stays out o e (encode (app f us)) (b .here .stands))
 
-  module _ (d : tag ≡ 7) (y : ℕ) (E : EndIs slots out next y) (out′ : List ℕ) (r : ℕ) where
+  module _ (d : tag ≡ 7) (y : ℕ) (E : Promises₂ (Here slots out next) (λ (e : ℕ) (t : Term). y ≡ e)) (out′ : List ℕ) (r : ℕ) where
     pub side-one :
-        ((a b : Term) → mk rules f (pair a b & nil) ≡ a) → Moves out o next y out′ r → Replaced slots out o e f (mk rules f) out′ r
+        ((a b : Term) → mk rules f (pair a b & nil) ≡ a) → Promises (λ (q : List ℕ). Stands out next q y) (λ (q : List ℕ). Wrote r out o out′ r q) → Promises
+        (Built slots out o e f) (λ (us : Terms). Wrote e out o out′ r (encode (mk rules f us)))
     side-one law m us b =
         let p = side-open us b d y E in
         let l = here-within (p .two) (p .two-here) in
@@ -88,7 +96,8 @@ module _ (slots out : List ℕ) (o e f : ℕ) (small : f < 128) (takes : arity s
         subst (λ (t : Term). Wrote e out o out′ r (encode t)) (sym q) (taken (p .one) (p .before) (omega arith) (p .one-here) m)
 
     pub side-two :
-        ((a b : Term) → mk rules f (pair a b & nil) ≡ b) → Moves out o y e out′ r → Replaced slots out o e f (mk rules f) out′ r
+        ((a b : Term) → mk rules f (pair a b & nil) ≡ b) → Promises (λ (q : List ℕ). Stands out y q e) (λ (q : List ℕ). Wrote r out o out′ r q) → Promises
+        (Built slots out o e f) (λ (us : Terms). Wrote e out o out′ r (encode (mk rules f us)))
     side-two law m us b =
         let p = side-open us b d y E in
         let k = here-within (p .one) (p .one-here) in
@@ -97,7 +106,8 @@ module _ (slots out : List ℕ) (o e f : ℕ) (small : f < 128) (takes : arity s
         (taken (p .two) (omega (arith, p .before)) (omega arith) (p .two-here) m)
 
 -- ── dec ──
-module _ (slots out : List ℕ) (o e : ℕ) (isLeaf : Bool) (tag number next : ℕ) (F : FirstIs slots out (o + 1) isLeaf tag number next) where
+module _ (slots out : List ℕ) (o e : ℕ) (isLeaf : Bool) (tag number next : ℕ) (F : Promises₂ (Here slots out (o + 1))
+    (λ (e : ℕ) (t : Term). FirstAt t (o + 1) isLeaf tag number next)) where
   -- the ciphertext and the key
   dec-two : (us : Terms) → Built slots out o e 5 us → Two slots out o e 5 (omega arith) us
   dec-two us b = two-at slots out o e 5 (omega arith) us (dec-arity slots (b .table)) (b .here)
@@ -108,13 +118,14 @@ module _ (slots out : List ℕ) (o e : ℕ) (isLeaf : Bool) (tag number next : �
       let q : mk rules 5 us ≡ app 5 us = ap (mk rules 5) i ∙ made-dec-stays (arity slots) (group slots (b .table)) c k h ∙ ap (app 5) (sym i) in
       subst (λ (t : Term). Wrote e out o out e (encode t)) (sym q) (stays out o e (encode (app 5 us)) (b .here .stands))
 
-  pub dec-shut : tag ≢ 4 → Replaced slots out o e 5 (mk rules 5) out e
+  pub dec-shut : tag ≢ 4 → Promises (Built slots out o e 5) (λ (us : Terms). Wrote e out o out e (encode (mk rules 5 us)))
   dec-shut d us b =
       let w = dec-two us b in
       dec-as-it-stands us (w .x) (w .y) (w .is)
-      (λ m. shut slots out (o + 1) (w .middle) 4 (omega arith) isLeaf tag number next (w .x) (F (w .x) (w .middle) (w .x-here)) d m (w .y)) b
+      (λ m. shut slots out (o + 1) (w .middle) 4 (omega arith) isLeaf tag number next (w .x) (F (w .middle) (w .x) (w .x-here)) d m (w .y)) b
 
-  module _ (d : tag ≡ 4) (i j : ℕ) (E : EndIs slots out next i) (G : EndIs slots out i j) where
+  module _ (d : tag ≡ 4) (i j : ℕ) (E : Promises₂ (Here slots out next) (λ (e : ℕ) (t : Term). i ≡ e))
+      (G : Promises₂ (Here slots out i) (λ (e : ℕ) (t : Term). j ≡ e)) where
     record Cipher (us : Terms) : Type 0 where
       message : Term
       key : Term
@@ -129,10 +140,10 @@ module _ (slots out : List ℕ) (o e : ℕ) (isLeaf : Bool) (tag number next : �
     cipher us b =
         let w = dec-two us b in
         let v = opened slots out (o + 1) (w .middle) 4 (omega arith) isLeaf tag number next (w .x) (omega arith) (enc-arity slots (b .table)) (w .x-here)
-        (F (w .x) (w .middle) (w .x-here)) d in
-        let q : v .middle ≡ i = sym (E (v .x) (v .middle) (v .x-here)) in
+        (F (w .middle) (w .x) (w .x-here)) d in
+        let q : v .middle ≡ i = sym (E (v .middle) (v .x) (v .x-here)) in
         let y-here = subst (λ (m : ℕ). Here slots out m (w .middle) (v .y)) q (v .y-here) in
-        let p : w .middle ≡ j = sym (G (v .y) (w .middle) y-here) in
+        let p : w .middle ≡ j = sym (G (w .middle) (v .y) y-here) in
         record {
           message = v .x;
           key = v .y;
@@ -144,27 +155,31 @@ module _ (slots out : List ℕ) (o e : ℕ) (isLeaf : Bool) (tag number next : �
           given-here = subst (λ (m : ℕ). Here slots out m e (w .y)) p (w .y-here);
         }
 
-    pub dec-bounds : Whole slots out o e 5 → (o ≤ next) × (next ≤ i) × (i ≤ length out)
+    pub dec-bounds : Asks (Built slots out o e 5) → (o ≤ next) × (next ≤ i) × (i ≤ length out)
     dec-bounds (us, b) =
         let p = cipher us b in
         let k = here-within (p .message) (p .message-here) in
         (p .before, omega arith, k .1)
 
-    pub dec-opens : SameTerms slots out i j true → (out′ : List ℕ) (r : ℕ) → Moves out o next i out′ r
-        → Replaced slots out o e 5 (mk rules 5) out′ r
+    pub dec-opens : Promises₂ (Here slots out i) (λ (d : ℕ) (x : Term). Promises₂ (Here slots out j)
+        (λ (e : ℕ) (y : Term). true ≡ isEqual (compareBytes (encode x) (encode y)))) → (out′ : List ℕ) (r : ℕ) → Promises (λ (q : List ℕ). Stands out next q i)
+        (λ (q : List ℕ). Wrote r out o out′ r q)
+        → Promises (Built slots out o e 5) (λ (us : Terms). Wrote e out o out′ r (encode (mk rules 5 us)))
     dec-opens S out′ r m us b =
         let p = cipher us b in
         let k = here-within (p .key) (p .key-here) in
         let g = here-within (p .given) (p .given-here) in
         let s : p .key ≡ p .given =
-        same-term slots (p .key) (p .given) (p .key-here .formed) (p .given-here .formed) (sym (S (p .key) (p .given) j e (p .key-here) (p .given-here))) in
+        same-term slots (p .key) (p .given) (p .key-here .formed) (p .given-here .formed) (sym (S j (p .key) (p .key-here) e (p .given) (p .given-here))) in
         let q : mk rules 5 us ≡ p .message =
         ap (mk rules 5) (p .is ∙ ap (λ (z : Term). enc (p .message) (p .key) & (z & nil)) (sym s)) ∙ made-dec (arity slots) (group slots (b .table))
         (p .message) (p .key) in
         subst (λ (t : Term). Wrote e out o out′ r (encode t)) (sym q) (taken (p .message) (p .before) (omega arith) (p .message-here) m)
 
-    pub dec-stays : SameTerms slots out i j false → Replaced slots out o e 5 (mk rules 5) out e
+    pub dec-stays : Promises₂ (Here slots out i) (λ (d : ℕ) (x : Term). Promises₂ (Here slots out j)
+        (λ (e : ℕ) (y : Term). false ≡ isEqual (compareBytes (encode x) (encode y)))) → Promises (Built slots out o e 5)
+        (λ (us : Terms). Wrote e out o out e (encode (mk rules 5 us)))
     dec-stays S us b =
         let p = cipher us b in
         dec-as-it-stands us (enc (p .message) (p .key)) (p .given) (p .is)
-        (λ m q. other-term slots (p .key) (p .given) (sym (S (p .key) (p .given) j e (p .key-here) (p .given-here))) (cc)) b
+        (λ m q. other-term slots (p .key) (p .given) (sym (S j (p .key) (p .key-here) e (p .given) (p .given-here))) (cc)) b

@@ -6,6 +6,8 @@ use mathlib.Core.Logic.{_≢_, inl, inr}
 use mathlib.Core.Bool.{Bool, true, false}
 use native.Mathlib.Omega.{arith}
 use lib.ListN.{length, drop, length-append}
+use Rattle.canonical.specs.First.{FirstAt}
+use Rattle.lists.specs.Asks.{Asks₂, Promises₂}
 use Rattle.lists.specs.Choice.{clash}
 use Rattle.octets.specs.Head.{stands-at, stands-within, behind}
 use Rattle.octets.specs.Splice.Prefix.{Wrote, widen, wrote-nothing, wrote-then}
@@ -17,8 +19,8 @@ use Rattle.term.specs.Reader.Exact.{behind-tag}
 use Rattle.message.specs.Substitution.{sub, subs}
 use Rattle.message.specs.Parts.Entries.{Each}
 use Rattle.canonical.specs.Loose.{made, mades}
-use Rattle.canonical.specs.Contract.{mostSymbols, Job, Ready, Out}
-use Rattle.canonical.specs.Inner.{Making, LeafJob, LeafReady, LeafDone, Here, FirstIs}
+use Rattle.canonical.specs.Contract.{mostSymbols, Job, Out}
+use Rattle.canonical.specs.Inner.{LeafJob, Here}
 
 -- ── a job of one term and more ──
 each-small : (θ : ℕ → Term) (ts : Terms) → symbolss (subs θ ts) ≤ mostSymbols → Each (λ t. symbols (sub θ t) ≤ mostSymbols) ts
@@ -76,13 +78,14 @@ module _ (slots vals starts src : List ℕ) (at k n o : ℕ) (θ : ℕ → Term)
 -- no term is left
 pub none-done :
     (slots vals starts src : List ℕ) (at k : ℕ) (inside : Bool) (out : List ℕ) (o : ℕ) → k ≡ 0
-    → Making slots vals starts src at k inside out o out at o
+    → Promises₂ (Job slots vals starts src at k (length out) o) (λ (θ : ℕ → Term) (ts : Terms). Out (o + length (encodes (subs θ ts))) at out o out at o
+    (encodes ts) (encodes (mades inside θ ts)))
 none-done slots vals starts src at k inside out o z θ nil J = record { read = omega arith; wrote = wrote-nothing _ o out }
 none-done slots vals starts src at k inside out o z θ (t & us) J = absurd (omega (arith, J .many))
 
 -- ── by the first symbol ──
 module _ (slots vals starts src : List ℕ) (at k n o : ℕ) (isLeaf : Bool) (tag number next : ℕ)
-    (F : FirstIs slots src at isLeaf tag number next) (more : k ≢ 0) where
+    (F : Promises₂ (Here slots src at) (λ (e : ℕ) (t : Term). FirstAt t at isLeaf tag number next)) (more : k ≢ 0) where
   pub leaf-case :
       (P : Terms → Type 0) (θ : ℕ → Term) (ts : Terms) → isLeaf ≡ true → Job slots vals starts src at k n o θ ts
       → ((kd : Kind) (us : Terms) → tag ≡ tagOf kd → next ≡ at + length (encode (leaf kd number))
@@ -90,13 +93,13 @@ module _ (slots vals starts src : List ℕ) (at k n o : ℕ) (isLeaf : Bool) (ta
       → P ts
   leaf-case P θ nil b J c = absurd (more (sym (J .many)))
   leaf-case P θ (leaf kd m & us) b J c =
-      let f = F (leaf kd m) _ (here-one slots vals starts src at k n o θ (leaf kd m) us J) in
+      let f = F _ (leaf kd m) (here-one slots vals starts src at k n o θ (leaf kd m) us J) in
       let q : m ≡ number = sym (f .number-is) in
       subst (λ (i : ℕ). P (leaf kd i & us)) (sym q)
       (c kd us (f .tag-is) (f .next-is ∙ ap (λ (i : ℕ). at + length (encode (leaf kd i))) q)
       (subst (λ (i : ℕ). Job slots vals starts src at k n o θ (leaf kd i & us)) q J))
   leaf-case P θ (app g args & us) b J c =
-      let f = F (app g args) _ (here-one slots vals starts src at k n o θ (app g args) us J) in
+      let f = F _ (app g args) (here-one slots vals starts src at k n o θ (app g args) us J) in
       let q : true ≡ false = sym b ∙ f .leaf-is in
       clash (cc)
 
@@ -107,25 +110,25 @@ module _ (slots vals starts src : List ℕ) (at k n o : ℕ) (isLeaf : Bool) (ta
       → P ts
   op-case P θ nil b J c = absurd (more (sym (J .many)))
   op-case P θ (leaf kd m & us) b J c =
-      let f = F (leaf kd m) _ (here-one slots vals starts src at k n o θ (leaf kd m) us J) in
+      let f = F _ (leaf kd m) (here-one slots vals starts src at k n o θ (leaf kd m) us J) in
       let q : false ≡ true = sym b ∙ f .leaf-is in
       clash (cc)
   op-case P θ (app g args & us) b J c =
-      let f = F (app g args) _ (here-one slots vals starts src at k n o θ (app g args) us J) in
+      let f = F _ (app g args) (here-one slots vals starts src at k n o θ (app g args) us J) in
       let q : g ≡ tag = sym (f .tag-is) in
       subst (λ (i : ℕ). P (app i args & us)) (sym q)
       (c args us (sym (f .number-is)) (f .next-is ∙ ap (λ (i : ℕ). at + length (groups i)) q)
       (subst (λ (i : ℕ). Job slots vals starts src at k n o θ (app i args & us)) q J))
 
   -- the place moves on, within the source
-  pub ahead : Ready slots vals starts src at k n o → (at < next) × (at < length src)
+  pub ahead : Asks₂ (Job slots vals starts src at k n o) → (at < next) × (at < length src)
   ahead (θ, nil, J) = absurd (more (sym (J .many)))
   ahead (θ, (leaf kd m & us), J) =
-      let f = F (leaf kd m) _ (here-one slots vals starts src at k n o θ (leaf kd m) us J) in
+      let f = F _ (leaf kd m) (here-one slots vals starts src at k n o θ (leaf kd m) us J) in
       let l = encode-some (leaf kd m) in
       (omega (arith, f .next-is, l), omega (arith, l, inside-source slots vals starts src at k n o θ (leaf kd m) us J))
   ahead (θ, (app g args & us), J) =
-      let f = F (app g args) _ (here-one slots vals starts src at k n o θ (app g args) us J) in
+      let f = F _ (app g args) (here-one slots vals starts src at k n o θ (app g args) us J) in
       let l = encode-some (app g args) in
       (omega (arith, f .next-is, groups-some g), omega (arith, l, inside-source slots vals starts src at k n o θ (app g args) us J))
 
@@ -147,14 +150,15 @@ leaf-job slots vals starts src at k n o tag number θ kd us t J = record {
 }
 
 module _ (slots vals starts src : List ℕ) (at k : ℕ) (out : List ℕ) (o : ℕ) (isLeaf : Bool) (tag number next : ℕ)
-    (F : FirstIs slots src at isLeaf tag number next) (more : k ≢ 0) (b : isLeaf ≡ true) where
-  pub leaf-asks : Ready slots vals starts src at k (length out) o → LeafReady slots vals starts (length out) o tag number
+    (F : Promises₂ (Here slots src at) (λ (e : ℕ) (t : Term). FirstAt t at isLeaf tag number next)) (more : k ≢ 0) (b : isLeaf ≡ true) where
+  pub leaf-asks : Asks₂ (Job slots vals starts src at k (length out) o) → Asks₂ (LeafJob slots vals starts (length out) o tag number)
   leaf-asks (θ, ts, J) =
       leaf-case slots vals starts src at k (length out) o isLeaf tag number next F more
-      (λ ts. LeafReady slots vals starts (length out) o tag number) θ ts b J
+      (λ ts. (Asks₂ (LeafJob slots vals starts (length out) o tag number))) θ ts b J
       (λ kd us t p J. (θ, kd, leaf-job slots vals starts src at k (length out) o tag number θ kd us t J))
 
-  module _ (out₁ : List ℕ) (p : ℕ) (same : length out₁ ≡ length out) (D : LeafDone slots vals starts out o tag number out₁ p) where
+  module _ (out₁ : List ℕ) (p : ℕ) (same : length out₁ ≡ length out) (D : Promises₂ (LeafJob slots vals starts (length out) o tag number)
+      (λ (θ : ℕ → Term) (k : Kind). Wrote p out o out₁ p (encode (sub θ (leaf k number))))) where
     rest-job :
         (θ : ℕ → Term) (kd : Kind) (us : Terms) → tag ≡ tagOf kd → next ≡ at + length (encode (leaf kd number))
         → Job slots vals starts src at k (length out) o θ (leaf kd number & us)
@@ -163,15 +167,17 @@ module _ (slots vals starts src : List ℕ) (at k : ℕ) (out : List ℕ) (o : �
         let d = D θ kd (leaf-job slots vals starts src at k (length out) o tag number θ kd us t J) in
         next-job slots vals starts src at k (length out) o θ (leaf kd number) us J next (length out₁) p e same (omega (arith, d .ends))
 
-    pub leaf-next : Ready slots vals starts src at k (length out) o → Ready slots vals starts src next (k - 1) (length out₁) p
+    pub leaf-next : Asks₂ (Job slots vals starts src at k (length out) o) → Asks₂ (Job slots vals starts src next (k - 1) (length out₁) p)
     leaf-next (θ, ts, J) =
         leaf-case slots vals starts src at k (length out) o isLeaf tag number next F more
-        (λ ts. Ready slots vals starts src next (k - 1) (length out₁) p) θ ts b J
+        (λ ts. (Asks₂ (Job slots vals starts src next (k - 1) (length out₁) p))) θ ts b J
         (λ kd us t e J. (θ, us, rest-job θ kd us t e J))
 
     pub leaf-done :
-        (inside : Bool) (out′ : List ℕ) (at′ o′ : ℕ) → Making slots vals starts src next (k - 1) inside out₁ p out′ at′ o′
-        → Making slots vals starts src at k inside out o out′ at′ o′
+        (inside : Bool) (out′ : List ℕ) (at′ o′ : ℕ) → Promises₂ (Job slots vals starts src next (k - 1) (length out₁) p)
+        (λ (θ : ℕ → Term) (ts : Terms). Out (p + length (encodes (subs θ ts))) next out₁ p out′ at′ o′ (encodes ts) (encodes (mades inside θ ts)))
+        → Promises₂ (Job slots vals starts src at k (length out) o) (λ (θ : ℕ → Term) (ts : Terms). Out (o + length (encodes (subs θ ts))) at out o out′ at′ o′
+        (encodes ts) (encodes (mades inside θ ts)))
     leaf-done inside out′ at′ o′ M θ ts J =
         leaf-case slots vals starts src at k (length out) o isLeaf tag number next F more
         (λ ts. Out (o + length (encodes (subs θ ts))) at out o out′ at′ o′ (encodes ts) (encodes (mades inside θ ts))) θ ts b J

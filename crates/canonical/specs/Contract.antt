@@ -1,19 +1,14 @@
--- What the crate's functions are asked and what they promise, by the trees that the bytes encode: what is asked holds of some trees, and
--- what is promised holds of all trees of which that holds.
+-- What the crate's functions are asked, by the trees that the bytes encode.
 use Prim.Native.Nat.{ℕ, _+_, _^_, _≤_, _<_}
 use mathlib.Core.List.{List, _++_}
 use mathlib.Core.Path.{_≡_}
-use mathlib.Core.Bool.{Bool, true}
-use mathlib.Core.Logic.{_↔_}
 use lib.ListN.{length, drop, getD}
 use Rattle.octets.specs.Splice.Prefix.{Wrote}
 use Rattle.term.specs.Term.{Term, Terms, count, encode, encodes, symbols, Formed, Formeds, InRange, InRanges}
 use Rattle.term.specs.Arity.{arity}
-use Rattle.message.specs.Equations.{Same}
 use Rattle.message.specs.Substitution.{sub, subs, Occurss, Ground}
 use Rattle.message.specs.Parts.Entries.{Each}
 use Rattle.message.specs.Canon.{canon}
-use Rattle.message.specs.Filled.{filleds}
 use Rattle.canonical.specs.Builtins.{Builtins}
 -- what is written are the canonical forms, and each can be a value again
 pub mod Laws
@@ -51,19 +46,10 @@ pub record Job (slots vals starts src : List ℕ) (at k n o : ℕ) (θ : ℕ →
   pub short : n ≤ longest
   pub values-short : length vals ≤ longest
 
-abbrev pub Ready : List ℕ → List ℕ → List ℕ → List ℕ → ℕ → ℕ → ℕ → ℕ → Type 0
-Ready slots vals starts src at k n o = (θ : ℕ → Term) × (ts : Terms) × Job slots vals starts src at k n o θ ts
-
 -- p was read from `at` on and q written from o on; from w on the output is as it was
 pub record Out (w at : ℕ) (out : List ℕ) (o : ℕ) (out′ : List ℕ) (at′ o′ : ℕ) (p q : List ℕ) : Type 0 where
   pub read : at′ ≡ at + length p
   pub wrote : Wrote w out o out′ o′ q
-
--- the canonical forms of the terms filled in were written, and nothing past the room for these terms changed
-abbrev pub Done : List ℕ → List ℕ → List ℕ → List ℕ → ℕ → ℕ → List ℕ → ℕ → List ℕ → ℕ → ℕ → Type 0
-Done slots vals starts src at k out o out′ at′ o′ =
-    (θ : ℕ → Term) (ts : Terms) → Job slots vals starts src at k (length out) o θ ts
-    → Out (o + length (encodes (subs θ ts))) at out o out′ at′ o′ (encodes ts) (encodes (filleds θ ts))
 
 -- ── one message ──
 -- the message t stands in s from `at` on
@@ -76,15 +62,3 @@ pub record MessageAt (slots s : List ℕ) (at : ℕ) (t : Term) : Type 0 where
   pub there : drop at s ≡ encode t ++ rest
   pub small : symbols t ≤ mostSymbols
   pub short : length s ≤ longest
-
-abbrev pub HasMessage : List ℕ → List ℕ → ℕ → Type 0
-HasMessage slots s at = (t : Term) × MessageAt slots s at t
-
--- true exactly when it is its own canonical form
-abbrev pub IsCanonical : List ℕ → List ℕ → ℕ → Bool → Type 0
-IsCanonical slots s at b = (t : Term) → MessageAt slots s at t → (b ≡ true) ↔ (canon t ≡ t)
-
--- true exactly when the ten equations make them equal
-abbrev pub IsSame : List ℕ → List ℕ → ℕ → List ℕ → ℕ → Bool → Type 0
-IsSame slots s i u j b =
-    (x y : Term) → MessageAt slots s i x → MessageAt slots u j y → (b ≡ true) ↔ Same (arity slots) x y

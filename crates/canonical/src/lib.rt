@@ -1,15 +1,26 @@
 // The canonical form of terms at a place, filled in with canonical values; is a term canonical; are two messages the same.
 ghost use mathlib.Core.Path.{_≡_};
 ghost use mathlib.Core.Bool.{true, false};
-ghost use Prim.Native.Nat.{_+_, _≤_, _<_};
+ghost use Prim.Native.Nat.{_+_, _≤_, _<_, ℕ};
 ghost use lib.ListN.{length};
+ghost use mathlib.Core.List.{List};
+ghost use mathlib.Core.Logic.{_↔_};
+ghost use Rattle.octets.specs.Compare.{isEqual, compareBytes};
+ghost use Rattle.octets.specs.Head.{Stands};
+ghost use Rattle.canonical.specs.First.{FirstAt};
+ghost use Rattle.message.specs.Equations.{Same};
+ghost use Rattle.message.specs.Filled.{filleds};
+ghost use Rattle.message.specs.Substitution.{sub, subs};
+ghost use Rattle.term.specs.Arity.{arity};
+ghost use Rattle.term.specs.Term.{Kind, Term, Terms, leaf, encode, encodes};
+ghost use Rattle.lists.specs.Asks.{Asks, Asks₂, Promises, Promises₂};
 ghost use Rattle.octets.specs.Splice.Prefix.{Wrote};
 ghost use Rattle.number.specs.Groups.{groups, numberLimit};
 ghost use Rattle.message.specs.Table.{rules};
-ghost use Rattle.message.specs.Canon.{mk};
-ghost use Rattle.canonical.specs.Loose.{isProduct, closed};
-ghost use Rattle.canonical.specs.Contract.{longest, Ready, Done, HasMessage, IsCanonical, IsSame};
-ghost use Rattle.canonical.specs.Inner.{Making, LeafReady, LeafDone, FirstIs, EndIs, SameTerms, Moves, Whole, Replaced, CanonAt};
+ghost use Rattle.message.specs.Canon.{mk, canon};
+ghost use Rattle.canonical.specs.Loose.{isProduct, closed, mades};
+ghost use Rattle.canonical.specs.Contract.{longest, Job, Out, MessageAt};
+ghost use Rattle.canonical.specs.Inner.{LeafJob, Here, Built};
 use term::Part;
 use term::Symbol;
 
@@ -29,7 +40,7 @@ struct Head {
 
 // The first symbol of the term at a place.
 fn first(s: &[u8], arities: &[u8], at: usize) -> Head
-    ensures { λ r. ⌜ FirstIs (now (arities .entry)) (now (s .entry)) at (r .leaf) (r .tag) (r .number) (r .next) ⌝ }
+    ensures { λ r. ⌜ Promises₂ (Here (now (arities .entry)) (now (s .entry)) at) (λ (e : ℕ) (t : Term). FirstAt t at (r .leaf) (r .tag) (r .number) (r .next)) ⌝ }
 {
     match term::symbol_at(s, arities, at) {
         Symbol::Leaf(t, n, e) => Head {
@@ -56,7 +67,7 @@ fn first(s: &[u8], arities: &[u8], at: usize) -> Head
 // The place behind the term at a place.
 fn end_of(s: &[u8], arities: &[u8], at: usize) -> usize
     requires { ⌜ length (now s) ≤ longest ⌝ }
-    ensures { λ r. ⌜ EndIs (now (arities .entry)) (now (s .entry)) at r ⌝ }
+    ensures { λ r. ⌜ Promises₂ (Here (now (arities .entry)) (now (s .entry)) at) (λ (e : ℕ) (t : Term). r ≡ e) ⌝ }
 {
     match term::term_end(s, arities, at) {
         Part::End(e, _) => e,
@@ -67,7 +78,7 @@ fn end_of(s: &[u8], arities: &[u8], at: usize) -> usize
 // Whether the terms at two places are the same.
 fn same_terms(s: &[u8], arities: &[u8], i: usize, j: usize) -> bool
     requires { ⌜ length (now s) ≤ longest ⌝ }
-    ensures { λ r. ⌜ SameTerms (now (arities .entry)) (now (s .entry)) i j r ⌝ }
+    ensures { λ r. ⌜ Promises₂ (Here (now (arities .entry)) (now (s .entry)) i) (λ (d : ℕ) (x : Term). Promises₂ (Here (now (arities .entry)) (now (s .entry)) j) (λ (e : ℕ) (y : Term). r ≡ isEqual (compareBytes (encode x) (encode y)))) ⌝ }
 {
     octets::same_bytes(
         term::term_part(s, arities, i),
@@ -78,7 +89,7 @@ fn same_terms(s: &[u8], arities: &[u8], i: usize, j: usize) -> bool
 // Moves the bytes from one place up to another down to o, and gives the place behind them.
 fn move_to(out: &mut [u8], o: usize, from: usize, to: usize) -> usize
     requires { ⌜ (o ≤ from) × (from ≤ to) × (to ≤ length (now out)) ⌝ }
-    ensures { λ r. ⌜ Moves (now (out .entry)) o from to (now (out .exit)) r ⌝ }
+    ensures { λ r. ⌜ Promises (λ (q : List ℕ). Stands (now (out .entry)) from q to) (λ (q : List ℕ). Wrote r (now (out .entry)) o (now (out .exit)) r q) ⌝ }
 {
     octets::copy_within(out, from, o, to - from);
     o + (to - from)
@@ -109,8 +120,8 @@ fn put_leaf(
     vals: &[u8],
     starts: &[usize],
 ) -> usize
-    requires { ⌜ LeafReady (now arities) (now vals) (now starts) (length (now out)) o tag number ⌝ }
-    ensures { λ r. ⌜ LeafDone (now (arities .entry)) (now (vals .entry)) (now (starts .entry)) (now (out .entry)) o tag number (now (out .exit)) r ⌝ }
+    requires { ⌜ Asks₂ (LeafJob (now arities) (now vals) (now starts) (length (now out)) o tag number) ⌝ }
+    ensures { λ r. ⌜ Promises₂ (LeafJob (now (arities .entry)) (now (vals .entry)) (now (starts .entry)) (length (now (out .entry))) o tag number) (λ (θ : ℕ → Term) (k : Kind). Wrote r (now (out .entry)) o (now (out .exit)) r (encode (sub θ (leaf k number)))) ⌝ }
 {
     if tag == 0 {
         let from = starts[number];
@@ -122,8 +133,8 @@ fn put_leaf(
 
 // dec(enc(x, y), y) is x.
 fn unlock(out: &mut [u8], o: usize, e: usize, arities: &[u8]) -> usize
-    requires { ⌜ Whole (now arities) (now out) o e 5 ⌝ }
-    ensures { λ r. ⌜ Replaced (now (arities .entry)) (now (out .entry)) o e 5 (mk rules 5) (now (out .exit)) r ⌝ }
+    requires { ⌜ Asks (Built (now arities) (now out) o e 5) ⌝ }
+    ensures { λ r. ⌜ Promises (Built (now (arities .entry)) (now (out .entry)) o e 5) (λ (us : Terms). Wrote e (now (out .entry)) o (now (out .exit)) r (encode (mk rules 5 us))) ⌝ }
 {
     let c = first(out, arities, o + 1);
     if c.tag != 4 {
@@ -140,8 +151,8 @@ fn unlock(out: &mut [u8], o: usize, e: usize, arities: &[u8]) -> usize
 
 // fst(pair(x, y)) is x.
 fn left(out: &mut [u8], o: usize, e: usize, arities: &[u8]) -> usize
-    requires { ⌜ Whole (now arities) (now out) o e 8 ⌝ }
-    ensures { λ r. ⌜ Replaced (now (arities .entry)) (now (out .entry)) o e 8 (mk rules 8) (now (out .exit)) r ⌝ }
+    requires { ⌜ Asks (Built (now arities) (now out) o e 8) ⌝ }
+    ensures { λ r. ⌜ Promises (Built (now (arities .entry)) (now (out .entry)) o e 8) (λ (us : Terms). Wrote e (now (out .entry)) o (now (out .exit)) r (encode (mk rules 8 us))) ⌝ }
 {
     let c = first(out, arities, o + 1);
     if c.tag != 7 {
@@ -154,8 +165,8 @@ fn left(out: &mut [u8], o: usize, e: usize, arities: &[u8]) -> usize
 
 // snd(pair(x, y)) is y.
 fn right(out: &mut [u8], o: usize, e: usize, arities: &[u8]) -> usize
-    requires { ⌜ Whole (now arities) (now out) o e 9 ⌝ }
-    ensures { λ r. ⌜ Replaced (now (arities .entry)) (now (out .entry)) o e 9 (mk rules 9) (now (out .exit)) r ⌝ }
+    requires { ⌜ Asks (Built (now arities) (now out) o e 9) ⌝ }
+    ensures { λ r. ⌜ Promises (Built (now (arities .entry)) (now (out .entry)) o e 9) (λ (us : Terms). Wrote e (now (out .entry)) o (now (out .exit)) r (encode (mk rules 9 us))) ⌝ }
 {
     let c = first(out, arities, o + 1);
     if c.tag != 7 {
@@ -168,8 +179,8 @@ fn right(out: &mut [u8], o: usize, e: usize, arities: &[u8]) -> usize
 
 // The function of a tag, no product function, of canonical arguments.
 fn reduce(out: &mut [u8], o: usize, e: usize, tag: usize, arities: &[u8]) -> usize
-    requires { ⌜ (isProduct tag ≡ false) × Whole (now arities) (now out) o e tag ⌝ }
-    ensures { λ r. ⌜ Replaced (now (arities .entry)) (now (out .entry)) o e tag (mk rules tag) (now (out .exit)) r ⌝ }
+    requires { ⌜ (isProduct tag ≡ false) × Asks (Built (now arities) (now out) o e tag) ⌝ }
+    ensures { λ r. ⌜ Promises (Built (now (arities .entry)) (now (out .entry)) o e tag) (λ (us : Terms). Wrote e (now (out .entry)) o (now (out .exit)) r (encode (mk rules tag us))) ⌝ }
 {
     if tag == 5 {
         return unlock(out, o, e, arities);
@@ -188,8 +199,8 @@ fn reduce(out: &mut [u8], o: usize, e: usize, tag: usize, arities: &[u8]) -> usi
 
 // The function of a tag, of made arguments. Inside a product a product function stays as it stands: only the outermost is multiplied out.
 fn close(out: &mut [u8], o: usize, e: usize, tag: usize, inside: bool, arities: &[u8]) -> usize
-    requires { ⌜ Whole (now arities) (now out) o e tag ⌝ }
-    ensures { λ r. ⌜ Replaced (now (arities .entry)) (now (out .entry)) o e tag (closed inside tag) (now (out .exit)) r ⌝ }
+    requires { ⌜ Asks (Built (now arities) (now out) o e tag) ⌝ }
+    ensures { λ r. ⌜ Promises (Built (now (arities .entry)) (now (out .entry)) o e tag) (λ (us : Terms). Wrote e (now (out .entry)) o (now (out .exit)) r (encode (closed inside tag us))) ⌝ }
 {
     if is_product(tag) {
         if inside {
@@ -212,8 +223,8 @@ fn make(
     vals: &[u8],
     starts: &[usize],
 ) -> Next
-    requires { ⌜ Ready (now arities) (now vals) (now starts) (now src) at k (length (now out)) o ⌝ }
-    ensures { λ r. ⌜ Making (now (arities .entry)) (now (vals .entry)) (now (starts .entry)) (now (src .entry)) at k inside (now (out .entry)) o (now (out .exit)) (r .at) (r .o) ⌝ }
+    requires { ⌜ Asks₂ (Job (now arities) (now vals) (now starts) (now src) at k (length (now out)) o) ⌝ }
+    ensures { λ r. ⌜ Promises₂ (Job (now (arities .entry)) (now (vals .entry)) (now (starts .entry)) (now (src .entry)) at k (length (now (out .entry))) o) (λ (θ : ℕ → Term) (ts : Terms). Out (o + length (encodes (subs θ ts))) at (now (out .entry)) o (now (out .exit)) (r .at) (r .o) (encodes ts) (encodes (mades inside θ ts))) ⌝ }
 {
     if k == 0 {
         return Next { at: at, o: o };
@@ -243,8 +254,8 @@ pub fn canonical_into(
     vals: &[u8],
     starts: &[usize],
 ) -> Next
-    requires { ⌜ Ready (now arities) (now vals) (now starts) (now src) at k (length (now out)) o ⌝ }
-    ensures { λ r. ⌜ Done (now (arities .entry)) (now (vals .entry)) (now (starts .entry)) (now (src .entry)) at k (now (out .entry)) o (now (out .exit)) (r .at) (r .o) ⌝ }
+    requires { ⌜ Asks₂ (Job (now arities) (now vals) (now starts) (now src) at k (length (now out)) o) ⌝ }
+    ensures { λ r. ⌜ Promises₂ (Job (now (arities .entry)) (now (vals .entry)) (now (starts .entry)) (now (src .entry)) at k (length (now (out .entry))) o) (λ (θ : ℕ → Term) (ts : Terms). Out (o + length (encodes (subs θ ts))) at (now (out .entry)) o (now (out .exit)) (r .at) (r .o) (encodes ts) (encodes (filleds θ ts))) ⌝ }
 {
     let n = make(&mut out[o..], 0, src, at, k, false, arities, vals, starts);
     Next {
@@ -255,8 +266,8 @@ pub fn canonical_into(
 
 // Writes the canonical form of the message at a place to the start of an output.
 pub fn canonical_term(out: &mut [u8; 1280], s: &[u8], at: usize, arities: &[u8]) -> usize
-    requires { ⌜ HasMessage (now arities) (now s) at ⌝ }
-    ensures { λ r. ⌜ CanonAt (now (arities .entry)) (now (s .entry)) at (now (out .exit)) r ⌝ }
+    requires { ⌜ Asks (MessageAt (now arities) (now s) at) ⌝ }
+    ensures { λ r. ⌜ Promises (MessageAt (now (arities .entry)) (now (s .entry)) at) (λ (t : Term). Stands (now (out .exit)) 0 (encode (canon t)) r) ⌝ }
 {
     let starts = [0usize; 1];
     let n = canonical_into(out, 0, s, at, 1, arities, s, &starts);
@@ -265,8 +276,8 @@ pub fn canonical_term(out: &mut [u8; 1280], s: &[u8], at: usize, arities: &[u8])
 
 // Whether the message at a place is in canonical form.
 pub fn is_canonical(s: &[u8], at: usize, arities: &[u8]) -> bool
-    requires { ⌜ HasMessage (now arities) (now s) at ⌝ }
-    ensures { λ r. ⌜ IsCanonical (now (arities .entry)) (now (s .entry)) at r ⌝ }
+    requires { ⌜ Asks (MessageAt (now arities) (now s) at) ⌝ }
+    ensures { λ r. ⌜ Promises (MessageAt (now (arities .entry)) (now (s .entry)) at) (λ (t : Term). (r ≡ true) ↔ (canon t ≡ t)) ⌝ }
 {
     let mut out = [0u8; 1280];
     let n = canonical_term(&mut out, s, at, arities);
@@ -275,8 +286,8 @@ pub fn is_canonical(s: &[u8], at: usize, arities: &[u8]) -> bool
 
 // Whether two messages are the same: by the bytes of their canonical forms.
 pub fn same_message(s: &[u8], i: usize, u: &[u8], j: usize, arities: &[u8]) -> bool
-    requires { ⌜ HasMessage (now arities) (now s) i × HasMessage (now arities) (now u) j ⌝ }
-    ensures { λ r. ⌜ IsSame (now (arities .entry)) (now (s .entry)) i (now (u .entry)) j r ⌝ }
+    requires { ⌜ Asks (MessageAt (now arities) (now s) i) × Asks (MessageAt (now arities) (now u) j) ⌝ }
+    ensures { λ r. ⌜ Promises (MessageAt (now (arities .entry)) (now (s .entry)) i) (λ (x : Term). Promises (MessageAt (now (arities .entry)) (now (u .entry)) j) (λ (y : Term). (r ≡ true) ↔ Same (arity (now (arities .entry))) x y)) ⌝ }
 {
     let mut a = [0u8; 1280];
     let mut b = [0u8; 1280];

@@ -7,10 +7,11 @@ use native.Mathlib.Nat.{add-zero}
 use native.Mathlib.Omega.{arith}
 use lib.ListN.{length, length-append}
 use lib.IntN.{ℤ}
+use Rattle.lists.specs.Asks.{Asks₂, Promises₂}
 use Rattle.term.specs.Term.{Term, Terms, nil, _&_, count, encode, encodes, symbols, symbolss}
 use Rattle.term.specs.Reader.{symbolAt}
 use Rattle.message.specs.Product.{Exps}
-use Rattle.message.specs.Gather.{pour}
+use Rattle.message.specs.Gather.{pour, enter, sign, pours}
 use Rattle.factors.specs.declared.Filled.{Filled}
 use Rattle.factors.specs.declared.Way.the-variants as way
 use Rattle.factors.specs.Mass.{mass}
@@ -19,7 +20,7 @@ use Rattle.factors.specs.Laid.{Laid, OneAt}
 use Rattle.factors.specs.Laid.Laws.{first-of, others-of, one-after, one-within}
 use Rattle.factors.specs.Way.{wayOf}
 use Rattle.factors.specs.Way.Laws.{GoneInto, way-into, way-factor}
-use Rattle.factors.specs.Contracts.{most, Room, Collect, Collects, Collected, CollectedAs, EnterAt, EntersAt, EnteredAt}
+use Rattle.factors.specs.Contracts.{most, Room, Collect, Collected, EnterAt}
 
 -- the same table with arrays as long
 room-kept :
@@ -29,7 +30,8 @@ room-kept a b c R = record { starts = rw a (R .starts); ends = rw b (R .ends); p
 
 module _ (slots s S E : List ℕ) (P : List ℤ) (n at k : ℕ) (minus : Bool) where
   -- no term
-  pub collect-none : k ≡ 0 → (r : Filled) → r .at ≡ at → r .n ≡ n → CollectedAs slots s S E P n at k minus S E P r
+  pub collect-none : k ≡ 0 → (r : Filled) → r .at ≡ at → r .n ≡ n → Promises₂ (Collect slots s S E P n at k)
+      (λ (l : Exps) (ts : Terms). Collected s S E P (at + length (encodes ts)) r (pours minus ts l))
   unfolding pour
   collect-none h r e₁ e₂ l nil C = record { table = rw e₂ (C .table); next = e₁ ∙ sym (add-zero at) }
   collect-none h r e₁ e₂ l (t & us) C = absurd (let q : suc (count us) ≡ k = C .many in omega arith)
@@ -52,7 +54,7 @@ module _ (slots s S E : List ℕ) (P : List ℤ) (n at k : ℕ) (minus : Bool) w
         let q : suc (count us) ≡ k = C .many in
         record { t = t; us = us; is = refl; one = first-of (C .laid); rest = others-of (C .laid); left = omega arith; some = omega arith; mass-left = C .few }
 
-    pub collect-more : Collects slots s S E P n at k → 0 < k
+    pub collect-more : Asks₂ (Collect slots s S E P n at k) → 0 < k
     collect-more J = head (J .0) (J .1) (J .2) .some
 
     -- the others, after the first went into the table
@@ -74,15 +76,16 @@ module _ (slots s S E : List ℕ) (P : List ℤ) (n at k : ℕ) (minus : Bool) w
             short = C .short;
           }
 
-      pub others-asks : (t : ℕ) → length s - at ≡ t → (J : Collects slots s S E P n at k) → (length s - f .at < t) × Collects slots s S₁ E₁ P₁ (f .n) (f .at)
-          (k - 1)
+      pub others-asks : (t : ℕ) → length s - at ≡ t → (J : Asks₂ (Collect slots s S E P n at k)) → (length s - f .at < t) × Asks₂
+          (Collect slots s S₁ E₁ P₁ (f .n) (f .at) (k - 1))
       others-asks t μ J =
           let X = head (J .0) (J .1) (J .2) in
           (omega (arith, D (J .0) (J .1) (J .2) .next, one-after (X .one), one-within (X .one)), (_, _, others (J .0) (J .1) (J .2)))
 
       pub others-returns :
-          (S₂ E₂ : List ℕ) (P₂ : List ℤ) (r : Filled) → CollectedAs slots s S₁ E₁ P₁ (f .n) (f .at) (k - 1) minus S₂ E₂ P₂ r
-          → CollectedAs slots s S E P n at k minus S₂ E₂ P₂ r
+          (S₂ E₂ : List ℕ) (P₂ : List ℤ) (r : Filled) → Promises₂ (Collect slots s S₁ E₁ P₁ (f .n) (f .at) (k - 1))
+          (λ (l : Exps) (ts : Terms). Collected s S₂ E₂ P₂ ((f .at) + length (encodes ts)) r (pours minus ts l))
+          → Promises₂ (Collect slots s S E P n at k) (λ (l : Exps) (ts : Terms). Collected s S₂ E₂ P₂ (at + length (encodes ts)) r (pours minus ts l))
       unfolding pour
       others-returns S₂ E₂ P₂ r G l ts C =
           let X = head l ts C in
@@ -114,14 +117,15 @@ module _ (slots s S E : List ℕ) (P : List ℤ) (n at k : ℕ) (minus : Bool) w
             short = C .short;
           }
 
-      pub into-asks : (t : ℕ) → length s - at ≡ t → (J : Collects slots s S E P n at k) → (length s - next < t) × Collects slots s S E P n next c
+      pub into-asks : (t : ℕ) → length s - at ≡ t → (J : Asks₂ (Collect slots s S E P n at k)) → (length s - next < t) × Asks₂ (Collect slots s S E P n next c)
       into-asks t μ J =
           let X = head (J .0) (J .1) (J .2) in
           let I = into (J .0) (J .1) (J .2) in
           (omega (arith, I .after, one-after (X .one), one-within (X .one)), (_, _, inner (J .0) (J .1) (J .2)))
 
       pub into-done :
-          (S₁ E₁ : List ℕ) (P₁ : List ℤ) (f : Filled) → CollectedAs slots s S E P n next c m S₁ E₁ P₁ f
+          (S₁ E₁ : List ℕ) (P₁ : List ℤ) (f : Filled) → Promises₂ (Collect slots s S E P n next c)
+          (λ (l : Exps) (ts : Terms). Collected s S₁ E₁ P₁ (next + length (encodes ts)) f (pours m ts l))
           → (l : Exps) (ts : Terms) (C : Collect slots s S E P n at k l ts)
           → Collected s S₁ E₁ P₁ (at + length (encode (head l ts C .t))) f (pour minus (head l ts C .t) l)
       into-done S₁ E₁ P₁ f G l ts C =
@@ -140,11 +144,12 @@ module _ (slots s S E : List ℕ) (P : List ℤ) (n at k : ℕ) (minus : Bool) w
           some-symbol (Term.leaf q i) = omega arith
           some-symbol (Term.app q us) = omega arith
 
-      pub factor-asks : Collects slots s S E P n at k → EntersAt slots s S E P n at
+      pub factor-asks : Asks₂ (Collect slots s S E P n at k) → Asks₂ (EnterAt slots s S E P n at)
       factor-asks J = (_, _, factor (J .0) (J .1) (J .2))
 
       pub factor-done :
-          (S₁ E₁ : List ℕ) (P₁ : List ℤ) (f : Filled) → EnteredAt slots s S E P n at minus S₁ E₁ P₁ f
+          (S₁ E₁ : List ℕ) (P₁ : List ℤ) (f : Filled) → Promises₂ (EnterAt slots s S E P n at)
+          (λ (l : Exps) (t : Term). Collected s S₁ E₁ P₁ (at + length (encode t)) f (enter t (sign minus) l))
           → (l : Exps) (ts : Terms) (C : Collect slots s S E P n at k l ts)
           → Collected s S₁ E₁ P₁ (at + length (encode (head l ts C .t))) f (pour minus (head l ts C .t) l)
       factor-done S₁ E₁ P₁ f G l ts C =

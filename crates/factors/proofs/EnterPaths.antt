@@ -10,6 +10,7 @@ use lib.Seq.{getD-set-same, getD-set-other}
 use lib.IntN.{ℤ, pos, _+ℤ_, natAbs}
 use mir.Syntax.{w32}
 use mir.Val.{SFits, toZ, ofZ}
+use Rattle.lists.specs.Asks.{Asks₂, Promises₂}
 use Rattle.lists.specs.Choice.{clash}
 use Rattle.octets.specs.Head.{Bytes, Stands, stands-within}
 use Rattle.octets.specs.declared.Order.{Order}
@@ -27,7 +28,7 @@ use Rattle.factors.specs.Mass.Laws.{size-mass, sign-abs}
 use Rattle.factors.specs.Rows.{Table, Bounds, orderAt, meeting, Found, Moved}
 use Rattle.factors.specs.Rows.Laws.{rows-bounds, rows-abs, opened, rows-in, size-in, rows-same, size-same}
 use Rattle.factors.specs.Laid.Laws.{one-bytes}
-use Rattle.factors.specs.Contracts.{most, Enter, Enters, EnteredAs, EnterAt, EntersAt, EnteredAt}
+use Rattle.factors.specs.Contracts.{most, Enter, EnterAt, Collected}
 
 -- ── moving up, for elements of any type ──
 pub record Moving {A : Type 0} (d : A) (old new : List A) (j n : ℕ) : Type 0 where
@@ -78,16 +79,16 @@ module _ (key s S E : List ℕ) (P : List ℤ) (n a : ℕ) where
     few : n < most
     few = omega (arith, X .few, size-mass l, X .table .many)
 
-  pub enter-few : Enters key s S E P n a → (n < length S) × (n < length E) × (n < length P)
+  pub enter-few : Asks₂ (Enter key s S E P n a) → (n < length S) × (n < length E) × (n < length P)
   enter-few J =
       let X = J .2 in
       let h = few (J .0) (J .1) X in
       (omega (arith, X .room .starts), omega (arith, X .room .ends), omega (arith, X .room .powers))
 
-  pub enter-within : Enters key s S E P n a → a + length key ≤ length s
+  pub enter-within : Asks₂ (Enter key s S E P n a) → a + length key ≤ length s
   enter-within J = stands-within (J .2 .there) (encode-some (J .1))
 
-  pub enter-asks : Enters key s S E P n a → (n ≤ length S) × (n ≤ length E) × Bounds s S E n
+  pub enter-asks : Asks₂ (Enter key s S E P n a) → (n ≤ length S) × (n ≤ length E) × Bounds s S E n
   enter-asks J =
       let f = enter-few J in (
         omega arith,
@@ -165,15 +166,17 @@ module _ (slots s S E : List ℕ) (P : List ℤ) (n at : ℕ) (bytes : Bytes s) 
         there = subst (λ (j : ℕ). Stands s at (encode t) (at + j)) (ap length (sym k)) (X .one .there);
       }
 
-  pub one-asks : EntersAt slots s S E P n at → Enters key s S E P n at
+  pub one-asks : Asks₂ (EnterAt slots s S E P n at) → Asks₂ (Enter key s S E P n at)
   one-asks J = (J .0, J .1, entering (J .0) (J .1) (J .2))
 
-  pub one-short : EntersAt slots s S E P n at → at + length key ≤ length s
+  pub one-short : Asks₂ (EnterAt slots s S E P n at) → at + length key ≤ length s
   one-short J = enter-within key s S E P n at (one-asks J)
 
   pub one-entered :
-      (minus : Bool) (S′ E′ : List ℕ) (P′ : List ℤ) (m : ℕ) → EnteredAs key s S E P n at minus S′ E′ P′ m
-      → (r : Filled) → r .at ≡ at + length key → r .n ≡ m → EnteredAt slots s S E P n at minus S′ E′ P′ r
+      (minus : Bool) (S′ E′ : List ℕ) (P′ : List ℤ) (m : ℕ) → Promises₂ (Enter key s S E P n at)
+      (λ (l : Exps) (t : Term). Table s S′ E′ P′ m (enter t (sign minus) l))
+      → (r : Filled) → r .at ≡ at + length key → r .n ≡ m → Promises₂ (EnterAt slots s S E P n at)
+      (λ (l : Exps) (t : Term). Collected s S′ E′ P′ (at + length (encode t)) r (enter t (sign minus) l))
   one-entered minus S′ E′ P′ m D r e₁ e₂ l t X = record {
     table = rw e₂ (D l t (entering l t X));
     next = e₁ ∙ ap (λ (k : List ℕ). at + length k) (key-is l t X);

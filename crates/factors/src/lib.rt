@@ -1,14 +1,17 @@
 // The factors of some terms in a table: for each its place in the caller's slice and its exponent, ascending by encoded bytes.
 ghost use mathlib.Core.Path.{_≡_};
-ghost use Prim.Native.Nat.{_-_, _≤_, _<_};
+ghost use Prim.Native.Nat.{_+_, _-_, _≤_, _<_};
 ghost use lib.ListN.{length, take, drop};
 ghost use lib.IntN.{pos};
+ghost use Rattle.term.specs.Term.{Term, Terms, encode, encodes};
+ghost use Rattle.message.specs.Product.{Exps};
+ghost use Rattle.lists.specs.Asks.{Asks₂, Promises₂};
 ghost use Rattle.octets.specs.Compare.{compareBytes};
 ghost use Rattle.term.specs.Reader.{symbolAt};
-ghost use Rattle.message.specs.Gather.{sign};
-ghost use Rattle.factors.specs.Rows.{Moved, Bounds, FoundAt};
+ghost use Rattle.message.specs.Gather.{sign, enter, pours};
+ghost use Rattle.factors.specs.Rows.{Moved, Bounds, FoundAt, Table};
 ghost use Rattle.factors.specs.Way.{wayOf};
-ghost use Rattle.factors.specs.Contracts.{Enters, EnteredAs, EntersAt, EnteredAt, Collects, CollectedAs};
+ghost use Rattle.factors.specs.Contracts.{Enter, Collect, EnterAt, Collected};
 use octets::Order;
 use term::Symbol;
 
@@ -103,8 +106,8 @@ fn enter(
     a: usize,
     minus: bool,
 ) -> usize
-    requires { ⌜ Enters (now key) (now s) (now starts) (now ends) (now powers) n a ⌝ }
-    ensures { λ r. ⌜ EnteredAs (now (key .entry)) (now (s .entry)) (now (starts .entry)) (now (ends .entry)) (now (powers .entry)) n a minus (now (starts .exit)) (now (ends .exit)) (now (powers .exit)) r ⌝ }
+    requires { ⌜ Asks₂ (Enter (now key) (now s) (now starts) (now ends) (now powers) n a) ⌝ }
+    ensures { λ r. ⌜ Promises₂ (Enter (now (key .entry)) (now (s .entry)) (now (starts .entry)) (now (ends .entry)) (now (powers .entry)) n a) (λ (l : Exps) (t : Term). Table (now (s .entry)) (now (starts .exit)) (now (ends .exit)) (now (powers .exit)) r (enter t (sign minus) l)) ⌝ }
 {
     let e = a + key.len();
     let p = find_place(key, s, starts, ends, n);
@@ -159,8 +162,8 @@ fn enter_at(
     arities: &[u8],
     minus: bool,
 ) -> Filled
-    requires { ⌜ EntersAt (now arities) (now s) (now starts) (now ends) (now powers) n at ⌝ }
-    ensures { λ r. ⌜ EnteredAt (now (arities .entry)) (now (s .entry)) (now (starts .entry)) (now (ends .entry)) (now (powers .entry)) n at minus (now (starts .exit)) (now (ends .exit)) (now (powers .exit)) r ⌝ }
+    requires { ⌜ Asks₂ (EnterAt (now arities) (now s) (now starts) (now ends) (now powers) n at) ⌝ }
+    ensures { λ r. ⌜ Promises₂ (EnterAt (now (arities .entry)) (now (s .entry)) (now (starts .entry)) (now (ends .entry)) (now (powers .entry)) n at) (λ (l : Exps) (t : Term). Collected (now (s .entry)) (now (starts .exit)) (now (ends .exit)) (now (powers .exit)) (at + length (encode t)) r (enter t (sign minus) l)) ⌝ }
 {
     let key = term::term_part(s, arities, at);
     let m = enter(starts, ends, powers, n, s, key, at, minus);
@@ -182,8 +185,8 @@ pub fn collect(
     arities: &[u8],
     minus: bool,
 ) -> Filled
-    requires { ⌜ Collects (now arities) (now s) (now starts) (now ends) (now powers) n at k ⌝ }
-    ensures { λ r. ⌜ CollectedAs (now (arities .entry)) (now (s .entry)) (now (starts .entry)) (now (ends .entry)) (now (powers .entry)) n at k minus (now (starts .exit)) (now (ends .exit)) (now (powers .exit)) r ⌝ }
+    requires { ⌜ Asks₂ (Collect (now arities) (now s) (now starts) (now ends) (now powers) n at k) ⌝ }
+    ensures { λ r. ⌜ Promises₂ (Collect (now (arities .entry)) (now (s .entry)) (now (starts .entry)) (now (ends .entry)) (now (powers .entry)) n at k) (λ (l : Exps) (ts : Terms). Collected (now (s .entry)) (now (starts .exit)) (now (ends .exit)) (now (powers .exit)) (at + length (encodes ts)) r (pours minus ts l)) ⌝ }
 {
     if k == 0 {
         return Filled { at: at, n: n };

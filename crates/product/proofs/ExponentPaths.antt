@@ -4,6 +4,7 @@ use mathlib.Core.Path.{_≡_, refl, sym, ap, subst, _∙_}
 use mathlib.Core.List.{List, _++_}
 use native.Mathlib.Omega.{arith}
 use lib.ListN.{length, drop, getD, length-append}
+use Rattle.lists.specs.Asks.{Asks₂, Promises₂}
 use Rattle.octets.specs.Head.{head-at}
 use Rattle.octets.specs.Splice.Prefix.{Wrote}
 use Rattle.term.specs.Term.{Term, Terms, nil, _&_, count, encode, encodes, symbols, symbolss}
@@ -20,8 +21,8 @@ use Rattle.product.specs.Chain.Laws.{encode-two}
 use Rattle.product.specs.Length.{power-short}
 use Rattle.product.specs.Base.{baseOf}
 use Rattle.product.specs.Base.Laws.{Args, args-two, Inner, base-power, base-plain}
-use Rattle.product.specs.Contracts.{Whole, Raises, RaisedAs}
-use Rattle.product.specs.Steps.{Power, Powers, PoweredAs, Behinds, BehindAs}
+use Rattle.product.specs.Contracts.{Whole, WholePower}
+use Rattle.product.specs.Inner.{Power, Behind}
 use Rattle.product.proofs.ProductPaths.{one}
 
 module _ (slots out : List ℕ) (o e : ℕ) where
@@ -32,7 +33,7 @@ module _ (slots out : List ℕ) (o e : ℕ) where
     tag : getD out o 0 ≡ 10
     tag = head-at out o 10 _ (R .stands .there ∙ ap (λ (l : List ℕ). l ++ drop e out) (encode-two 10 (omega arith) x y)) .here
 
-  pub raise-inside : Raises slots out o e → o + 1 < length out
+  pub raise-inside : Asks₂ (WholePower slots out o e) → o + 1 < length out
   raise-inside J =
       let A = args (J .0) (J .1) (J .2) in
       omega (arith, one-after (A .first), one-within (A .first))
@@ -61,7 +62,8 @@ module _ (slots out : List ℕ) (o e : ℕ) where
   }
 
   powered-raised :
-      (x y : Term) (b z k : ℕ) (t : Term) (ts : Terms) (out′ : List ℕ) (r : ℕ) → PoweredAs slots out o b z k out′ r
+      (x y : Term) (b z k : ℕ) (t : Term) (ts : Terms) (out′ : List ℕ) (r : ℕ) → Promises₂ (Power slots out o b z k)
+      (λ (t : Term) (ts : Terms). Wrote (z + length (encodes ts)) out o out′ r (encode (powered t ts)))
       → Power slots out o b z k t ts → z + length (encodes ts) ≡ e → raised (as2 10 x) x y ≡ powered t ts
       → Wrote e out o out′ r (encode (raised (as2 10 x) x y))
   powered-raised x y b z k t ts out′ r D P q s =
@@ -77,10 +79,10 @@ module _ (slots out : List ℕ) (o e : ℕ) where
         let I = inner x y R in
         subst (λ (j : ℕ). OneAt slots out j (I .args .middle) (I .x)) (sym (I .start)) (I .args .first)
 
-    pub inner-asks : Raises slots out o e → Behinds slots out b
+    pub inner-asks : Asks₂ (WholePower slots out o e) → Asks₂ (Behind slots out b)
     inner-asks J = (_, _, record { one = inner-base (J .0) (J .1) (J .2); short = J .2 .short })
 
-    module _ (z : ℕ) (K : BehindAs slots out b z) where
+    module _ (z : ℕ) (K : Promises₂ (Behind slots out b) (λ (e : ℕ) (t : Term). z ≡ e)) where
       module _ (x y : Term) (R : Whole slots out o e (exp x y)) where
         abbrev I : Inner slots out (o + 1) (args x y R .middle) b x
         I = inner x y R
@@ -111,19 +113,21 @@ module _ (slots out : List ℕ) (o e : ℕ) where
             power x y R b z 2 (I .x) (I .y & y & nil) (omega (arith, I .start)) (rw z-is (inner-base x y R)) laid refl inner-end
             (omega (arith, ap symbols (I .is))) same
 
-      pub inner-powers : Raises slots out o e → Powers slots out o b z 2
+      pub inner-powers : Asks₂ (WholePower slots out o e) → Asks₂ (Power slots out o b z 2)
       inner-powers J = (_, _, inner-power (J .0) (J .1) (J .2))
 
-      pub inner-raised : (out′ : List ℕ) (r : ℕ) → PoweredAs slots out o b z 2 out′ r → RaisedAs slots out o e out′ r
+      pub inner-raised : (out′ : List ℕ) (r : ℕ) → Promises₂ (Power slots out o b z 2)
+          (λ (t : Term) (ts : Terms). Wrote (z + length (encodes ts)) out o out′ r (encode (powered t ts))) → Promises₂ (WholePower slots out o e)
+          (λ (x y : Term). Wrote e out o out′ r (encode (raised (as2 10 x) x y)))
       inner-raised out′ r D x y R =
           powered-raised x y b z 2 _ _ out′ r D (inner-power x y R) (inner-end x y R) (same x y R)
 
   -- ── it is none ──
   module _ (w : baseOf (symbolAt out slots (o + 1)) ≡ base.Plain) where
-    pub outer-asks : Raises slots out o e → Behinds slots out (o + 1)
+    pub outer-asks : Asks₂ (WholePower slots out o e) → Asks₂ (Behind slots out (o + 1))
     outer-asks J = (_, _, record { one = args (J .0) (J .1) (J .2) .first; short = J .2 .short })
 
-    module _ (z : ℕ) (K : BehindAs slots out (o + 1) z) where
+    module _ (z : ℕ) (K : Promises₂ (Behind slots out (o + 1)) (λ (e : ℕ) (t : Term). z ≡ e)) where
       module _ (x y : Term) (R : Whole slots out o e (exp x y)) where
         abbrev A : Args slots out o e x y
         A = args x y R
@@ -143,9 +147,11 @@ module _ (slots out : List ℕ) (o e : ℕ) where
             power x y R (o + 1) z 1 x (y & nil) (omega arith) (rw y-at (A .first)) (rw y-at (laid-one (A .second))) refl to-e
             (omega arith) plain
 
-      pub outer-powers : Raises slots out o e → Powers slots out o (o + 1) z 1
+      pub outer-powers : Asks₂ (WholePower slots out o e) → Asks₂ (Power slots out o (o + 1) z 1)
       outer-powers J = (_, _, outer-power (J .0) (J .1) (J .2))
 
-      pub outer-raised : (out′ : List ℕ) (r : ℕ) → PoweredAs slots out o (o + 1) z 1 out′ r → RaisedAs slots out o e out′ r
+      pub outer-raised : (out′ : List ℕ) (r : ℕ) → Promises₂ (Power slots out o (o + 1) z 1)
+          (λ (t : Term) (ts : Terms). Wrote (z + length (encodes ts)) out o out′ r (encode (powered t ts))) → Promises₂ (WholePower slots out o e)
+          (λ (x y : Term). Wrote e out o out′ r (encode (raised (as2 10 x) x y)))
       outer-raised out′ r D x y R =
           powered-raised x y (o + 1) z 1 _ _ out′ r D (outer-power x y R) (to-e x y R) (plain x y R)

@@ -11,6 +11,7 @@ use borrow.Author.Tests.{lt-ltb, le-ltb}
 use borrow.Rule.Slice.PartMut.{putMid, same-len-mid}
 use mir.Syntax.{w32}
 use mir.Val.{toZ, ofZ}
+use Rattle.lists.specs.Asks.{Asks, Promises}
 use Rattle.octets.specs.Head.{stands-part, stands-within}
 use Rattle.octets.specs.Splice.Prefix.{Wrote, wrote-nothing, wrote-then, wrote-lent, lent-length}
 use Rattle.term.specs.Term.{Terms}
@@ -27,7 +28,7 @@ use Rattle.product.specs.Chain.{copies, row, sides}
 use Rattle.product.specs.Chain.Laws.{row-times, sides-up, sides-down, sides-both}
 use Rattle.product.specs.Side.{rise, side, Next, Small}
 use Rattle.product.specs.Side.Laws.{From, Entry, entry, after-next}
-use Rattle.product.specs.Steps.{Ready, Lay, Lays, LaidAs, TaggedAs, Both, Boths, BothAs}
+use Rattle.product.specs.Inner.{Ready, Lay, Both}
 use Rattle.product.proofs.RisePaths.{rises-is}
 
 abbrev pub Bytes-of : List ℕ → ℕ → ℕ → List ℕ
@@ -53,10 +54,10 @@ module _ (s S E : List ℕ) (P : List ℤ) (n : ℕ) where
         small = λ j h. omega (arith, rows-abs s S E P 0 l (T .rows) j (omega arith) (omega (arith, T .many)), X .few);
       }
 
-  pub lay-held : (m : Bool) (o w : ℕ) → Lays s S E P n m o w → Held
+  pub lay-held : (m : Bool) (o w : ℕ) → Asks (Lay s S E P n m o w) → Held
   lay-held m o w J = held (J .0) (J .1 .ready)
 
-  pub both-held : (w : ℕ) → Boths s S E P n w → Held
+  pub both-held : (w : ℕ) → Asks (Both s S E P n w) → Held
   both-held w J = held (J .0) (J .1 .ready)
 
   pub next-asks : (i : ℕ) → i ≤ n → Held → (i ≤ n) × (n ≤ length P) × Small P n
@@ -155,7 +156,7 @@ module _ (s S E : List ℕ) (P : List ℤ) (n : ℕ) where
     abbrev pub lent : List ℕ
     lent = take (length (set out at tag) - (at + 1)) (drop (at + 1) (set out at tag))
 
-    pub tag-inside : Lays s S E P n m (at + 1) (length out) → at < length out
+    pub tag-inside : Asks (Lay s S E P n m (at + 1) (length out)) → at < length out
     tag-inside J = omega (arith, J .1 .fits)
 
     behind-tag : (l : Exps) → Lay s S E P n m (at + 1) (length out) l → Lay s S E P n m 0 (length lent) l
@@ -164,7 +165,7 @@ module _ (s S E : List ℕ) (P : List ℤ) (n : ℕ) where
       fits = omega (arith, L .fits, lent-length (set out at tag) (at + 1), length-set out at tag);
     }
 
-    pub tagged-asks : Lays s S E P n m (at + 1) (length out) → Lays s S E P n m 0 (length lent)
+    pub tagged-asks : Asks (Lay s S E P n m (at + 1) (length out)) → Asks (Lay s S E P n m 0 (length lent))
     tagged-asks J = (J .0, behind-tag (J .0) (J .1))
 
     pub tagged-length :
@@ -172,11 +173,12 @@ module _ (s S E : List ℕ) (P : List ℤ) (n : ℕ) where
         → length (putMid (at + 1) (length (set out at tag) - (at + 1)) (set out at tag) ys) ≡ length out
     tagged-length ys e = same-len-mid (at + 1) (length (set out at tag) - (at + 1)) (set out at tag) ys e ∙ length-set out at tag
 
-    module _ (ys : List ℕ) (r : ℕ) (D : LaidAs s S E P n m lent ys r) where
-      pub tagged-end : Lays s S E P n m (at + 1) (length out) → at + 1 + r ≤ length out
+    module _ (ys : List ℕ) (r : ℕ) (D : Promises (Lay s S E P n m 0 (length lent)) (λ (l : Exps). Wrote (length lent) lent 0 ys r (row (side m l)))) where
+      pub tagged-end : Asks (Lay s S E P n m (at + 1) (length out)) → at + 1 + r ≤ length out
       tagged-end J = omega (arith, J .1 .fits, D (J .0) (behind-tag (J .0) (J .1)) .ends)
 
-      pub tagged-wrote : TaggedAs s S E P n m tag out at (putMid (at + 1) (length (set out at tag) - (at + 1)) (set out at tag) ys) (at + 1 + r)
+      pub tagged-wrote : Promises (Lay s S E P n m (at + 1) (length out)) (λ (l : Exps). Wrote (length out) out at
+          (putMid (at + 1) (length (set out at tag) - (at + 1)) (set out at tag) ys) (at + 1 + r) (tag ∷ row (side m l)))
       tagged-wrote l L =
           let q = row (side m l) in
           let i = tag-inside (l, L) in
@@ -203,10 +205,12 @@ module _ (s S E : List ℕ) (P : List ℤ) (n : ℕ) where
         up-lay : (l : Exps) → Both s S E P n (length out) l → Lay s S E P n false 0 (length out) l
         up-lay l B = lay false 0 (length out) l B (omega (arith, B .fits, ap length (ups-only l B)))
 
-        pub up-asks : Boths s S E P n (length out) → Lays s S E P n false 0 (length out)
+        pub up-asks : Asks (Both s S E P n (length out)) → Asks (Lay s S E P n false 0 (length out))
         up-asks J = (J .0, up-lay (J .0) (J .1))
 
-        pub up-wrote : (out′ : List ℕ) (r : ℕ) → LaidAs s S E P n false out out′ r → BothAs s S E P n out out′ r
+        pub up-wrote : (out′ : List ℕ) (r : ℕ) → Promises (Lay s S E P n false 0 (length out))
+            (λ (l : Exps). Wrote (length out) out 0 out′ r (row (side false l))) → Promises (Both s S E P n (length out))
+            (λ (l : Exps). Wrote (length out) out 0 out′ r (sides (side false l) (side true l)))
         up-wrote out′ r D l B = wrote-same (sym (ups-only l B)) (D l (up-lay l B))
 
       module _ (h : d < n) (u : ℕ) (M : Next P 0 n false u) where
@@ -218,10 +222,12 @@ module _ (s S E : List ℕ) (P : List ℤ) (n : ℕ) where
           down-lay : (l : Exps) → Both s S E P n (length out) l → Lay s S E P n true 1 (length out) l
           down-lay l B = lay true 1 (length out) l B (omega (arith, B .fits, ap length (downs l B)))
 
-          pub down-asks : Boths s S E P n (length out) → Lays s S E P n true (0 + 1) (length out)
+          pub down-asks : Asks (Both s S E P n (length out)) → Asks (Lay s S E P n true (0 + 1) (length out))
           down-asks J = (J .0, down-lay (J .0) (J .1))
 
-          pub down-wrote : (out′ : List ℕ) (r : ℕ) → TaggedAs s S E P n true 11 out 0 out′ r → BothAs s S E P n out out′ r
+          pub down-wrote : (out′ : List ℕ) (r : ℕ) → Promises (Lay s S E P n true (0 + 1) (length out))
+              (λ (l : Exps). Wrote (length out) out 0 out′ r (11 ∷ row (side true l))) → Promises (Both s S E P n (length out))
+              (λ (l : Exps). Wrote (length out) out 0 out′ r (sides (side false l) (side true l)))
           down-wrote out′ r D l B = wrote-same (sym (downs l B)) (D l (down-lay l B))
 
         -- both
@@ -235,17 +241,20 @@ module _ (s S E : List ℕ) (P : List ℤ) (n : ℕ) where
           first-lay : (l : Exps) → Both s S E P n (length out) l → Lay s S E P n false 1 (length out) l
           first-lay l B = lay false 1 (length out) l B (omega (arith, fits l B))
 
-          pub first-asks : Boths s S E P n (length out) → Lays s S E P n false (0 + 1) (length out)
+          pub first-asks : Asks (Both s S E P n (length out)) → Asks (Lay s S E P n false (0 + 1) (length out))
           first-asks J = (J .0, first-lay (J .0) (J .1))
 
-          module _ (out₁ : List ℕ) (i : ℕ) (D : TaggedAs s S E P n false 12 out 0 out₁ i) (el : length out₁ ≡ length out) where
+          module _ (out₁ : List ℕ) (i : ℕ) (D : Promises (Lay s S E P n false (0 + 1) (length out))
+              (λ (l : Exps). Wrote (length out) out 0 out₁ i (12 ∷ row (side false l)))) (el : length out₁ ≡ length out) where
             second-lay : (l : Exps) → Both s S E P n (length out) l → Lay s S E P n true (i + 1) (length out₁) l
             second-lay l B = lay true (i + 1) (length out₁) l B (omega (arith, fits l B, D l (first-lay l B) .ends, el))
 
-            pub second-asks : Boths s S E P n (length out) → Lays s S E P n true (i + 1) (length out₁)
+            pub second-asks : Asks (Both s S E P n (length out)) → Asks (Lay s S E P n true (i + 1) (length out₁))
             second-asks J = (J .0, second-lay (J .0) (J .1))
 
-            pub second-wrote : (out₂ : List ℕ) (r : ℕ) → TaggedAs s S E P n true 11 out₁ i out₂ r → BothAs s S E P n out out₂ r
+            pub second-wrote : (out₂ : List ℕ) (r : ℕ) → Promises (Lay s S E P n true (i + 1) (length out₁))
+                (λ (l : Exps). Wrote (length out₁) out₁ i out₂ r (11 ∷ row (side true l))) → Promises (Both s S E P n (length out))
+                (λ (l : Exps). Wrote (length out) out 0 out₂ r (sides (side false l) (side true l)))
             second-wrote out₂ r D₂ l B =
                 wrote-same (sym (boths l B))
                 (wrote-then (D l (first-lay l B))

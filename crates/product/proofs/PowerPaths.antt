@@ -4,6 +4,7 @@ use mathlib.Core.Path.{_≡_, refl, sym, ap, subst, _∙_}
 use mathlib.Core.List.{List, _∷_, _++_}
 use native.Mathlib.Omega.{arith}
 use lib.ListN.{length, take, drop, length-append, length-drop}
+use Rattle.lists.specs.Asks.{Asks, Asks₂, Promises, Promises₂}
 use Rattle.octets.specs.Head.{Bytes, stands-part}
 use Rattle.octets.specs.Splice.{splice}
 use Rattle.octets.specs.Splice.Prefix.{Wrote, wrote-then}
@@ -16,14 +17,14 @@ use Rattle.product.specs.Writing.{wrote-same, copied, stands-before, fro
 use Rattle.product.specs.Chain.{written}
 use Rattle.product.specs.Chain.Laws.{encode-two, written-none, written-some}
 use Rattle.product.specs.Contracts.{scratch}
-use Rattle.product.specs.Steps.{Prod, Prods, ProdAs, Power, Powers, PoweredAs, Behinds, BehindAs}
+use Rattle.product.specs.Inner.{Prod, Power, Behind}
 
 -- ── behind ──
 module _ (slots s : List ℕ) (at : ℕ) (bytes : Bytes s) (key : List ℕ) (K : key ≡ bytesOf (term s slots at)) where
-  pub behind-is : BehindAs slots s at (at + length key)
+  pub behind-is : Promises₂ (Behind slots s at) (λ (e : ℕ) (t : Term). (at + length key) ≡ e)
   behind-is e t B = ap (λ (l : List ℕ). at + length l) (K ∙ one-bytes (B .one) bytes) ∙ sym (B .one .there .ends)
 
-  pub behind-within : Behinds slots s at → at + length key ≤ length s
+  pub behind-within : Asks₂ (Behind slots s at) → at + length key ≤ length s
   behind-within J = rw (behind-is (J .0) (J .1) (J .2)) (one-within (J .2 .one))
 
 -- ── power_at ──
@@ -60,16 +61,17 @@ module _ (slots out : List ℕ) (o b z k : ℕ) where
     base-long : z - b ≡ length (encode t)
     base-long = omega (arith, P .base .there .ends)
 
-  pub power-asks : Powers slots out o b z k → Prods slots out z k scratch
+  pub power-asks : Asks₂ (Power slots out o b z k) → Asks (Prod slots out z k scratch)
   power-asks J = (_, prod (J .0) (J .1) (J .2))
 
   -- the base is moved to o, or behind the tag
-  pub move-asks : (at : ℕ) → o ≤ at → at ≤ o + 1 → Powers slots out o b z k → (b + (z - b) ≤ length out) × (at + (z - b) ≤ length out)
+  pub move-asks : (at : ℕ) → o ≤ at → at ≤ o + 1 → Asks₂ (Power slots out o b z k) → (b + (z - b) ≤ length out) × (at + (z - b) ≤ length out)
   move-asks at h g J =
       let P = J .2 in
       (omega (arith, one-after (P .base), one-within (P .base)), omega (arith, P .before, one-after (P .base), one-within (P .base)))
 
-  module _ (tmp : List ℕ) (lt : length tmp ≡ scratch) (tmp′ : List ℕ) (n : ℕ) (D : ProdAs slots out z k tmp tmp′ n) where
+  module _ (tmp : List ℕ) (lt : length tmp ≡ scratch) (tmp′ : List ℕ) (n : ℕ) (D : Promises (Prod slots out z k (length tmp))
+      (λ (ts : Terms). Wrote (length tmp) tmp 0 tmp′ n (written ts))) where
     wrote : (t : Term) (ts : Terms) (P : Power slots out o b z k t ts) → Wrote (length tmp) tmp 0 tmp′ n (written ts)
     wrote t ts P = D ts (subst (λ (j : ℕ). Prod slots out z k j ts) (sym lt) (prod t ts P))
 
@@ -81,7 +83,8 @@ module _ (slots out : List ℕ) (o b z k : ℕ) where
         copied w out out₁ (encode t) at (at + (z - b)) (omega (arith, move-asks at h g (t, ts, P) .1)) (omega arith) (omega arith)
         (e ∙ ap (splice out at) (base-bytes t ts P))
 
-    pub powered-none : n ≡ 0 → (out₁ : List ℕ) → out₁ ≡ splice out o (take (z - b) (drop b out)) → PoweredAs slots out o b z k out₁ (o + (z - b))
+    pub powered-none : n ≡ 0 → (out₁ : List ℕ) → out₁ ≡ splice out o (take (z - b) (drop b out)) → Promises₂ (Power slots out o b z k)
+        (λ (t : Term) (ts : Terms). Wrote (z + length (encodes ts)) out o out₁ (o + (z - b)) (encode (powered t ts)))
     powered-none h out₁ e t ts P =
         wrote-same (sym (ap encode (written-none ts (omega (arith, wrote t ts P .ends)) .power t)))
         (moved (z + length (encodes ts)) o (omega arith) (omega arith) t ts P (omega (arith, P .before, one-after (P .base))) out₁ e)
@@ -101,18 +104,18 @@ module _ (slots out : List ℕ) (o b z k : ℕ) where
           let l = ap length (P .factors .there .there) in
           omega (arith, one-within (P .base), simp (length-append, length-drop) at l)
 
-      pub power-fits : Powers slots out o b z k → n ≤ length tmp
+      pub power-fits : Asks₂ (Power slots out o b z k) → n ≤ length tmp
       power-fits J = omega (arith, wrote (J .0) (J .1) (J .2) .ends, fits (J .0) (J .1) (J .2))
 
-      pub power-part : Powers slots out o b z k → n ≡ length (take n tmp′)
+      pub power-part : Asks₂ (Power slots out o b z k) → n ≡ length (take n tmp′)
       power-part J = front-long (wrote (J .0) (J .1) (J .2))
 
-      pub power-copies : Powers slots out o b z k → o + 1 + (z - b) + length (take n tmp′) ≤ length out₁
+      pub power-copies : Asks₂ (Power slots out o b z k) → o + 1 + (z - b) + length (take n tmp′) ≤ length out₁
       power-copies J = omega (arith, ends (J .0) (J .1) (J .2), within (J .0) (J .1) (J .2))
 
       pub powered-some :
           (out₂ : List ℕ) (r : ℕ) → r ≡ o + 1 + (z - b) + length (take n tmp′) → out₂ ≡ splice out₁ (o + 1 + (z - b)) (take n tmp′)
-          → PoweredAs slots out o b z k out₂ r
+          → Promises₂ (Power slots out o b z k) (λ (t : Term) (ts : Terms). Wrote (z + length (encodes ts)) out o out₂ r (encode (powered t ts)))
       powered-some out₂ r a c t ts P =
           let S = written-some ts (some t ts P) in
           let w = z + length (encodes ts) in

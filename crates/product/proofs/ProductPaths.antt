@@ -6,27 +6,28 @@ use mathlib.Core.List.{List}
 use native.Mathlib.Omega.{arith}
 use lib.ListN.{length, take, set}
 use lib.IntN.{ℤ}
+use Rattle.lists.specs.Asks.{Asks, Asks₂, Promises, Promises₂}
 use Rattle.octets.specs.Splice.{splice}
 use Rattle.octets.specs.Splice.Prefix.{Wrote, wrote-one}
-use Rattle.term.specs.Term.{Term, Terms, nil, _&_, encode}
+use Rattle.term.specs.Term.{Term, Terms, nil, _&_, encode, encodes}
 use Rattle.term.specs.Arity.{arity}
-use Rattle.message.specs.Product.{empty}
-use Rattle.message.specs.Gather.{gather, multiplied}
+use Rattle.message.specs.Product.{empty, Exps}
+use Rattle.message.specs.Gather.{gather, multiplied, pours}
 use Rattle.factors.specs.declared.Filled.{Filled}
 use Rattle.factors.specs.Mass.{size, mass}
 use Rattle.factors.specs.Mass.Laws.{mass-pours}
 use Rattle.factors.specs.Rows.{Rows}
 use Rattle.factors.specs.Laid.{OneAt}
 use Rattle.factors.specs.Laid.Laws.{one-after, one-within, laid-one}
-use Rattle.factors.specs.Contracts.{Room, Collect, Collects, CollectedAs}
+use Rattle.factors.specs.Contracts.{Room, Collect, Collected}
 use Rattle.product.specs.Writing.{wrote-same, copied, front, front-long}
 use Rattle.product.specs.Chain.{sides, written}
 use Rattle.product.specs.Chain.Laws.{written-none, written-some, written-short}
 use Rattle.product.specs.Side.{side}
 use Rattle.product.specs.Side.Laws.{side-ups, side-downs}
 use Rattle.product.specs.Length.{product-short}
-use Rattle.product.specs.Contracts.{scratch, Whole, Multiplies, MultipliedAs}
-use Rattle.product.specs.Steps.{Both, Boths, BothAs, Prod, Prods, ProdAs}
+use Rattle.product.specs.Contracts.{scratch, Whole}
+use Rattle.product.specs.Inner.{Both, Prod}
 
 -- ── write_product ──
 both-sides : (ts : Terms) → sides (side false (gather ts)) (side true (gather ts)) ≡ written ts
@@ -46,10 +47,11 @@ module _ (slots s : List ℕ) (at k : ℕ) (out S E : List ℕ) (P : List ℤ) (
     short = X .short;
   }
 
-  pub collect-asks : Prods slots s at k (length out) → Collects slots s S E P 0 at k
+  pub collect-asks : Asks (Prod slots s at k (length out)) → Asks₂ (Collect slots s S E P 0 at k)
   collect-asks J = (empty, J .0, start (J .0) (J .1))
 
-  module _ (S₁ E₁ : List ℕ) (P₁ : List ℤ) (r : Filled) (D : CollectedAs slots s S E P 0 at k false S₁ E₁ P₁ r)
+  module _ (S₁ E₁ : List ℕ) (P₁ : List ℤ) (r : Filled) (D : Promises₂ (Collect slots s S E P 0 at k)
+      (λ (l : Exps) (ts : Terms). Collected s S₁ E₁ P₁ (at + length (encodes ts)) r (pours false ts l)))
       (lS : length S₁ ≡ length S) (lE : length E₁ ≡ length E) (lP : length P₁ ≡ length P) where
     held : (ts : Terms) → Prod slots s at k (length out) ts → Both s S₁ E₁ P₁ (r .n) (length out) (gather ts)
     unfolding mass
@@ -62,10 +64,12 @@ module _ (slots s : List ℕ) (at k : ℕ) (out S E : List ℕ) (P : List ℤ) (
       fits = rw (both-sides ts) (X .fits);
     }
 
-    pub table-asks : Prods slots s at k (length out) → Boths s S₁ E₁ P₁ (r .n) (length out)
+    pub table-asks : Asks (Prod slots s at k (length out)) → Asks (Both s S₁ E₁ P₁ (r .n) (length out))
     table-asks J = (_, held (J .0) (J .1))
 
-    pub table-wrote : (out′ : List ℕ) (i : ℕ) → BothAs s S₁ E₁ P₁ (r .n) out out′ i → ProdAs slots s at k out out′ i
+    pub table-wrote : (out′ : List ℕ) (i : ℕ) → Promises (Both s S₁ E₁ P₁ (r .n) (length out))
+        (λ (l : Exps). Wrote (length out) out 0 out′ i (sides (side false l) (side true l))) → Promises (Prod slots s at k (length out))
+        (λ (ts : Terms). Wrote (length out) out 0 out′ i (written ts))
     table-wrote out′ i B ts X = wrote-same (both-sides ts) (B _ (held ts X))
 
 -- ── multiply ──
@@ -87,17 +91,18 @@ module _ (slots out : List ℕ) (o e : ℕ) where
       fits = omega (arith, written-short (t & nil), short, M .small);
     }
 
-  pub multiply-asks : Multiplies slots out o e → Prods slots out o 1 scratch
+  pub multiply-asks : Asks (Whole slots out o e) → Asks (Prod slots out o 1 scratch)
   multiply-asks J = (_, prod (J .0) (J .1))
 
-  pub multiply-inside : Multiplies slots out o e → o < length out
+  pub multiply-inside : Asks (Whole slots out o e) → o < length out
   multiply-inside J = let O = one (J .0) (J .1) in omega (arith, one-after O, one-within O)
 
-  module _ (tmp : List ℕ) (lt : length tmp ≡ scratch) (tmp′ : List ℕ) (n : ℕ) (D : ProdAs slots out o 1 tmp tmp′ n) where
+  module _ (tmp : List ℕ) (lt : length tmp ≡ scratch) (tmp′ : List ℕ) (n : ℕ) (D : Promises (Prod slots out o 1 (length tmp))
+      (λ (ts : Terms). Wrote (length tmp) tmp 0 tmp′ n (written ts))) where
     wrote : (t : Term) (M : Whole slots out o e t) → Wrote (length tmp) tmp 0 tmp′ n (written (t & nil))
     wrote t M = D (t & nil) (subst (λ (j : ℕ). Prod slots out o 1 j (t & nil)) (sym lt) (prod t M))
 
-    pub multiplied-none : n ≡ 0 → MultipliedAs slots out o e (set out o 3) (o + 1)
+    pub multiplied-none : n ≡ 0 → Promises (Whole slots out o e) (λ (t : Term). Wrote e out o (set out o 3) (o + 1) (encode (multiplied (t & nil))))
     multiplied-none h t M =
         let N = written-none (t & nil) (omega (arith, wrote t M .ends)) in
         wrote-same (sym (N .bytes))
@@ -110,16 +115,17 @@ module _ (slots out : List ℕ) (o e : ℕ) where
       ends : (t : Term) (M : Whole slots out o e t) → o + length (take n tmp′) ≤ e
       ends t M = omega (arith, ap length (bytes t M), short t M, M .stands .ends)
 
-      pub multiply-fits : Multiplies slots out o e → n ≤ length tmp
+      pub multiply-fits : Asks (Whole slots out o e) → n ≤ length tmp
       multiply-fits J = omega (arith, wrote (J .0) (J .1) .ends, prod (J .0) (J .1) .fits)
 
-      pub multiply-part : Multiplies slots out o e → n ≡ length (take n tmp′)
+      pub multiply-part : Asks (Whole slots out o e) → n ≡ length (take n tmp′)
       multiply-part J = front-long (wrote (J .0) (J .1))
 
-      pub multiply-copies : Multiplies slots out o e → o + length (take n tmp′) ≤ length out
+      pub multiply-copies : Asks (Whole slots out o e) → o + length (take n tmp′) ≤ length out
       multiply-copies J = omega (arith, ends (J .0) (J .1), one-within (one (J .0) (J .1)))
 
       pub multiplied-some :
-          (out′ : List ℕ) (r : ℕ) → r ≡ o + length (take n tmp′) → out′ ≡ splice out o (take n tmp′) → MultipliedAs slots out o e out′ r
+          (out′ : List ℕ) (r : ℕ) → r ≡ o + length (take n tmp′) → out′ ≡ splice out o (take n tmp′) → Promises (Whole slots out o e)
+          (λ (t : Term). Wrote e out o out′ r (encode (multiplied (t & nil))))
       multiplied-some out′ r a b t M =
           wrote-same (bytes t M) (copied e out out′ (take n tmp′) o r (multiply-copies (t, M)) (ends t M) a b)

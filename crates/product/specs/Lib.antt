@@ -13,4 +13,4 @@ pub mod Base
 -- what `multiply` and `exponent` are asked, and what they promise
 pub mod Contracts
 -- what the functions inside are asked, and what they promise
-pub mod Steps
+pub mod Inner

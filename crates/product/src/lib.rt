@@ -1,15 +1,22 @@
 // Products in place: mul, inv and one with any arguments become the product of their factors, exp the power.
 ghost use mathlib.Core.Path.{_≡_};
-ghost use Prim.Native.Nat.{_+_, _≤_, _<_};
+ghost use Prim.Native.Nat.{ℕ, _+_, _≤_, _<_};
 ghost use lib.ListN.{length};
 ghost use lib.IntN.{natAbs};
+ghost use mathlib.Core.List.{_∷_};
+ghost use mathlib.Core.Bool.{true, false};
+ghost use Rattle.message.specs.Canon.{as2};
+ghost use Rattle.message.specs.Gather.{multiplied, raised, powered};
+ghost use Rattle.term.specs.Term.{Term, Terms, encode, encodes, nil, _&_};
+ghost use Rattle.message.specs.Product.{Exps};
+ghost use Rattle.lists.specs.Asks.{Asks, Asks₂, Promises, Promises₂};
 ghost use Rattle.octets.specs.Splice.Prefix.{Wrote};
 ghost use Rattle.term.specs.Reader.{symbolAt};
-ghost use Rattle.product.specs.Chain.{repeated, copies};
-ghost use Rattle.product.specs.Side.{rise, Next, Small};
+ghost use Rattle.product.specs.Chain.{repeated, copies, row, sides, written};
+ghost use Rattle.product.specs.Side.{rise, Next, Small, side};
 ghost use Rattle.product.specs.Base.{baseOf};
-ghost use Rattle.product.specs.Contracts.{Multiplies, MultipliedAs, Raises, RaisedAs};
-ghost use Rattle.product.specs.Steps.{Lays, LaidAs, TaggedAs, Boths, BothAs, Prods, ProdAs, Powers, PoweredAs, Behinds, BehindAs};
+ghost use Rattle.product.specs.Contracts.{Whole, WholePower};
+ghost use Rattle.product.specs.Inner.{Lay, Both, Prod, Power, Behind};
 use term::Symbol;
 
 // Whether the base of an exp is an exp itself, whose arguments begin at a place.
@@ -90,8 +97,8 @@ fn write_rows(
     n: usize,
     minus: bool,
 ) -> usize
-    requires { ⌜ Lays (now s) (now starts) (now ends) (now powers) n minus 0 (length (now out)) ⌝ }
-    ensures { λ r. ⌜ LaidAs (now (s .entry)) (now (starts .entry)) (now (ends .entry)) (now (powers .entry)) n minus (now (out .entry)) (now (out .exit)) r ⌝ }
+    requires { ⌜ Asks (Lay (now s) (now starts) (now ends) (now powers) n minus 0 (length (now out))) ⌝ }
+    ensures { λ r. ⌜ Promises (Lay (now (s .entry)) (now (starts .entry)) (now (ends .entry)) (now (powers .entry)) n minus 0 (length (now (out .entry)))) (λ (l : Exps). Wrote (length (now (out .entry))) (now (out .entry)) 0 (now (out .exit)) r (row (side minus l))) ⌝ }
 {
     let mut i = next_row(powers, 0, n, minus);
     let mut p = 0;
@@ -120,8 +127,8 @@ fn write_tagged(
     n: usize,
     minus: bool,
 ) -> usize
-    requires { ⌜ Lays (now s) (now starts) (now ends) (now powers) n minus (at + 1) (length (now out)) ⌝ }
-    ensures { λ r. ⌜ TaggedAs (now (s .entry)) (now (starts .entry)) (now (ends .entry)) (now (powers .entry)) n minus tag (now (out .entry)) at (now (out .exit)) r ⌝ }
+    requires { ⌜ Asks (Lay (now s) (now starts) (now ends) (now powers) n minus (at + 1) (length (now out))) ⌝ }
+    ensures { λ r. ⌜ Promises (Lay (now (s .entry)) (now (starts .entry)) (now (ends .entry)) (now (powers .entry)) n minus (at + 1) (length (now (out .entry)))) (λ (l : Exps). Wrote (length (now (out .entry))) (now (out .entry)) at (now (out .exit)) r (tag ∷ row (side minus l))) ⌝ }
 {
     out[at] = tag;
     let i = at + 1;
@@ -138,8 +145,8 @@ fn write_table(
     powers: &[i32],
     n: usize,
 ) -> usize
-    requires { ⌜ Boths (now s) (now starts) (now ends) (now powers) n (length (now out)) ⌝ }
-    ensures { λ r. ⌜ BothAs (now (s .entry)) (now (starts .entry)) (now (ends .entry)) (now (powers .entry)) n (now (out .entry)) (now (out .exit)) r ⌝ }
+    requires { ⌜ Asks (Both (now s) (now starts) (now ends) (now powers) n (length (now out))) ⌝ }
+    ensures { λ r. ⌜ Promises (Both (now (s .entry)) (now (starts .entry)) (now (ends .entry)) (now (powers .entry)) n (length (now (out .entry)))) (λ (l : Exps). Wrote (length (now (out .entry))) (now (out .entry)) 0 (now (out .exit)) r (sides (side false l) (side true l))) ⌝ }
 {
     let d = next_row(powers, 0, n, true);
     if n <= d {
@@ -155,8 +162,8 @@ fn write_table(
 
 // Writes the product of the k terms at a place, and nothing where no factor is left.
 fn write_product(out: &mut [u8], s: &[u8], at: usize, k: usize, arities: &[u8]) -> usize
-    requires { ⌜ Prods (now arities) (now s) at k (length (now out)) ⌝ }
-    ensures { λ r. ⌜ ProdAs (now (arities .entry)) (now (s .entry)) at k (now (out .entry)) (now (out .exit)) r ⌝ }
+    requires { ⌜ Asks (Prod (now arities) (now s) at k (length (now out))) ⌝ }
+    ensures { λ r. ⌜ Promises (Prod (now (arities .entry)) (now (s .entry)) at k (length (now (out .entry)))) (λ (ts : Terms). Wrote (length (now (out .entry))) (now (out .entry)) 0 (now (out .exit)) r (written ts)) ⌝ }
 {
     let mut starts = [0usize; 256];
     let mut ends = [0usize; 256];
@@ -177,8 +184,8 @@ fn write_product(out: &mut [u8], s: &[u8], at: usize, k: usize, arities: &[u8]) 
 
 // The term at o, up to e, becomes the product of its factors: returns where that ends.
 pub fn multiply(out: &mut [u8], o: usize, e: usize, arities: &[u8]) -> usize
-    requires { ⌜ Multiplies (now arities) (now out) o e ⌝ }
-    ensures { λ r. ⌜ MultipliedAs (now (arities .entry)) (now (out .entry)) o e (now (out .exit)) r ⌝ }
+    requires { ⌜ Asks (Whole (now arities) (now out) o e) ⌝ }
+    ensures { λ r. ⌜ Promises (Whole (now (arities .entry)) (now (out .entry)) o e) (λ (t : Term). Wrote e (now (out .entry)) o (now (out .exit)) r (encode (multiplied (t & nil)))) ⌝ }
 {
     let mut tmp = [0u8; 1280];
     let n = write_product(&mut tmp, out, o, 1, arities);
@@ -191,8 +198,8 @@ pub fn multiply(out: &mut [u8], o: usize, e: usize, arities: &[u8]) -> usize
 
 // exp at o, whose base stands from b up to z and the k factors of whose exponent stand from z on: returns where the power ends.
 fn power_at(out: &mut [u8], o: usize, b: usize, z: usize, k: usize, arities: &[u8]) -> usize
-    requires { ⌜ Powers (now arities) (now out) o b z k ⌝ }
-    ensures { λ r. ⌜ PoweredAs (now (arities .entry)) (now (out .entry)) o b z k (now (out .exit)) r ⌝ }
+    requires { ⌜ Asks₂ (Power (now arities) (now out) o b z k) ⌝ }
+    ensures { λ r. ⌜ Promises₂ (Power (now (arities .entry)) (now (out .entry)) o b z k) (λ (t : Term) (ts : Terms). Wrote (z + length (encodes ts)) (now (out .entry)) o (now (out .exit)) r (encode (powered t ts))) ⌝ }
 {
     let mut tmp = [0u8; 1280];
     let n = write_product(&mut tmp, out, z, k, arities);
@@ -222,16 +229,16 @@ fn base_at(s: &[u8], arities: &[u8], at: usize) -> Base
 
 // The place behind the term at a place.
 fn behind(s: &[u8], arities: &[u8], at: usize) -> usize
-    requires { ⌜ Behinds (now arities) (now s) at ⌝ }
-    ensures { λ r. ⌜ BehindAs (now (arities .entry)) (now (s .entry)) at r ⌝ }
+    requires { ⌜ Asks₂ (Behind (now arities) (now s) at) ⌝ }
+    ensures { λ r. ⌜ Promises₂ (Behind (now (arities .entry)) (now (s .entry)) at) (λ (e : ℕ) (t : Term). r ≡ e) ⌝ }
 {
     at + term::term_part(s, arities, at).len()
 }
 
 // exp(x, y) at o, up to e, becomes the power: returns where that ends.
 pub fn exponent(out: &mut [u8], o: usize, e: usize, arities: &[u8]) -> usize
-    requires { ⌜ Raises (now arities) (now out) o e ⌝ }
-    ensures { λ r. ⌜ RaisedAs (now (arities .entry)) (now (out .entry)) o e (now (out .exit)) r ⌝ }
+    requires { ⌜ Asks₂ (WholePower (now arities) (now out) o e) ⌝ }
+    ensures { λ r. ⌜ Promises₂ (WholePower (now (arities .entry)) (now (out .entry)) o e) (λ (x y : Term). Wrote e (now (out .entry)) o (now (out .exit)) r (encode (raised (as2 10 x) x y))) ⌝ }
 {
     let a = o + 1;
     match base_at(out, arities, a) {

@@ -38,7 +38,7 @@ returns : tie.Need-returns
 returns c =
     let c3 = c .before .before .before in
     let c5 = c3 .before .before in
-    λ x y m n. decides-same _ _ _ _ _ x y _ m n (c .same-bytes .ensures ∙ ap₂ (λ (a b : List ℕ). isEqual (compareBytes a b))
+    λ x m y n. decides-same _ _ _ _ _ x y _ m n (c .same-bytes .ensures ∙ ap₂ (λ (a b : List ℕ). isEqual (compareBytes a b))
     (canon-part _ _ _ _ _ (c5 .canonical-term .ensures) x m) (canon-part _ _ _ _ _ (c3 .canonical-term2 .ensures) y n))
 
 pub same-message-spec : {M : Type 1} → statement M

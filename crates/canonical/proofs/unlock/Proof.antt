@@ -49,7 +49,7 @@ returns-2 c =
     let c11 = c9 .before .before in
     let c13 = c11 .before .before in
     dec-opens _ _ _ _ _ _ _ _ (c13 .first .ensures) (c11 .if1 .left) _ _ (c9 .end-of .ensures) (c7 .end-of2 .ensures)
-    (λ x y d e h k. sym (c4 .if2 .taken) ∙ c5 .same-terms .ensures x y d e h k) _ _ (c .before .before .move-to .ensures)
+    (λ d x h e y k. sym (c4 .if2 .taken) ∙ c5 .same-terms .ensures d x h e y k) _ _ (c .before .before .move-to .ensures)
 
 same-length-3 : tie.Need-same-length-3
 same-length-3 c = search needs
@@ -61,7 +61,7 @@ returns-3 c =
     let c7 = c5 .before .before in
     let c9 = c7 .before .before in
     dec-stays _ _ _ _ _ _ _ _ (c9 .first .ensures) (c7 .if1 .left) _ _ (c5 .end-of .ensures) (c3 .end-of2 .ensures)
-    (λ x y d e h k. sym (c .if2 .left) ∙ c .before .same-terms .ensures x y d e h k)
+    (λ d x h e y k. sym (c .if2 .left) ∙ c .before .same-terms .ensures d x h e y k)
 
 pub unlock-spec : {M : Type 1} → statement M
 unlock-spec =

@@ -4,7 +4,7 @@ use mathlib.Core.Path.{_≡_, refl, _∙_}
 use native.Mathlib.Omega.{arith}
 use Prim.Native.Nat.{_-_}
 use Rattle.message.specs.Product.{Exps}
-use Rattle.product.specs.Steps.{Lay}
+use Rattle.product.specs.Inner.{Lay}
 use Rattle.product.proofs.RisePaths.{rises-asks}
 use Rattle.product.proofs.LayPaths.{lay-held, next-asks, Laying, laying-first, laying-done, part-ends, lay-put, laying-next}
 use Rattle.product.proofs.write_rows.Statement.{statement}

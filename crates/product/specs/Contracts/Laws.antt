@@ -2,6 +2,7 @@
 use Prim.Native.Nat.{ℕ, _^_, _≤_}
 use mathlib.Core.List.{List}
 use lib.ListN.{length}
+use Rattle.lists.specs.Asks.{Promises, Promises₂}
 use Rattle.octets.specs.Splice.Prefix.{Wrote, wrote-there}
 use Rattle.term.specs.Term.{Term, nil, _&_, encode, symbols, Formed, InRange}
 use Rattle.term.specs.Arity.{arity}
@@ -11,7 +12,7 @@ use Rattle.message.specs.Canon.{as2}
 use Rattle.message.specs.Gather.{multiplied, raised}
 use Rattle.factors.specs.Contracts.{most}
 use Rattle.product.specs.Writing.{wrote-over}
-use Rattle.product.specs.Contracts.{scratch, Whole, MultipliedAs, RaisedAs}
+use Rattle.product.specs.Contracts.{scratch, Whole, WholePower}
 
 module _ {slots out out₁ : List ℕ} {w o e : ℕ} (group : FitArities (arity slots)) (inside : o ≤ length out) (short : length out₁ ≤ 2 ^ 32) (room : e ≤ w) where
   module _ (t : Term) (formed : Formed (arity slots) t) (range : InRange t) (few : symbols t ≤ most) (small : length (encode t) ≤ scratch)
@@ -27,12 +28,14 @@ module _ {slots out out₁ : List ℕ} {w o e : ℕ} (group : FitArities (arity 
       short = short;
     }
 
-    pub then-multiplied : (out₂ : List ℕ) (r : ℕ) → MultipliedAs slots out₁ o e out₂ r → Wrote w out o out₂ r (encode (multiplied (t & nil)))
+    pub then-multiplied : (out₂ : List ℕ) (r : ℕ) → Promises (Whole slots out₁ o e) (λ (t : Term). Wrote e out₁ o out₂ r (encode (multiplied (t & nil)))) →
+        Wrote w out o out₂ r (encode (multiplied (t & nil)))
     then-multiplied out₂ r D = wrote-over inside room wrote (D t wrote-whole)
 
   pub then-raised :
       (x y : Term) → Formed (arity slots) (exp x y) → InRange (exp x y) → symbols (exp x y) ≤ most → length (encode (exp x y)) ≤ scratch
-      → Wrote w out o out₁ e (encode (exp x y)) → (out₂ : List ℕ) (r : ℕ) → RaisedAs slots out₁ o e out₂ r
+      → Wrote w out o out₁ e (encode (exp x y)) → (out₂ : List ℕ) (r : ℕ) → Promises₂ (WholePower slots out₁ o e)
+      (λ (x y : Term). Wrote e out₁ o out₂ r (encode (raised (as2 10 x) x y)))
       → Wrote w out o out₂ r (encode (raised (as2 10 x) x y))
   then-raised x y formed range few small wrote out₂ r D =
       wrote-over inside room wrote (D x y (wrote-whole (exp x y) formed range few small wrote))

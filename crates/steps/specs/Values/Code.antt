@@ -8,6 +8,9 @@ use native.Mathlib.Omega.{arith}
 use lib.ListN.{length}
 use lib.Dec.{ltb, eqb}
 use borrow.Author.Tests.{lt-ltb, le-ltb, eq-eqb, ne-eqb}
+use mathlib.Core.Logic.{_↔_}
+use Rattle.message.specs.Canon.{canon}
+use Rattle.lists.specs.Asks.{Promises}
 use Rattle.lists.specs.Choice.{pick, clash}
 use Rattle.octets.specs.Head.{Bytes}
 use Rattle.number.specs.Groups.{numberLimit}
@@ -26,7 +29,7 @@ use Rattle.term.specs.declared.Walk.{Walk}
 use Rattle.term.specs.declared.Walk.the-variants as wk
 use Rattle.lists.specs.Tests.{by-bool, true-false, not-true}
 use Rattle.canonical.specs.Builtins.{Builtins, group}
-use Rattle.canonical.specs.Contract.{MessageAt, IsCanonical}
+use Rattle.canonical.specs.Contract.{MessageAt}
 use Rattle.steps.specs.declared.values.Name.{Name}
 use Rattle.steps.specs.declared.values.Name.the-variants as nm
 use Rattle.steps.specs.Facts.{freshNumber}
@@ -216,7 +219,7 @@ module _ (s slots : List ℕ) (at : ℕ) (t : Term) (e : ℕ) (v : ValueThere sl
           short = v .short;
         }
 
-    pub canonical-is : (b : Bool) → IsCanonical slots s at b → MessageAt slots s at t → b ≡ isCanonical t
+    pub canonical-is : (b : Bool) → Promises (MessageAt slots s at) (λ (t : Term). (b ≡ true) ↔ (canon t ≡ t)) → MessageAt slots s at t → b ≡ isCanonical t
     canonical-is b h m =
         let c = h t m in
         let d = canon-decides slots (group slots (v .table)) t (m .formed) in
