@@ -6,6 +6,7 @@ use mathlib.Core.Logic.{_≢_}
 use mathlib.Core.Bool.{Bool, true, false}
 use mathlib.Core.Option.{some}
 use native.Mathlib.Omega.{arith}
+use Rattle.term.specs.Tags.{decTag, fstTag, sndTag, expTag}
 use Rattle.lists.specs.Asks.{Asks, Asks₂, Promises, Promises₂}
 use Rattle.lists.specs.Choice.{clash}
 use Rattle.octets.specs.Splice.Prefix.{Wrote}
@@ -57,29 +58,30 @@ module _ (slots out : List ℕ) (o e : ℕ) where
     x : Term
     y : Term
     is : us ≡ x & (y & nil)
-    built : Built slots out o e 10 (x & (y & nil))
+    built : Built slots out o e expTag (x & (y & nil))
 
-  exp-of : (us : Terms) → Built slots out o e 10 us → Exp us
+  exp-of : (us : Terms) → Built slots out o e expTag us → Exp us
   exp-of us b =
       let n : some (count us) ≡ some 2 = sym (b .here .formed .0) ∙ group slots (b .table) .exp-arity in
       let w = two-args us (cc) in
-      record { x = w .0; y = w .1; is = w .2; built = subst (Built slots out o e 10) (w .2) b }
+      record { x = w .0; y = w .1; is = w .2; built = subst (Built slots out o e expTag) (w .2) b }
 
-  pub exp-asks : Asks (Built slots out o e 10) → Asks₂ (product.WholePower slots out o e)
+  pub exp-asks : Asks (Built slots out o e expTag) → Asks₂ (product.WholePower slots out o e)
   exp-asks (us, b) = let p = exp-of us b in (p .x, p .y, as-asked 10 (p .x & (p .y & nil)) (p .built))
 
-  pub exp-done : (out′ : List ℕ) (r : ℕ) → Promises₂ (product.WholePower slots out o e) (λ (x y : Term). Wrote e out o out′ r (encode (raised (as2 10 x) x y)))
-      → Promises (Built slots out o e 10) (λ (us : Terms). Wrote e out o out′ r (encode (mk rules 10 us)))
+  pub exp-done : (out′ : List ℕ) (r : ℕ) → Promises₂ (product.WholePower slots out o e)
+      (λ (x y : Term). Wrote e out o out′ r (encode (raised (as2 expTag x) x y)))
+      → Promises (Built slots out o e expTag) (λ (us : Terms). Wrote e out o out′ r (encode (mk rules expTag us)))
   exp-done out′ r h us b =
       let p = exp-of us b in
       let w = p .built .here .formed .1 in
-      let q : mk rules 10 us ≡ raised (as2 10 (p .x)) (p .x) (p .y) =
-      ap (mk rules 10) (p .is) ∙ made-exp (arity slots) (group slots (b .table)) (p .x) (p .y) (w .0) (w .1 .0) in
+      let q : mk rules expTag us ≡ raised (as2 expTag (p .x)) (p .x) (p .y) =
+      ap (mk rules expTag) (p .is) ∙ made-exp (arity slots) (group slots (b .table)) (p .x) (p .y) (w .0) (w .1 .0) in
       subst (λ (t : Term). Wrote e out o out′ r (encode t)) (sym q) (h (p .x) (p .y) (as-asked 10 (p .x & (p .y & nil)) (p .built)))
 
   -- ── a function without a rule ──
   pub free-done :
-      (tag : ℕ) → isProduct tag ≡ false → tag ≢ 5 → tag ≢ 8 → tag ≢ 9 → tag ≢ 10 → Promises (Built slots out o e tag)
+      (tag : ℕ) → isProduct tag ≡ false → tag ≢ decTag → tag ≢ fstTag → tag ≢ sndTag → tag ≢ expTag → Promises (Built slots out o e tag)
       (λ (us : Terms). Wrote e out o out e (encode (mk rules tag us)))
   free-done tag p a b c d us h =
       let other : (g : ℕ) → isProduct g ≡ true → tag ≢ g =

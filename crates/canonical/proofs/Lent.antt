@@ -6,6 +6,7 @@ use mathlib.Core.Bool.{false}
 use native.Mathlib.Omega.{arith}
 use lib.ListN.{length, take, drop}
 use borrow.Rule.Slice.PartMut.{putMid}
+use Rattle.octets.specs.Limits.{longest}
 use Rattle.message.specs.Filled.{filleds}
 use Rattle.lists.specs.Asks.{Asks₂, Promises₂}
 use Rattle.octets.specs.Splice.Prefix.{Wrote, widen, lent-length, wrote-lent}
@@ -16,7 +17,7 @@ use Rattle.message.specs.Substitution.Laws.{subs-formed}
 use Rattle.canonical.specs.Builtins.{group}
 use Rattle.canonical.specs.Loose.{mades}
 use Rattle.canonical.specs.Loose.Laws.{Sounds, sounds}
-use Rattle.canonical.specs.Contract.{Job, Out, longest}
+use Rattle.canonical.specs.Contract.{Job, Out}
 
 abbrev part : List ℕ → ℕ → List ℕ
 part out o = take (length out - o) (drop o out)

@@ -7,6 +7,7 @@ use mathlib.Core.Bool.{Bool, true}
 use native.Mathlib.Omega.{arith}
 use lib.ListN.{length, take, drop}
 use lib.Seq.{length-take-le}
+use Rattle.term.specs.Sizes.{termRoom}
 use Rattle.lists.specs.Asks.{Asks, Asks₂, Promises, Promises₂}
 use Rattle.octets.specs.Compare.{compareBytes, isEqual}
 use Rattle.octets.specs.Compare.Laws.{compare-refl}
@@ -55,7 +56,7 @@ filled-message t g = filled-canon (leaf variable) t (λ v o. absurd (none-occurs
 
 -- ── its canonical form ──
 module _ (slots s starts : List ℕ) (at : ℕ) where
-  message-job : (t : Term) → MessageAt slots s at t → (n : ℕ) → n ≡ 1280 → Job slots s starts s at 1 n 0 (leaf variable) (t & nil)
+  message-job : (t : Term) → MessageAt slots s at t → (n : ℕ) → n ≡ termRoom → Job slots s starts s at 1 n 0 (leaf variable) (t & nil)
   message-job t m n l = record {
     table = m .table;
     many = refl;
@@ -70,11 +71,11 @@ module _ (slots s starts : List ℕ) (at : ℕ) where
     values-short = m .short;
   }
 
-  pub message-ready : Asks (MessageAt slots s at) → (n : ℕ) → n ≡ 1280 → Asks₂ (Job slots s starts s at 1 n 0)
+  pub message-ready : Asks (MessageAt slots s at) → (n : ℕ) → n ≡ termRoom → Asks₂ (Job slots s starts s at 1 n 0)
   message-ready (t, m) n l = (leaf variable, (t & nil), message-job t m n l)
 
   pub message-canon :
-      (out out′ : List ℕ) (at′ r : ℕ) → length out ≡ 1280 → Promises₂ (Job slots s starts s at 1 (length out) 0)
+      (out out′ : List ℕ) (at′ r : ℕ) → length out ≡ termRoom → Promises₂ (Job slots s starts s at 1 (length out) 0)
       (λ (θ : ℕ → Term) (ts : Terms). Out (0 + length (encodes (subs θ ts))) at out 0 out′ at′ r (encodes ts) (encodes (filleds θ ts))) → Promises
       (MessageAt slots s at) (λ (t : Term). Stands out′ 0 (encode (canon t)) r)
   message-canon out out′ at′ r l D t m =

@@ -7,7 +7,8 @@ use mathlib.Core.Bool.{Bool, true, false}
 use mathlib.Core.Option.{some}
 use native.Mathlib.Omega.{arith}
 use lib.ListN.{length}
-use Rattle.canonical.specs.Contract.{longest}
+use Rattle.octets.specs.Limits.{longest}
+use Rattle.term.specs.Tags.{encTag, decTag, pairTag}
 use Rattle.octets.specs.Compare.{isEqual, compareBytes}
 use Rattle.octets.specs.Head.{Stands}
 use Rattle.canonical.specs.First.{FirstAt}
@@ -38,7 +39,7 @@ taken {e = e} x a b h m = let w = m (encode x) (h .stands) in widen e (omega (ar
 module _ (slots out : List ℕ) (o e f : ℕ) (small : f < 128) (takes : arity slots f ≡ some 1) (isLeaf : Bool) (tag number next : ℕ)
     (F : Promises₂ (Here slots out (o + 1)) (λ (e : ℕ) (t : Term). FirstAt t (o + 1) isLeaf tag number next)) where
   -- no pair
-  pub side-shut : (us : Terms) → Built slots out o e f us → tag ≢ 7 → (x : Term) × (us ≡ x & nil) × ((a b : Term) → x ≢ pair a b)
+  pub side-shut : (us : Terms) → Built slots out o e f us → tag ≢ pairTag → (x : Term) × (us ≡ x & nil) × ((a b : Term) → x ≢ pair a b)
   side-shut us b d =
       let w = one-at slots out o e f small us takes (b .here) in
       (w .x, w .is, shut slots out (o + 1) e 7 (omega arith) isLeaf tag number next (w .x) (F e (w .x) (w .x-here)) d)
@@ -51,7 +52,7 @@ module _ (slots out : List ℕ) (o e f : ℕ) (small : f < 128) (takes : arity s
     pub one-here : Here slots out next y one
     pub two-here : Here slots out y e two
 
-  pub side-open : (us : Terms) → Built slots out o e f us → tag ≡ 7 → (y : ℕ) → Promises₂ (Here slots out next) (λ (e : ℕ) (t : Term). y ≡ e) → Pair y us
+  pub side-open : (us : Terms) → Built slots out o e f us → tag ≡ pairTag → (y : ℕ) → Promises₂ (Here slots out next) (λ (e : ℕ) (t : Term). y ≡ e) → Pair y us
   side-open us b d y E =
       let w = one-at slots out o e f small us takes (b .here) in
       let v = opened slots out (o + 1) e 7 (omega arith) isLeaf tag number next (w .x) (omega arith) (pair-arity slots (b .table)) (w .x-here)
@@ -68,7 +69,8 @@ module _ (slots out : List ℕ) (o e f : ℕ) (small : f < 128) (takes : arity s
 
   -- where they lie
   pub side-bounds :
-      Asks (Built slots out o e f) → tag ≡ 7 → (y : ℕ) → Promises₂ (Here slots out next) (λ (e : ℕ) (t : Term). y ≡ e) → (o ≤ next) × (next ≤ y) × (y ≤ e) ×
+      Asks (Built slots out o e f) → tag ≡ pairTag → (y : ℕ) → Promises₂ (Here slots out next) (λ (e : ℕ) (t : Term). y ≡ e) → (o ≤ next) × (next ≤ y) ×
+      (y ≤ e) ×
       (e ≤ length out)
   side-bounds (us, b) d y E =
       let p = side-open us b d y E in
@@ -78,14 +80,14 @@ module _ (slots out : List ℕ) (o e f : ℕ) (small : f < 128) (takes : arity s
 
   -- what is made of it, by the rule of f
   pub side-stays :
-      ((x : Term) → ((a b : Term) → x ≢ pair a b) → mk rules f (x & nil) ≡ app f (x & nil)) → tag ≢ 7
+      ((x : Term) → ((a b : Term) → x ≢ pair a b) → mk rules f (x & nil) ≡ app f (x & nil)) → tag ≢ pairTag
       → Promises (Built slots out o e f) (λ (us : Terms). Wrote e out o out e (encode (mk rules f us)))
   side-stays law d us b =
       let w = side-shut us b d in
       let q : mk rules f us ≡ app f us = ap (mk rules f) (w .1) ∙ law (w .0) (w .2) ∙ ap (app f) (sym (w .1)) in
       subst (λ (t : Term). Wrote e out o out e (encode t)) (sym q) (stays out o e (encode (app f us)) (b .here .stands))
 
-  module _ (d : tag ≡ 7) (y : ℕ) (E : Promises₂ (Here slots out next) (λ (e : ℕ) (t : Term). y ≡ e)) (out′ : List ℕ) (r : ℕ) where
+  module _ (d : tag ≡ pairTag) (y : ℕ) (E : Promises₂ (Here slots out next) (λ (e : ℕ) (t : Term). y ≡ e)) (out′ : List ℕ) (r : ℕ) where
     pub side-one :
         ((a b : Term) → mk rules f (pair a b & nil) ≡ a) → Promises (λ (q : List ℕ). Stands out next q y) (λ (q : List ℕ). Wrote r out o out′ r q) → Promises
         (Built slots out o e f) (λ (us : Terms). Wrote e out o out′ r (encode (mk rules f us)))
@@ -109,22 +111,23 @@ module _ (slots out : List ℕ) (o e f : ℕ) (small : f < 128) (takes : arity s
 module _ (slots out : List ℕ) (o e : ℕ) (isLeaf : Bool) (tag number next : ℕ) (F : Promises₂ (Here slots out (o + 1))
     (λ (e : ℕ) (t : Term). FirstAt t (o + 1) isLeaf tag number next)) where
   -- the ciphertext and the key
-  dec-two : (us : Terms) → Built slots out o e 5 us → Two slots out o e 5 (omega arith) us
+  dec-two : (us : Terms) → Built slots out o e decTag us → Two slots out o e decTag (omega arith) us
   dec-two us b = two-at slots out o e 5 (omega arith) us (dec-arity slots (b .table)) (b .here)
 
-  dec-as-it-stands : (us : Terms) (c k : Term) → us ≡ c & (k & nil) → ((m : Term) → c ≢ enc m k) → Built slots out o e 5 us
-      → Wrote e out o out e (encode (mk rules 5 us))
+  dec-as-it-stands : (us : Terms) (c k : Term) → us ≡ c & (k & nil) → ((m : Term) → c ≢ enc m k) → Built slots out o e decTag us
+      → Wrote e out o out e (encode (mk rules decTag us))
   dec-as-it-stands us c k i h b =
-      let q : mk rules 5 us ≡ app 5 us = ap (mk rules 5) i ∙ made-dec-stays (arity slots) (group slots (b .table)) c k h ∙ ap (app 5) (sym i) in
-      subst (λ (t : Term). Wrote e out o out e (encode t)) (sym q) (stays out o e (encode (app 5 us)) (b .here .stands))
+      let q : mk rules decTag us ≡ app decTag us = ap (mk rules decTag) i ∙ made-dec-stays (arity slots) (group slots (b .table)) c k h ∙ ap (app decTag)
+      (sym i) in
+      subst (λ (t : Term). Wrote e out o out e (encode t)) (sym q) (stays out o e (encode (app decTag us)) (b .here .stands))
 
-  pub dec-shut : tag ≢ 4 → Promises (Built slots out o e 5) (λ (us : Terms). Wrote e out o out e (encode (mk rules 5 us)))
+  pub dec-shut : tag ≢ encTag → Promises (Built slots out o e decTag) (λ (us : Terms). Wrote e out o out e (encode (mk rules decTag us)))
   dec-shut d us b =
       let w = dec-two us b in
       dec-as-it-stands us (w .x) (w .y) (w .is)
       (λ m. shut slots out (o + 1) (w .middle) 4 (omega arith) isLeaf tag number next (w .x) (F (w .middle) (w .x) (w .x-here)) d m (w .y)) b
 
-  module _ (d : tag ≡ 4) (i j : ℕ) (E : Promises₂ (Here slots out next) (λ (e : ℕ) (t : Term). i ≡ e))
+  module _ (d : tag ≡ encTag) (i j : ℕ) (E : Promises₂ (Here slots out next) (λ (e : ℕ) (t : Term). i ≡ e))
       (G : Promises₂ (Here slots out i) (λ (e : ℕ) (t : Term). j ≡ e)) where
     record Cipher (us : Terms) : Type 0 where
       message : Term
@@ -136,7 +139,7 @@ module _ (slots out : List ℕ) (o e : ℕ) (isLeaf : Bool) (tag number next : �
       key-here : Here slots out i j key
       given-here : Here slots out j e given
 
-    cipher : (us : Terms) → Built slots out o e 5 us → Cipher us
+    cipher : (us : Terms) → Built slots out o e decTag us → Cipher us
     cipher us b =
         let w = dec-two us b in
         let v = opened slots out (o + 1) (w .middle) 4 (omega arith) isLeaf tag number next (w .x) (omega arith) (enc-arity slots (b .table)) (w .x-here)
@@ -155,7 +158,7 @@ module _ (slots out : List ℕ) (o e : ℕ) (isLeaf : Bool) (tag number next : �
           given-here = subst (λ (m : ℕ). Here slots out m e (w .y)) p (w .y-here);
         }
 
-    pub dec-bounds : Asks (Built slots out o e 5) → (o ≤ next) × (next ≤ i) × (i ≤ length out)
+    pub dec-bounds : Asks (Built slots out o e decTag) → (o ≤ next) × (next ≤ i) × (i ≤ length out)
     dec-bounds (us, b) =
         let p = cipher us b in
         let k = here-within (p .message) (p .message-here) in
@@ -164,21 +167,21 @@ module _ (slots out : List ℕ) (o e : ℕ) (isLeaf : Bool) (tag number next : �
     pub dec-opens : Promises₂ (Here slots out i) (λ (d : ℕ) (x : Term). Promises₂ (Here slots out j)
         (λ (e : ℕ) (y : Term). true ≡ isEqual (compareBytes (encode x) (encode y)))) → (out′ : List ℕ) (r : ℕ) → Promises (λ (q : List ℕ). Stands out next q i)
         (λ (q : List ℕ). Wrote r out o out′ r q)
-        → Promises (Built slots out o e 5) (λ (us : Terms). Wrote e out o out′ r (encode (mk rules 5 us)))
+        → Promises (Built slots out o e decTag) (λ (us : Terms). Wrote e out o out′ r (encode (mk rules decTag us)))
     dec-opens S out′ r m us b =
         let p = cipher us b in
         let k = here-within (p .key) (p .key-here) in
         let g = here-within (p .given) (p .given-here) in
         let s : p .key ≡ p .given =
         same-term slots (p .key) (p .given) (p .key-here .formed) (p .given-here .formed) (sym (S j (p .key) (p .key-here) e (p .given) (p .given-here))) in
-        let q : mk rules 5 us ≡ p .message =
-        ap (mk rules 5) (p .is ∙ ap (λ (z : Term). enc (p .message) (p .key) & (z & nil)) (sym s)) ∙ made-dec (arity slots) (group slots (b .table))
+        let q : mk rules decTag us ≡ p .message =
+        ap (mk rules decTag) (p .is ∙ ap (λ (z : Term). enc (p .message) (p .key) & (z & nil)) (sym s)) ∙ made-dec (arity slots) (group slots (b .table))
         (p .message) (p .key) in
         subst (λ (t : Term). Wrote e out o out′ r (encode t)) (sym q) (taken (p .message) (p .before) (omega arith) (p .message-here) m)
 
     pub dec-stays : Promises₂ (Here slots out i) (λ (d : ℕ) (x : Term). Promises₂ (Here slots out j)
-        (λ (e : ℕ) (y : Term). false ≡ isEqual (compareBytes (encode x) (encode y)))) → Promises (Built slots out o e 5)
-        (λ (us : Terms). Wrote e out o out e (encode (mk rules 5 us)))
+        (λ (e : ℕ) (y : Term). false ≡ isEqual (compareBytes (encode x) (encode y)))) → Promises (Built slots out o e decTag)
+        (λ (us : Terms). Wrote e out o out e (encode (mk rules decTag us)))
     dec-stays S us b =
         let p = cipher us b in
         dec-as-it-stands us (enc (p .message) (p .key)) (p .given) (p .is)

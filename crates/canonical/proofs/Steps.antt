@@ -6,6 +6,7 @@ use mathlib.Core.Logic.{_≢_, inl, inr}
 use mathlib.Core.Bool.{Bool, true, false}
 use native.Mathlib.Omega.{arith}
 use lib.ListN.{length, drop, length-append}
+use Rattle.term.specs.Sizes.{mostSymbols}
 use Rattle.canonical.specs.First.{FirstAt}
 use Rattle.lists.specs.Asks.{Asks₂, Promises₂}
 use Rattle.lists.specs.Choice.{clash}
@@ -19,7 +20,7 @@ use Rattle.term.specs.Reader.Exact.{behind-tag}
 use Rattle.message.specs.Substitution.{sub, subs}
 use Rattle.message.specs.Parts.Entries.{Each}
 use Rattle.canonical.specs.Loose.{made, mades}
-use Rattle.canonical.specs.Contract.{mostSymbols, Job, Out}
+use Rattle.canonical.specs.Contract.{Job, Out}
 use Rattle.canonical.specs.Inner.{LeafJob, Here}
 
 -- ── a job of one term and more ──

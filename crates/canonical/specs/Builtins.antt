@@ -5,6 +5,7 @@ use mathlib.Core.Path.{_≡_, refl, _∙_, ap, sym}
 use mathlib.Core.Option.{some}
 use native.Mathlib.Omega.{arith}
 use lib.ListN.{getD}
+use Rattle.term.specs.Tags.{oneTag, encTag, decTag, pairTag, fstTag, sndTag, expTag, invTag, mulTag}
 use Rattle.term.specs.Arity.{undeclared, arity, builtin, slots}
 use Rattle.term.specs.Arity.Laws.{slot-builtin, no-leaf, arity-some}
 use Rattle.message.specs.Rules.{FitArities}
@@ -20,26 +21,26 @@ module _ (table : List ℕ) (b : Builtins table) where
   takes : (f n : ℕ) → 3 ≤ f → f < 13 → getD builtin f undeclared ≡ n → (n ≡ undeclared → ⊥) → arity table f ≡ some n
   takes f n l h e u = let q : getD table f undeclared ≡ n = b .same f h ∙ e in arity-some table f l (λ z. u (sym q ∙ z)) ∙ ap some q
 
-  pub enc-arity : arity table 4 ≡ some 2
-  enc-arity = takes 4 2 (omega arith) (omega arith) refl (λ z. omega arith)
+  pub enc-arity : arity table encTag ≡ some 2
+  enc-arity = takes encTag 2 (omega arith) (omega arith) refl (λ z. omega arith)
 
-  pub dec-arity : arity table 5 ≡ some 2
-  dec-arity = takes 5 2 (omega arith) (omega arith) refl (λ z. omega arith)
+  pub dec-arity : arity table decTag ≡ some 2
+  dec-arity = takes decTag 2 (omega arith) (omega arith) refl (λ z. omega arith)
 
-  pub pair-arity : arity table 7 ≡ some 2
-  pair-arity = takes 7 2 (omega arith) (omega arith) refl (λ z. omega arith)
+  pub pair-arity : arity table pairTag ≡ some 2
+  pair-arity = takes pairTag 2 (omega arith) (omega arith) refl (λ z. omega arith)
 
-  pub fst-arity : arity table 8 ≡ some 1
-  fst-arity = takes 8 1 (omega arith) (omega arith) refl (λ z. omega arith)
+  pub fst-arity : arity table fstTag ≡ some 1
+  fst-arity = takes fstTag 1 (omega arith) (omega arith) refl (λ z. omega arith)
 
-  pub snd-arity : arity table 9 ≡ some 1
-  snd-arity = takes 9 1 (omega arith) (omega arith) refl (λ z. omega arith)
+  pub snd-arity : arity table sndTag ≡ some 1
+  snd-arity = takes sndTag 1 (omega arith) (omega arith) refl (λ z. omega arith)
 
   pub group : FitArities (arity table)
   group = record {
     no-leaf = λ f n e. no-leaf table f n e;
-    one-arity = takes 3 0 (omega arith) (omega arith) refl (λ z. omega arith);
-    exp-arity = takes 10 2 (omega arith) (omega arith) refl (λ z. omega arith);
-    inv-arity = takes 11 1 (omega arith) (omega arith) refl (λ z. omega arith);
-    mul-arity = takes 12 2 (omega arith) (omega arith) refl (λ z. omega arith);
+    one-arity = takes oneTag 0 (omega arith) (omega arith) refl (λ z. omega arith);
+    exp-arity = takes expTag 2 (omega arith) (omega arith) refl (λ z. omega arith);
+    inv-arity = takes invTag 1 (omega arith) (omega arith) refl (λ z. omega arith);
+    mul-arity = takes mulTag 2 (omega arith) (omega arith) refl (λ z. omega arith);
   }

@@ -1,8 +1,10 @@
 -- What the crate's functions are asked, by the trees that the bytes encode.
-use Prim.Native.Nat.{ℕ, _+_, _^_, _≤_, _<_}
+use Prim.Native.Nat.{ℕ, _+_, _≤_, _<_}
 use mathlib.Core.List.{List, _++_}
 use mathlib.Core.Path.{_≡_}
 use lib.ListN.{length, drop, getD}
+use Rattle.octets.specs.Limits.{longest}
+use Rattle.term.specs.Sizes.{mostSymbols}
 use Rattle.octets.specs.Splice.Prefix.{Wrote}
 use Rattle.term.specs.Term.{Term, Terms, count, encode, encodes, symbols, Formed, Formeds, InRange, InRanges}
 use Rattle.term.specs.Arity.{arity}
@@ -12,14 +14,6 @@ use Rattle.message.specs.Canon.{canon}
 use Rattle.canonical.specs.Builtins.{Builtins}
 -- what is written are the canonical forms, and each can be a value again
 pub mod Laws
-
--- "a term past 256 symbols"
-abbrev pub mostSymbols : ℕ
-mostSymbols = 256
-
--- as long as a slice may be
-abbrev pub longest : ℕ
-longest = 2 ^ 32
 
 -- ── a run of terms ──
 -- the value t of variable v: canonical, its bytes in `vals` from the v-th of `starts` on

@@ -3,13 +3,15 @@ use Prim.Native.Nat.{ℕ, _+_, _≤_, _<_}
 use mathlib.Core.List.{List}
 use mathlib.Core.Path.{_≡_}
 use lib.ListN.{length}
+use Rattle.octets.specs.Limits.{longest}
+use Rattle.term.specs.Sizes.{mostSymbols}
 use Rattle.octets.specs.Head.{Stands}
 use Rattle.number.specs.Groups.{numberLimit}
 use Rattle.term.specs.Term.{Kind, Term, leaf, app, Terms, tagOf, encode, symbols, Formed, InRange}
 use Rattle.term.specs.Arity.{arity}
 use Rattle.message.specs.Substitution.{sub, Occurs}
 use Rattle.canonical.specs.Builtins.{Builtins}
-use Rattle.canonical.specs.Contract.{mostSymbols, longest, Value}
+use Rattle.canonical.specs.Contract.{Value}
 
 -- ── a leaf ──
 -- the leaf of a kind and a number, its value if it is a variable, and room for it

@@ -3,6 +3,7 @@
 use Prim.Native.Nat.{ℕ}
 use mathlib.Core.Bool.{Bool, true, cond, _||_}
 use lib.Dec.{eqb}
+use Rattle.term.specs.Tags.{mulTag, oneTag, invTag}
 use Rattle.term.specs.Term.{variable, public, fresh, Term, leaf, app, Terms, nil, _&_}
 use Rattle.message.specs.Table.{rules}
 use Rattle.message.specs.Canon.{mk}
@@ -12,7 +13,7 @@ pub mod Laws
 
 -- one, inv and mul
 abbrev pub isProduct : ℕ → Bool
-isProduct f = eqb f 3 || (eqb f 11 || eqb f 12)
+isProduct f = eqb f oneTag || (eqb f invTag || eqb f mulTag)
 
 -- the function f of made arguments, inside a product or not
 unfoldable pub closed : Bool → ℕ → Terms → Term

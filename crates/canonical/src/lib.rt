@@ -5,12 +5,14 @@ ghost use Prim.Native.Nat.{_+_, _≤_, _<_, ℕ};
 ghost use lib.ListN.{length};
 ghost use mathlib.Core.List.{List};
 ghost use mathlib.Core.Logic.{_↔_};
+ghost use Rattle.octets.specs.Limits.{longest};
 ghost use Rattle.octets.specs.Compare.{isEqual, compareBytes};
 ghost use Rattle.octets.specs.Head.{Stands};
 ghost use Rattle.canonical.specs.First.{FirstAt};
 ghost use Rattle.message.specs.Equations.{Same};
 ghost use Rattle.message.specs.Filled.{filleds};
 ghost use Rattle.message.specs.Substitution.{sub, subs};
+ghost use Rattle.term.specs.Tags.{decTag, fstTag, sndTag};
 ghost use Rattle.term.specs.Arity.{arity};
 ghost use Rattle.term.specs.Term.{Kind, Term, Terms, leaf, encode, encodes};
 ghost use Rattle.lists.specs.Asks.{Asks, Asks₂, Promises, Promises₂};
@@ -19,7 +21,7 @@ ghost use Rattle.number.specs.Groups.{groups, numberLimit};
 ghost use Rattle.message.specs.Table.{rules};
 ghost use Rattle.message.specs.Canon.{mk, canon};
 ghost use Rattle.canonical.specs.Loose.{isProduct, closed, mades};
-ghost use Rattle.canonical.specs.Contract.{longest, Job, Out, MessageAt};
+ghost use Rattle.canonical.specs.Contract.{Job, Out, MessageAt};
 ghost use Rattle.canonical.specs.Inner.{LeafJob, Here, Built};
 use term::Part;
 use term::Symbol;
@@ -57,7 +59,7 @@ fn first(s: &[u8], arities: &[u8], at: usize) -> Head
         },
         Symbol::Fault => Head {
             leaf: true,
-            tag: 0,
+            tag: term::VARIABLE,
             number: 0,
             next: at,
         },
@@ -99,7 +101,7 @@ fn move_to(out: &mut [u8], o: usize, from: usize, to: usize) -> usize
 fn is_product(tag: usize) -> bool
     ensures { λ r. ⌜ r ≡ isProduct tag ⌝ }
 {
-    (tag == 3) | ((tag == 11) | (tag == 12))
+    (tag == term::ONE) | ((tag == term::INV) | (tag == term::MUL))
 }
 
 // Writes a number.
@@ -123,7 +125,7 @@ fn put_leaf(
     requires { ⌜ Asks₂ (LeafJob (now arities) (now vals) (now starts) (length (now out)) o tag number) ⌝ }
     ensures { λ r. ⌜ Promises₂ (LeafJob (now (arities .entry)) (now (vals .entry)) (now (starts .entry)) (length (now (out .entry))) o tag number) (λ (θ : ℕ → Term) (k : Kind). Wrote r (now (out .entry)) o (now (out .exit)) r (encode (sub θ (leaf k number)))) ⌝ }
 {
-    if tag == 0 {
+    if tag == term::VARIABLE {
         let from = starts[number];
         return octets::copy_into(out, o, term::term_part(vals, arities, from));
     }
@@ -133,11 +135,11 @@ fn put_leaf(
 
 // dec(enc(x, y), y) is x.
 fn unlock(out: &mut [u8], o: usize, e: usize, arities: &[u8]) -> usize
-    requires { ⌜ Asks (Built (now arities) (now out) o e 5) ⌝ }
-    ensures { λ r. ⌜ Promises (Built (now (arities .entry)) (now (out .entry)) o e 5) (λ (us : Terms). Wrote e (now (out .entry)) o (now (out .exit)) r (encode (mk rules 5 us))) ⌝ }
+    requires { ⌜ Asks (Built (now arities) (now out) o e decTag) ⌝ }
+    ensures { λ r. ⌜ Promises (Built (now (arities .entry)) (now (out .entry)) o e decTag) (λ (us : Terms). Wrote e (now (out .entry)) o (now (out .exit)) r (encode (mk rules decTag us))) ⌝ }
 {
     let c = first(out, arities, o + 1);
-    if c.tag != 4 {
+    if c.tag != term::ENC {
         return e;
     }
     let message = c.next;
@@ -151,11 +153,11 @@ fn unlock(out: &mut [u8], o: usize, e: usize, arities: &[u8]) -> usize
 
 // fst(pair(x, y)) is x.
 fn left(out: &mut [u8], o: usize, e: usize, arities: &[u8]) -> usize
-    requires { ⌜ Asks (Built (now arities) (now out) o e 8) ⌝ }
-    ensures { λ r. ⌜ Promises (Built (now (arities .entry)) (now (out .entry)) o e 8) (λ (us : Terms). Wrote e (now (out .entry)) o (now (out .exit)) r (encode (mk rules 8 us))) ⌝ }
+    requires { ⌜ Asks (Built (now arities) (now out) o e fstTag) ⌝ }
+    ensures { λ r. ⌜ Promises (Built (now (arities .entry)) (now (out .entry)) o e fstTag) (λ (us : Terms). Wrote e (now (out .entry)) o (now (out .exit)) r (encode (mk rules fstTag us))) ⌝ }
 {
     let c = first(out, arities, o + 1);
-    if c.tag != 7 {
+    if c.tag != term::PAIR {
         return e;
     }
     let x = c.next;
@@ -165,11 +167,11 @@ fn left(out: &mut [u8], o: usize, e: usize, arities: &[u8]) -> usize
 
 // snd(pair(x, y)) is y.
 fn right(out: &mut [u8], o: usize, e: usize, arities: &[u8]) -> usize
-    requires { ⌜ Asks (Built (now arities) (now out) o e 9) ⌝ }
-    ensures { λ r. ⌜ Promises (Built (now (arities .entry)) (now (out .entry)) o e 9) (λ (us : Terms). Wrote e (now (out .entry)) o (now (out .exit)) r (encode (mk rules 9 us))) ⌝ }
+    requires { ⌜ Asks (Built (now arities) (now out) o e sndTag) ⌝ }
+    ensures { λ r. ⌜ Promises (Built (now (arities .entry)) (now (out .entry)) o e sndTag) (λ (us : Terms). Wrote e (now (out .entry)) o (now (out .exit)) r (encode (mk rules sndTag us))) ⌝ }
 {
     let c = first(out, arities, o + 1);
-    if c.tag != 7 {
+    if c.tag != term::PAIR {
         return e;
     }
     let x = c.next;
@@ -182,16 +184,16 @@ fn reduce(out: &mut [u8], o: usize, e: usize, tag: usize, arities: &[u8]) -> usi
     requires { ⌜ (isProduct tag ≡ false) × Asks (Built (now arities) (now out) o e tag) ⌝ }
     ensures { λ r. ⌜ Promises (Built (now (arities .entry)) (now (out .entry)) o e tag) (λ (us : Terms). Wrote e (now (out .entry)) o (now (out .exit)) r (encode (mk rules tag us))) ⌝ }
 {
-    if tag == 5 {
+    if tag == term::DEC {
         return unlock(out, o, e, arities);
     }
-    if tag == 8 {
+    if tag == term::FST {
         return left(out, o, e, arities);
     }
-    if tag == 9 {
+    if tag == term::SND {
         return right(out, o, e, arities);
     }
-    if tag == 10 {
+    if tag == term::EXP {
         return product::exponent(out, o, e, arities);
     }
     e
@@ -265,7 +267,7 @@ pub fn canonical_into(
 }
 
 // Writes the canonical form of the message at a place to the start of an output.
-pub fn canonical_term(out: &mut [u8; 1280], s: &[u8], at: usize, arities: &[u8]) -> usize
+pub fn canonical_term(out: &mut [u8; term::TERM_ROOM], s: &[u8], at: usize, arities: &[u8]) -> usize
     requires { ⌜ Asks (MessageAt (now arities) (now s) at) ⌝ }
     ensures { λ r. ⌜ Promises (MessageAt (now (arities .entry)) (now (s .entry)) at) (λ (t : Term). Stands (now (out .exit)) 0 (encode (canon t)) r) ⌝ }
 {
@@ -279,7 +281,7 @@ pub fn is_canonical(s: &[u8], at: usize, arities: &[u8]) -> bool
     requires { ⌜ Asks (MessageAt (now arities) (now s) at) ⌝ }
     ensures { λ r. ⌜ Promises (MessageAt (now (arities .entry)) (now (s .entry)) at) (λ (t : Term). (r ≡ true) ↔ (canon t ≡ t)) ⌝ }
 {
-    let mut out = [0u8; 1280];
+    let mut out = [0u8; term::TERM_ROOM];
     let n = canonical_term(&mut out, s, at, arities);
     octets::same_bytes(&out[..n], term::term_part(s, arities, at))
 }
@@ -289,8 +291,8 @@ pub fn same_message(s: &[u8], i: usize, u: &[u8], j: usize, arities: &[u8]) -> b
     requires { ⌜ Asks (MessageAt (now arities) (now s) i) × Asks (MessageAt (now arities) (now u) j) ⌝ }
     ensures { λ r. ⌜ Promises (MessageAt (now (arities .entry)) (now (s .entry)) i) (λ (x : Term). Promises (MessageAt (now (arities .entry)) (now (u .entry)) j) (λ (y : Term). (r ≡ true) ↔ Same (arity (now (arities .entry))) x y)) ⌝ }
 {
-    let mut a = [0u8; 1280];
-    let mut b = [0u8; 1280];
+    let mut a = [0u8; term::TERM_ROOM];
+    let mut b = [0u8; term::TERM_ROOM];
     let m = canonical_term(&mut a, s, i, arities);
     let n = canonical_term(&mut b, u, j, arities);
     octets::same_bytes(&a[..m], &b[..n])

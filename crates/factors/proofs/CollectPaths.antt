@@ -7,6 +7,7 @@ use native.Mathlib.Nat.{add-zero}
 use native.Mathlib.Omega.{arith}
 use lib.ListN.{length, length-append}
 use lib.IntN.{ℤ}
+use Rattle.term.specs.Sizes.{mostSymbols}
 use Rattle.lists.specs.Asks.{Asks₂, Promises₂}
 use Rattle.term.specs.Term.{Term, Terms, nil, _&_, count, encode, encodes, symbols, symbolss}
 use Rattle.term.specs.Reader.{symbolAt}
@@ -20,7 +21,7 @@ use Rattle.factors.specs.Laid.{Laid, OneAt}
 use Rattle.factors.specs.Laid.Laws.{first-of, others-of, one-after, one-within}
 use Rattle.factors.specs.Way.{wayOf}
 use Rattle.factors.specs.Way.Laws.{GoneInto, way-into, way-factor}
-use Rattle.factors.specs.Contracts.{most, Room, Collect, Collected, EnterAt}
+use Rattle.factors.specs.Contracts.{Room, Collect, Collected, EnterAt}
 
 -- the same table with arrays as long
 room-kept :
@@ -46,7 +47,7 @@ module _ (slots s S E : List ℕ) (P : List ℤ) (n at k : ℕ) (minus : Bool) w
       pub rest : Laid slots s (at + length (encode t)) us
       pub left : count us ≡ k - 1
       pub some : 0 < k
-      pub mass-left : mass l + (symbols t + symbolss us) ≤ most
+      pub mass-left : mass l + (symbols t + symbolss us) ≤ mostSymbols
 
     pub head : (l : Exps) (ts : Terms) → Collect slots s S E P n at k l ts → Head l ts
     head l nil C = absurd (h (sym (C .many)))

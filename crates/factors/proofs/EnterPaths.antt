@@ -10,6 +10,7 @@ use lib.Seq.{getD-set-same, getD-set-other}
 use lib.IntN.{ℤ, pos, _+ℤ_, natAbs}
 use mir.Syntax.{w32}
 use mir.Val.{SFits, toZ, ofZ}
+use Rattle.term.specs.Sizes.{mostSymbols}
 use Rattle.lists.specs.Asks.{Asks₂, Promises₂}
 use Rattle.lists.specs.Choice.{clash}
 use Rattle.octets.specs.Head.{Bytes, Stands, stands-within}
@@ -28,7 +29,7 @@ use Rattle.factors.specs.Mass.Laws.{size-mass, sign-abs}
 use Rattle.factors.specs.Rows.{Table, Bounds, orderAt, meeting, Found, Moved}
 use Rattle.factors.specs.Rows.Laws.{rows-bounds, rows-abs, opened, rows-in, size-in, rows-same, size-same}
 use Rattle.factors.specs.Laid.Laws.{one-bytes}
-use Rattle.factors.specs.Contracts.{most, Enter, EnterAt, Collected}
+use Rattle.factors.specs.Contracts.{Enter, EnterAt, Collected}
 
 -- ── moving up, for elements of any type ──
 pub record Moving {A : Type 0} (d : A) (old new : List A) (j n : ℕ) : Type 0 where
@@ -76,7 +77,7 @@ module _ (key s S E : List ℕ) (n : ℕ) where
 -- ── entering ──
 module _ (key s S E : List ℕ) (P : List ℤ) (n a : ℕ) where
   module _ (l : Exps) (t : Term) (X : Enter key s S E P n a l t) where
-    few : n < most
+    few : n < mostSymbols
     few = omega (arith, X .few, size-mass l, X .table .many)
 
   pub enter-few : Asks₂ (Enter key s S E P n a) → (n < length S) × (n < length E) × (n < length P)

@@ -1,9 +1,11 @@
 -- What the functions of this crate are asked, and how they leave the table.
-use Prim.Native.Nat.{ℕ, _+_, _^_, _≤_, _<_}
+use Prim.Native.Nat.{ℕ, _+_, _≤_, _<_}
 use mathlib.Core.Path.{_≡_}
 use mathlib.Core.List.{List}
 use lib.ListN.{length}
 use lib.IntN.{ℤ}
+use Rattle.octets.specs.Limits.{longest}
+use Rattle.term.specs.Sizes.{mostSymbols}
 use Rattle.octets.specs.Head.{Stands}
 use Rattle.term.specs.Term.{Term, Terms, count, encode, symbolss}
 use Rattle.message.specs.Product.{Exps}
@@ -12,22 +14,18 @@ use Rattle.factors.specs.Mass.{mass}
 use Rattle.factors.specs.Rows.{Table}
 use Rattle.factors.specs.Laid.{Laid, OneAt}
 
--- the most entries: "at most 256 symbols"
-abbrev pub most : ℕ
-most = 256
-
 -- the three arrays have room for that many
 pub record Room (S E : List ℕ) (P : List ℤ) : Type 0 where
-  pub starts : most ≤ length S
-  pub ends : most ≤ length E
-  pub powers : most ≤ length P
+  pub starts : mostSymbols ≤ length S
+  pub ends : mostSymbols ≤ length E
+  pub powers : mostSymbols ≤ length P
 
 -- ── entering a factor ──
 -- the factor t, whose bytes are the key, stands in s from a on
 pub record Enter (key s S E : List ℕ) (P : List ℤ) (n a : ℕ) (l : Exps) (t : Term) : Type 0 where
   pub table : Table s S E P n l
   pub room : Room S E P
-  pub few : mass l < most
+  pub few : mass l < mostSymbols
   pub bytes : key ≡ encode t
   pub there : Stands s a (encode t) (a + length key)
 
@@ -35,11 +33,11 @@ pub record Enter (key s S E : List ℕ) (P : List ℤ) (n a : ℕ) (l : Exps) (t
 pub record Collect (slots s S E : List ℕ) (P : List ℤ) (n at k : ℕ) (l : Exps) (ts : Terms) : Type 0 where
   pub table : Table s S E P n l
   pub room : Room S E P
-  pub few : mass l + symbolss ts ≤ most
+  pub few : mass l + symbolss ts ≤ mostSymbols
   pub laid : Laid slots s at ts
   pub many : count ts ≡ k
   pub inside : at ≤ length s
-  pub short : length s ≤ 2 ^ 32
+  pub short : length s ≤ longest
 
 -- the table has the factors l, and the walk stands at e
 pub record Collected (s S E : List ℕ) (P : List ℤ) (e : ℕ) (r : Filled) (l : Exps) : Type 0 where
@@ -50,6 +48,6 @@ pub record Collected (s S E : List ℕ) (P : List ℤ) (e : ℕ) (r : Filled) (l
 pub record EnterAt (slots s S E : List ℕ) (P : List ℤ) (n at : ℕ) (l : Exps) (t : Term) : Type 0 where
   pub table : Table s S E P n l
   pub room : Room S E P
-  pub few : mass l < most
+  pub few : mass l < mostSymbols
   pub one : OneAt slots s at (at + length (encode t)) t
-  pub short : length s ≤ 2 ^ 32
+  pub short : length s ≤ longest

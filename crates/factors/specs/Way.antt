@@ -2,6 +2,7 @@
 use Prim.Native.Nat.{ℕ}
 use mathlib.Core.Bool.{Bool, not}
 use lib.Dec.{eqb}
+use Rattle.term.specs.Tags.{oneTag, invTag, mulTag}
 use Rattle.lists.specs.Choice.{pick}
 use Rattle.term.specs.declared.Symbol.{Symbol}
 use Rattle.term.specs.declared.Symbol.the-variants as sy
@@ -12,7 +13,7 @@ pub mod Laws
 
 abbrev pub wayAt : Bool → ℕ → ℕ → ℕ → Way
 wayAt m f k e =
-    pick (eqb f 3) (way.Into m k e) (pick (eqb f 12) (way.Into m k e) (pick (eqb f 11) (way.Into (not m) k e) way.Factor))
+    pick (eqb f oneTag) (way.Into m k e) (pick (eqb f mulTag) (way.Into m k e) (pick (eqb f invTag) (way.Into (not m) k e) way.Factor))
 
 abbrev pub wayOf : Bool → Symbol → Way
 wayOf m (sy.Leaf t n e) = way.Factor

@@ -136,13 +136,13 @@ fn way_at(s: &[u8], arities: &[u8], at: usize, minus: bool) -> Way
     match term::symbol_at(s, arities, at) {
         Symbol::Leaf(_, _, _) => Way::Factor,
         Symbol::Op(t, k, e) => {
-            if t == 3 {
+            if t == term::ONE {
                 return Way::Into(minus, k as usize, e);
             }
-            if t == 12 {
+            if t == term::MUL {
                 return Way::Into(minus, k as usize, e);
             }
-            if t == 11 {
+            if t == term::INV {
                 return Way::Into(!minus, k as usize, e);
             }
             Way::Factor

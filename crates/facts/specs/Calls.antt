@@ -4,10 +4,10 @@ use mathlib.Core.List.{List}
 use mathlib.Core.Path.{_≡_}
 use lib.ListN.{length, getD}
 use lib.Dec.{eqb}
+use Rattle.octets.specs.Limits.{longest}
 use Rattle.octets.specs.Compare.{compareBytes, isEqual}
 use Rattle.term.specs.Term.{Term}
 use Rattle.term.specs.Reader.{term}
-use Rattle.canonical.specs.Contract.{longest}
 use Rattle.protocol.specs.Protocol.{Fact, Rule, Protocol, part, noFact, fact}
 use Rattle.protocol.specs.Places.{Here}
 use Rattle.protocol.specs.Index.{Placed}

@@ -2,6 +2,8 @@
 use Prim.Native.Nat.{ℕ, _+_, _≤_, _<_}
 use mathlib.Core.List.{List, [], _∷_}
 use lib.ListN.{length, getD}
+use Rattle.octets.specs.Limits.{longest}
+use Rattle.term.specs.Sizes.{mostSymbols}
 use Rattle.octets.specs.Splice.Prefix.{Wrote}
 use Rattle.number.specs.Layout.{flat}
 use Rattle.lists.specs.All.{All}
@@ -10,7 +12,7 @@ use Rattle.term.specs.Reader.{terms}
 use Rattle.message.specs.Substitution.{sub, Occurss}
 use Rattle.message.specs.Canon.{canon}
 use Rattle.canonical.specs.Builtins.{Builtins}
-use Rattle.canonical.specs.Contract.{mostSymbols, longest, Value}
+use Rattle.canonical.specs.Contract.{Value}
 use Rattle.protocol.specs.Protocol.{Fact, fact}
 use Rattle.protocol.specs.Places.{Here}
 use Rattle.steps.specs.Facts.{valueAt, filledFact}

@@ -4,6 +4,7 @@ use Prim.Native.Nat.{ℕ}
 use mathlib.Core.Bool.{Bool, true, false, cond, _&&_}
 use mathlib.Core.Option.{Option, some, Option·getD}
 use lib.Dec.{eqb}
+use Rattle.term.specs.Tags.{expTag}
 use Rattle.term.specs.Term.{variable, public, fresh, Term, leaf, app, Terms, nil, _&_, tagOf}
 use Rattle.message.specs.Functions.{one, exp}
 use Rattle.message.specs.Product.{Exps, empty, part, build}
@@ -61,7 +62,7 @@ raise b empty = b
 raise b (part t k l) = exp b (build (part t k l))
 
 abbrev pub mkExp : Term → Term → Term
-mkExp x y = raise (baseOf (as2 10 x) x) (add (expoOf (as2 10 x)) (parts y))
+mkExp x y = raise (baseOf (as2 expTag x) x) (add (expoOf (as2 expTag x)) (parts y))
 
 abbrev pub on2 : (Term → Term → Term) → ℕ → Terms → Term
 on2 g f nil = app f nil

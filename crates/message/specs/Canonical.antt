@@ -3,6 +3,7 @@ use Prim.Native.Nat.{ℕ}
 use mathlib.Core.Path.{_≡_}
 use mathlib.Core.Logic.{_≢_}
 use lib.IntN.{ℤ}
+use Rattle.term.specs.Tags.{oneTag, invTag, mulTag}
 use Rattle.term.specs.Term.{Kind, Term, leaf, app, Terms, nil, _&_}
 use Rattle.message.specs.Functions.{one, enc, dec, pair, fst, snd, exp}
 use Rattle.message.specs.Product.{Exps, empty, part, Ascending, build}
@@ -29,7 +30,7 @@ mutual
   -- "A factor is no mul, inv or one" (tags 12, 11, 3): a variable or name, or another function of canonical terms
   pub data Factor (S : Term → Type 0) : Term → Type 0 where
     name : {k : Kind} {n : ℕ} → Factor S (leaf k n)
-    node : {f : ℕ} {ts : Terms} → f ≢ 3 → f ≢ 11 → f ≢ 12 → Canonicals S ts → S (app f ts) → Factor S (app f ts)
+    node : {f : ℕ} {ts : Terms} → f ≢ oneTag → f ≢ invTag → f ≢ mulTag → Canonicals S ts → S (app f ts) → Factor S (app f ts)
 
   pub data Canonicals (S : Term → Type 0) : Terms → Type 0 where
     noArg : Canonicals S nil

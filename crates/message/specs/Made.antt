@@ -4,6 +4,7 @@ use mathlib.Core.Path.{_≡_, refl, sym, _∙_, ap}
 use mathlib.Core.Logic.{_≢_}
 use mathlib.Core.Option.{Option, some}
 use lib.ListN.{length}
+use Rattle.term.specs.Tags.{oneTag, decTag, fstTag, sndTag, expTag, invTag, mulTag}
 use Rattle.term.specs.Term.{Term, app, Terms, nil, _&_, Formed, encode, symbols}
 use Rattle.message.specs.Functions.{enc, dec, pair, fst, snd}
 use Rattle.message.specs.Substitution.{sub, subs}
@@ -40,49 +41,49 @@ module _ (ar : ℕ → Option ℕ) (g : FitArities ar) where
             absurd (h θ (m ∙ ap (λ (z : Rule). subs θ (z .args)) (sym p)))
 
   -- ── dec, fst and snd ──
-  pub made-dec : (m k : Term) → mk rules 5 (enc m k & k & nil) ≡ m
-  made-dec m k = made-rule 5 (record { args = enc x y & y & nil; result = x }) refl (values m k)
+  pub made-dec : (m k : Term) → mk rules decTag (enc m k & k & nil) ≡ m
+  made-dec m k = made-rule decTag (record { args = enc x y & y & nil; result = x }) refl (values m k)
 
   -- the key is another, or it is no ciphertext
-  pub made-dec-stays : (c k : Term) → ((m : Term) → c ≢ enc m k) → mk rules 5 (c & k & nil) ≡ dec c k
+  pub made-dec-stays : (c k : Term) → ((m : Term) → c ≢ enc m k) → mk rules decTag (c & k & nil) ≡ dec c k
   made-dec-stays c k h =
-      made-stays 5 (record { args = enc x y & y & nil; result = x }) refl (c & k & nil)
+      made-stays decTag (record { args = enc x y & y & nil; result = x }) refl (c & k & nil)
       (λ θ e. let p : c ≡ enc (θ 0) (θ 1) = cc in let q : k ≡ θ 1 = cc in h (θ 0) (p ∙ ap (enc (θ 0)) (sym q)))
 
-  pub made-fst : (a b : Term) → mk rules 8 (pair a b & nil) ≡ a
-  made-fst a b = made-rule 8 (record { args = pair x y & nil; result = x }) refl (values a b)
+  pub made-fst : (a b : Term) → mk rules fstTag (pair a b & nil) ≡ a
+  made-fst a b = made-rule fstTag (record { args = pair x y & nil; result = x }) refl (values a b)
 
-  pub made-fst-stays : (c : Term) → ((a b : Term) → c ≢ pair a b) → mk rules 8 (c & nil) ≡ fst c
+  pub made-fst-stays : (c : Term) → ((a b : Term) → c ≢ pair a b) → mk rules fstTag (c & nil) ≡ fst c
   made-fst-stays c h =
-      made-stays 8 (record { args = pair x y & nil; result = x }) refl (c & nil) (λ θ e. h (θ 0) (θ 1) (cc))
+      made-stays fstTag (record { args = pair x y & nil; result = x }) refl (c & nil) (λ θ e. h (θ 0) (θ 1) (cc))
 
-  pub made-snd : (a b : Term) → mk rules 9 (pair a b & nil) ≡ b
-  made-snd a b = made-rule 9 (record { args = pair x y & nil; result = y }) refl (values a b)
+  pub made-snd : (a b : Term) → mk rules sndTag (pair a b & nil) ≡ b
+  made-snd a b = made-rule sndTag (record { args = pair x y & nil; result = y }) refl (values a b)
 
-  pub made-snd-stays : (c : Term) → ((a b : Term) → c ≢ pair a b) → mk rules 9 (c & nil) ≡ snd c
+  pub made-snd-stays : (c : Term) → ((a b : Term) → c ≢ pair a b) → mk rules sndTag (c & nil) ≡ snd c
   made-snd-stays c h =
-      made-stays 9 (record { args = pair x y & nil; result = y }) refl (c & nil) (λ θ e. h (θ 0) (θ 1) (cc))
+      made-stays sndTag (record { args = pair x y & nil; result = y }) refl (c & nil) (λ θ e. h (θ 0) (θ 1) (cc))
 
   -- ── a function without a rule, of any arity ──
-  pub made-free : (f : ℕ) (ts : Terms) → Ordinary f → f ≢ 5 → f ≢ 8 → f ≢ 9 → mk rules f ts ≡ app f ts
+  pub made-free : (f : ℕ) (ts : Terms) → Ordinary f → f ≢ decTag → f ≢ fstTag → f ≢ sndTag → mk rules f ts ≡ app f ts
   unfolding mk
   made-free f ts o a b c =
       ap (λ (k : Role). mkAt rules k f ts) (ordinary-role f o) ∙ ap (λ (z : Option Rule). reduceAt z f ts) (no-rule f a b c)
 
   -- ── products and exp, as gathered ──
-  pub made-one : (ts : Terms) → Formed ar (app 3 ts) → mk rules 3 ts ≡ multiplied (app 3 ts & nil)
+  pub made-one : (ts : Terms) → Formed ar (app oneTag ts) → mk rules oneTag ts ≡ multiplied (app oneTag ts & nil)
   unfolding mk
-  made-one ts w = sym (same-term (theory ar g) (app 3 ts) w)
+  made-one ts w = sym (same-term (theory ar g) (app oneTag ts) w)
 
-  pub made-inv : (ts : Terms) → Formed ar (app 11 ts) → mk rules 11 ts ≡ multiplied (app 11 ts & nil)
+  pub made-inv : (ts : Terms) → Formed ar (app invTag ts) → mk rules invTag ts ≡ multiplied (app invTag ts & nil)
   unfolding mk
-  made-inv ts w = sym (same-term (theory ar g) (app 11 ts) w)
+  made-inv ts w = sym (same-term (theory ar g) (app invTag ts) w)
 
-  pub made-mul : (ts : Terms) → Formed ar (app 12 ts) → mk rules 12 ts ≡ multiplied (app 12 ts & nil)
+  pub made-mul : (ts : Terms) → Formed ar (app mulTag ts) → mk rules mulTag ts ≡ multiplied (app mulTag ts & nil)
   unfolding mk
-  made-mul ts w = sym (same-term (theory ar g) (app 12 ts) w)
+  made-mul ts w = sym (same-term (theory ar g) (app mulTag ts) w)
 
-  pub made-exp : (a b : Term) → Formed ar a → Formed ar b → mk rules 10 (a & b & nil) ≡ raised (as2 10 a) a b
+  pub made-exp : (a b : Term) → Formed ar a → Formed ar b → mk rules expTag (a & b & nil) ≡ raised (as2 expTag a) a b
   unfolding mk
   made-exp a b w v = sym (same-exp (theory ar g) a b w v)
 

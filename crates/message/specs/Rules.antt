@@ -4,6 +4,7 @@ use Prim.Native.Nat.{ℕ, _≤_}
 use mathlib.Core.Path.{_≡_}
 use mathlib.Core.Logic.{_≢_}
 use mathlib.Core.Option.{Option, some}
+use Rattle.term.specs.Tags.{oneTag, expTag, invTag, mulTag}
 use Rattle.term.specs.Term.{variable, Term, leaf, app, Terms, nil, _&_, Formed, Formeds}
 use Rattle.message.specs.Functions.{one, exp, inv, mul}
 use Rattle.message.specs.Equations.{Congruence, Congruences}
@@ -17,10 +18,10 @@ pub record Rule : Type 0 where
 
 -- not one, exp, inv or mul
 pub record Ordinary (f : ℕ) : Type 0 where
-  pub no-one : f ≢ 3
-  pub no-exp : f ≢ 10
-  pub no-inv : f ≢ 11
-  pub no-mul : f ≢ 12
+  pub no-one : f ≢ oneTag
+  pub no-exp : f ≢ expTag
+  pub no-inv : f ≢ invTag
+  pub no-mul : f ≢ mulTag
 
 -- made of functions that have no rule
 abbrev mutual
@@ -48,10 +49,10 @@ pub record FitRule (ar : ℕ → Option ℕ) (rule : ℕ → Option Rule) (f : �
 -- a function is no leaf, and the functions that the proofs know by their tags have their arities
 pub record FitArities (ar : ℕ → Option ℕ) : Type 0 where
   pub no-leaf : (f n : ℕ) → ar f ≡ some n → 3 ≤ f
-  pub one-arity : ar 3 ≡ some 0
-  pub exp-arity : ar 10 ≡ some 2
-  pub inv-arity : ar 11 ≡ some 1
-  pub mul-arity : ar 12 ≡ some 2
+  pub one-arity : ar oneTag ≡ some 0
+  pub exp-arity : ar expTag ≡ some 2
+  pub inv-arity : ar invTag ≡ some 1
+  pub mul-arity : ar mulTag ≡ some 2
 
 -- ── a table of arities and rules, and its equations ──
 pub record Theory : Type 0 where

@@ -2,6 +2,7 @@
 use Prim.Native.Nat.{ℕ}
 use mathlib.Core.Option.{Option, some}
 use lib.Dec.{eqb}
+use Rattle.term.specs.Tags.{decTag, fstTag, sndTag}
 use Rattle.lists.specs.Choice.{pick}
 use Rattle.term.specs.Term.{variable, Term, leaf, Terms, nil, _&_}
 use Rattle.message.specs.Functions.{enc, pair}
@@ -28,9 +29,9 @@ y = leaf variable 1
 -- dec(enc(x,y),y) = x; fst(pair(x,y)) = x; snd(pair(x,y)) = y
 abbrev pub figure : Table
 figure =
-    row 5 (enc x y & y & nil) x
-    (row 8 (pair x y & nil) x
-    (row 9 (pair x y & nil) y
+    row decTag (enc x y & y & nil) x
+    (row fstTag (pair x y & nil) x
+    (row sndTag (pair x y & nil) y
     end))
 
 abbrev pub rules : ℕ → Option Rule

@@ -7,10 +7,14 @@ use lib.Dec.{ltb}
 -- their laws
 pub mod Laws
 
+-- "groups of seven bits"
+abbrev pub base : ℕ
+base = 128
+
 -- the groups of n, of which there are at most `b` behind the first
 unfoldable pub groupsIn : ℕ → ℕ → List ℕ
 groupsIn zero n = n ∷ []
-groupsIn (suc b) n = elim (ltb n 128) [ true ↦ n ∷ [] | false ↦ (128 + n % 128) ∷ groupsIn b (n / 128) ]
+groupsIn (suc b) n = elim (ltb n base) [ true ↦ n ∷ [] | false ↦ (base + n % base) ∷ groupsIn b (n / base) ]
 
 -- the groups of every number, however large: n has fewer than n behind the first
 unfoldable pub groups : ℕ → List ℕ
@@ -20,6 +24,10 @@ groups n = groupsIn n n
 abbrev pub mostGroups : ℕ
 mostGroups = 3
 
+-- as many groups as the code has room to read
+abbrev pub roomGroups : ℕ
+roomGroups = 4
+
 -- the numbers that a file can hold are below this
 unfoldable pub numberLimit : ℕ
-numberLimit = 128 ^ mostGroups
+numberLimit = base ^ mostGroups

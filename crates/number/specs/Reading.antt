@@ -6,7 +6,7 @@ use mathlib.Core.Bool.{Bool}
 use lib.ListN.{length, getD}
 use lib.Dec.{ltb, eqb}
 use Rattle.lists.specs.Choice.{pick}
-use Rattle.number.specs.Groups.{mostGroups}
+use Rattle.number.specs.Groups.{base, mostGroups}
 use Rattle.number.specs.declared.Number.{Number}
 use Rattle.number.specs.declared.Number.the-variants as num
 use Rattle.number.specs.declared.Seen.{Seen}
@@ -29,7 +29,7 @@ module _ {A B : Type 0} where
 
 -- a group that another follows: its seven bits, and then the rest, which is not zero in the shortest form
 abbrev pub longer : ℕ → Read ℕ → Read ℕ
-longer b (got v e) = pick (eqb v 0) fault (got (b - 128 + 128 * v) e)
+longer b (got v e) = pick (eqb v 0) fault (got (b - base + base * v) e)
 longer b fault = fault
 
 -- a number of at most k groups
@@ -37,7 +37,7 @@ unfoldable pub readIn : ℕ → List ℕ → ℕ → Read ℕ
 readIn zero s at = fault
 readIn (suc k) s at =
     pick (ltb at (length s))
-    (pick (ltb (getD s at 0) 128) (got (getD s at 0) (at + 1)) (longer (getD s at 0) (readIn k s (at + 1))))
+    (pick (ltb (getD s at 0) base) (got (getD s at 0) (at + 1)) (longer (getD s at 0) (readIn k s (at + 1))))
     fault
 
 -- a number

@@ -1,15 +1,22 @@
 // Numbers in the files: groups of seven bits, lowest first.
 ghost use mathlib.Core.Path.{_≡_};
-ghost use Prim.Native.Nat.{_+_, _^_, _≤_, _<_};
+ghost use Prim.Native.Nat.{_+_, _-_, _^_, _≤_, _<_};
 ghost use lib.ListN.{length};
 ghost use Rattle.octets.specs.Splice.{splice};
-ghost use Rattle.number.specs.Groups.{groups};
+ghost use Rattle.number.specs.Groups.{groups, base, roomGroups};
 ghost use Rattle.number.specs.Reading.{readIn, readNumber, below, asRead, longer, got};
 
-// "three groups at most": the one figure of the code, and the limit that follows from it: 128 to that power.
+// "groups of seven bits": a group that another follows is from BASE on.
+const BITS: usize = 7;
+
+const BASE: u32 = 1 << BITS;
+
+const TOP_BIT: u8 = 1 << BITS;
+
+// "three groups at most", and the limit that follows.
 const MOST_GROUPS: usize = 3;
 
-pub const NUMBER_LIMIT: usize = 2097152;
+pub const NUMBER_LIMIT: usize = 1 << (BITS * MOST_GROUPS);
 
 // What stands at a place: a number and the place behind it, or no number.
 pub enum Number {
@@ -25,18 +32,18 @@ pub enum Seen {
 
 // A group that another follows, and the rest of the number behind it.
 fn longer(b: u8, v: u32, e: usize) -> Number
-    requires { ⌜ (128 ≤ b) × (v < 128 ^ 3) ⌝ }
+    requires { ⌜ (base ≤ b) × (v < base ^ (roomGroups - 1)) ⌝ }
     ensures { λ r. ⌜ asRead r ≡ longer b (got v e) ⌝ }
 {
     if v == 0 {
         return Number::Fault;
     }
-    Number::Value((b - 128) as u32 + 128 * v, e)
+    Number::Value((b - TOP_BIT) as u32 + BASE * v, e)
 }
 
 // A number of at most `left` groups.
 fn read_groups(s: &[u8], at: usize, left: usize) -> Number
-    requires { ⌜ left ≤ 4 ⌝ }
+    requires { ⌜ left ≤ roomGroups ⌝ }
     ensures { λ r. ⌜ asRead r ≡ readIn left (now (s .entry)) at ⌝ }
 {
     if left == 0 {
@@ -46,7 +53,7 @@ fn read_groups(s: &[u8], at: usize, left: usize) -> Number
         return Number::Fault;
     }
     let b = s[at];
-    if b < 128 {
+    if b < TOP_BIT {
         return Number::Value(b as u32, at + 1);
     }
     match read_groups(s, at + 1, left - 1) {
@@ -64,7 +71,7 @@ pub fn read_number(s: &[u8], at: usize) -> Number
         return Number::Fault;
     }
     let b = s[at];
-    if b < 128 {
+    if b < TOP_BIT {
         return Number::Value(b as u32, at + 1);
     }
     read_groups(s, at, MOST_GROUPS)
@@ -91,8 +98,8 @@ pub fn number_len(n: u32) -> usize
 {
     let mut rest = n;
     let mut len: usize = 1;
-    while 128 <= rest {
-        rest = rest / 128;
+    while BASE <= rest {
+        rest = rest / BASE;
         len += 1;
     }
     len
@@ -106,9 +113,9 @@ pub fn write_number(out: &mut [u8], at: usize, n: u32) -> usize
 {
     let mut rest = n;
     let mut i = at;
-    while 128 <= rest {
-        out[i] = (128 + rest % 128) as u8;
-        rest = rest / 128;
+    while BASE <= rest {
+        out[i] = (BASE + rest % BASE) as u8;
+        rest = rest / BASE;
         i += 1;
     }
     out[i] = rest as u8;

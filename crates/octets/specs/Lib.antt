@@ -8,3 +8,5 @@ pub mod Splice
 pub mod Compare
 -- a list of zeros
 pub mod Zeros
+-- how long a slice may be
+pub mod Limits

@@ -4,6 +4,7 @@ use mathlib.Core.Path.{_≡_, refl, sym, ap, subst, _∙_}
 use mathlib.Core.List.{List, _++_}
 use native.Mathlib.Omega.{arith}
 use lib.ListN.{length, drop, getD, length-append}
+use Rattle.term.specs.Tags.{expTag}
 use Rattle.lists.specs.Asks.{Asks₂, Promises₂}
 use Rattle.octets.specs.Head.{head-at}
 use Rattle.octets.specs.Splice.Prefix.{Wrote}
@@ -30,7 +31,7 @@ module _ (slots out : List ℕ) (o e : ℕ) where
     args : Args slots out o e x y
     args = args-two x y (one slots out o e (exp x y) R)
 
-    tag : getD out o 0 ≡ 10
+    tag : getD out o 0 ≡ expTag
     tag = head-at out o 10 _ (R .stands .there ∙ ap (λ (l : List ℕ). l ++ drop e out) (encode-two 10 (omega arith) x y)) .here
 
   pub raise-inside : Asks₂ (WholePower slots out o e) → o + 1 < length out
@@ -42,7 +43,7 @@ module _ (slots out : List ℕ) (o e : ℕ) where
   power :
       (x y : Term) (R : Whole slots out o e (exp x y)) (b z k : ℕ) (t : Term) (ts : Terms) → o < b → OneAt slots out b z t → Laid slots out z ts
       → count ts ≡ k → z + length (encodes ts) ≡ e → symbolss ts ≤ symbols (exp x y)
-      → raised (as2 10 x) x y ≡ powered t ts → Power slots out o b z k t ts
+      → raised (as2 expTag x) x y ≡ powered t ts → Power slots out o b z k t ts
   power x y R b z k t ts h O L c q f s = record {
     tag = tag x y R;
     before = h;
@@ -64,10 +65,10 @@ module _ (slots out : List ℕ) (o e : ℕ) where
   powered-raised :
       (x y : Term) (b z k : ℕ) (t : Term) (ts : Terms) (out′ : List ℕ) (r : ℕ) → Promises₂ (Power slots out o b z k)
       (λ (t : Term) (ts : Terms). Wrote (z + length (encodes ts)) out o out′ r (encode (powered t ts)))
-      → Power slots out o b z k t ts → z + length (encodes ts) ≡ e → raised (as2 10 x) x y ≡ powered t ts
-      → Wrote e out o out′ r (encode (raised (as2 10 x) x y))
+      → Power slots out o b z k t ts → z + length (encodes ts) ≡ e → raised (as2 expTag x) x y ≡ powered t ts
+      → Wrote e out o out′ r (encode (raised (as2 expTag x) x y))
   powered-raised x y b z k t ts out′ r D P q s =
-      subst (λ (j : ℕ). Wrote j out o out′ r (encode (raised (as2 10 x) x y))) q (wrote-same (ap encode (sym s)) (D t ts P))
+      subst (λ (j : ℕ). Wrote j out o out′ r (encode (raised (as2 expTag x) x y))) q (wrote-same (ap encode (sym s)) (D t ts P))
 
   -- ── the base is an exp ──
   module _ (b : ℕ) (w : baseOf (symbolAt out slots (o + 1)) ≡ base.Power b) where
@@ -104,9 +105,9 @@ module _ (slots out : List ℕ) (o e : ℕ) where
               length-append (encode y) (encodes nil),
             )
 
-        same : raised (as2 10 x) x y ≡ powered (I .x) (I .y & y & nil)
+        same : raised (as2 expTag x) x y ≡ powered (I .x) (I .y & y & nil)
         unfolding raised
-        same = ap (λ (u : Term). raised (as2 10 u) u y) (I .is)
+        same = ap (λ (u : Term). raised (as2 expTag u) u y) (I .is)
 
         inner-power : Power slots out o b z 2 (I .x) (I .y & y & nil)
         inner-power =
@@ -118,7 +119,7 @@ module _ (slots out : List ℕ) (o e : ℕ) where
 
       pub inner-raised : (out′ : List ℕ) (r : ℕ) → Promises₂ (Power slots out o b z 2)
           (λ (t : Term) (ts : Terms). Wrote (z + length (encodes ts)) out o out′ r (encode (powered t ts))) → Promises₂ (WholePower slots out o e)
-          (λ (x y : Term). Wrote e out o out′ r (encode (raised (as2 10 x) x y)))
+          (λ (x y : Term). Wrote e out o out′ r (encode (raised (as2 expTag x) x y)))
       inner-raised out′ r D x y R =
           powered-raised x y b z 2 _ _ out′ r D (inner-power x y R) (inner-end x y R) (same x y R)
 
@@ -138,7 +139,7 @@ module _ (slots out : List ℕ) (o e : ℕ) where
         to-e : z + length (encodes (y & nil)) ≡ e
         to-e = omega (arith, y-at, A .second .there .ends, length-append (encode y) (encodes nil))
 
-        plain : raised (as2 10 x) x y ≡ powered x (y & nil)
+        plain : raised (as2 expTag x) x y ≡ powered x (y & nil)
         unfolding raised
         plain = ap (λ (u : Two). raised u x y) (base-plain (R .group) x (A .first) w)
 
@@ -152,6 +153,6 @@ module _ (slots out : List ℕ) (o e : ℕ) where
 
       pub outer-raised : (out′ : List ℕ) (r : ℕ) → Promises₂ (Power slots out o (o + 1) z 1)
           (λ (t : Term) (ts : Terms). Wrote (z + length (encodes ts)) out o out′ r (encode (powered t ts))) → Promises₂ (WholePower slots out o e)
-          (λ (x y : Term). Wrote e out o out′ r (encode (raised (as2 10 x) x y)))
+          (λ (x y : Term). Wrote e out o out′ r (encode (raised (as2 expTag x) x y)))
       outer-raised out′ r D x y R =
           powered-raised x y (o + 1) z 1 _ _ out′ r D (outer-power x y R) (to-e x y R) (plain x y R)

@@ -11,6 +11,8 @@ use borrow.Author.Tests.{lt-ltb, le-ltb}
 use borrow.Rule.Slice.PartMut.{putMid, same-len-mid}
 use mir.Syntax.{w32}
 use mir.Val.{toZ, ofZ}
+use Rattle.term.specs.Sizes.{mostSymbols}
+use Rattle.term.specs.Tags.{invTag, mulTag}
 use Rattle.lists.specs.Asks.{Asks, Promises}
 use Rattle.octets.specs.Head.{stands-part, stands-within}
 use Rattle.octets.specs.Splice.Prefix.{Wrote, wrote-nothing, wrote-then, wrote-lent, lent-length}
@@ -22,7 +24,6 @@ use Rattle.factors.specs.Mass.{size}
 use Rattle.factors.specs.Mass.Laws.{size-mass}
 use Rattle.factors.specs.Rows.{Rows}
 use Rattle.factors.specs.Rows.Laws.{rows-abs}
-use Rattle.factors.specs.Contracts.{most}
 use Rattle.product.specs.Writing.{wrote-same, tagged}
 use Rattle.product.specs.Chain.{copies, row, sides}
 use Rattle.product.specs.Chain.Laws.{row-times, sides-up, sides-down, sides-both}
@@ -46,7 +47,7 @@ module _ (s S E : List ℕ) (P : List ℤ) (n : ℕ) where
   held l X =
       let T = X .table in
       let R = X .room in
-      let q : n ≤ most = omega (arith, size-mass l, T .many, X .few) in
+      let q : n ≤ mostSymbols = omega (arith, size-mass l, T .many, X .few) in
       record {
         starts = omega (arith, R .starts);
         ends = omega (arith, R .ends);
@@ -226,17 +227,18 @@ module _ (s S E : List ℕ) (P : List ℤ) (n : ℕ) where
           down-asks J = (J .0, down-lay (J .0) (J .1))
 
           pub down-wrote : (out′ : List ℕ) (r : ℕ) → Promises (Lay s S E P n true (0 + 1) (length out))
-              (λ (l : Exps). Wrote (length out) out 0 out′ r (11 ∷ row (side true l))) → Promises (Both s S E P n (length out))
+              (λ (l : Exps). Wrote (length out) out 0 out′ r (invTag ∷ row (side true l))) → Promises (Both s S E P n (length out))
               (λ (l : Exps). Wrote (length out) out 0 out′ r (sides (side false l) (side true l)))
           down-wrote out′ r D l B = wrote-same (sym (downs l B)) (D l (down-lay l B))
 
         -- both
         module _ (g : u < n) where
-          boths : (l : Exps) → Both s S E P n (length out) l → sides (side false l) (side true l) ≡ (12 ∷ row (side false l)) ++ (11 ∷ row (side true l))
+          boths : (l : Exps) → Both s S E P n (length out) l → sides (side false l) (side true l) ≡ (mulTag ∷ row (side false l)) ++
+              (invTag ∷ row (side true l))
           boths l B = sides-both (side false l) (side true l) (sym (on-side false u M l B) ∙ lt-ltb u n g) (sym (on-side true d N l B) ∙ lt-ltb d n h)
 
           fits : (l : Exps) → Both s S E P n (length out) l → 2 + length (row (side false l)) + length (row (side true l)) ≤ length out
-          fits l B = omega (arith, B .fits, ap length (boths l B), length-append (12 ∷ row (side false l)) (11 ∷ row (side true l)))
+          fits l B = omega (arith, B .fits, ap length (boths l B), length-append (mulTag ∷ row (side false l)) (invTag ∷ row (side true l)))
 
           first-lay : (l : Exps) → Both s S E P n (length out) l → Lay s S E P n false 1 (length out) l
           first-lay l B = lay false 1 (length out) l B (omega (arith, fits l B))
@@ -245,7 +247,7 @@ module _ (s S E : List ℕ) (P : List ℤ) (n : ℕ) where
           first-asks J = (J .0, first-lay (J .0) (J .1))
 
           module _ (out₁ : List ℕ) (i : ℕ) (D : Promises (Lay s S E P n false (0 + 1) (length out))
-              (λ (l : Exps). Wrote (length out) out 0 out₁ i (12 ∷ row (side false l)))) (el : length out₁ ≡ length out) where
+              (λ (l : Exps). Wrote (length out) out 0 out₁ i (mulTag ∷ row (side false l)))) (el : length out₁ ≡ length out) where
             second-lay : (l : Exps) → Both s S E P n (length out) l → Lay s S E P n true (i + 1) (length out₁) l
             second-lay l B = lay true (i + 1) (length out₁) l B (omega (arith, fits l B, D l (first-lay l B) .ends, el))
 
@@ -253,9 +255,9 @@ module _ (s S E : List ℕ) (P : List ℤ) (n : ℕ) where
             second-asks J = (J .0, second-lay (J .0) (J .1))
 
             pub second-wrote : (out₂ : List ℕ) (r : ℕ) → Promises (Lay s S E P n true (i + 1) (length out₁))
-                (λ (l : Exps). Wrote (length out₁) out₁ i out₂ r (11 ∷ row (side true l))) → Promises (Both s S E P n (length out))
+                (λ (l : Exps). Wrote (length out₁) out₁ i out₂ r (invTag ∷ row (side true l))) → Promises (Both s S E P n (length out))
                 (λ (l : Exps). Wrote (length out) out 0 out₂ r (sides (side false l) (side true l)))
             second-wrote out₂ r D₂ l B =
                 wrote-same (sym (boths l B))
                 (wrote-then (D l (first-lay l B))
-                (subst (λ (j : ℕ). Wrote j out₁ i out₂ r (11 ∷ row (side true l))) el (D₂ l (second-lay l B))))
+                (subst (λ (j : ℕ). Wrote j out₁ i out₂ r (invTag ∷ row (side true l))) el (D₂ l (second-lay l B))))

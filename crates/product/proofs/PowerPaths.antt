@@ -4,6 +4,7 @@ use mathlib.Core.Path.{_≡_, refl, sym, ap, subst, _∙_}
 use mathlib.Core.List.{List, _∷_, _++_}
 use native.Mathlib.Omega.{arith}
 use lib.ListN.{length, take, drop, length-append, length-drop}
+use Rattle.term.specs.Sizes.{termRoom}
 use Rattle.lists.specs.Asks.{Asks, Asks₂, Promises, Promises₂}
 use Rattle.octets.specs.Head.{Bytes, stands-part}
 use Rattle.octets.specs.Splice.{splice}
@@ -16,7 +17,6 @@ use Rattle.factors.specs.Laid.Laws.{one-after, one-within, one-bytes}
 use Rattle.product.specs.Writing.{wrote-same, copied, stands-before, front, front-long}
 use Rattle.product.specs.Chain.{written}
 use Rattle.product.specs.Chain.Laws.{encode-two, written-none, written-some}
-use Rattle.product.specs.Contracts.{scratch}
 use Rattle.product.specs.Inner.{Prod, Power, Behind}
 
 -- ── behind ──
@@ -38,14 +38,14 @@ module _ (slots out : List ℕ) (o b z k : ℕ) where
         ∙ ap length (encode-two 10 (omega arith) t (multiplied ts))
         ∙ omega (arith, length-append (encode t) (encode (multiplied ts)), ap length (S .bytes))
 
-    fits : length (written ts) ≤ scratch
+    fits : length (written ts) ≤ termRoom
     fits = go (length (written ts)) refl
       where
-        go : (n : ℕ) → length (written ts) ≡ n → n ≤ scratch
+        go : (n : ℕ) → length (written ts) ≡ n → n ≤ termRoom
         go zero e = omega arith
         go (suc n) e = omega (arith, long (λ h. absurd (omega arith)), P .fits, P .small)
 
-    prod : Prod slots out z k scratch ts
+    prod : Prod slots out z k termRoom ts
     prod = record {
       laid = P .factors;
       many = P .many;
@@ -61,7 +61,7 @@ module _ (slots out : List ℕ) (o b z k : ℕ) where
     base-long : z - b ≡ length (encode t)
     base-long = omega (arith, P .base .there .ends)
 
-  pub power-asks : Asks₂ (Power slots out o b z k) → Asks (Prod slots out z k scratch)
+  pub power-asks : Asks₂ (Power slots out o b z k) → Asks (Prod slots out z k termRoom)
   power-asks J = (_, prod (J .0) (J .1) (J .2))
 
   -- the base is moved to o, or behind the tag
@@ -70,7 +70,7 @@ module _ (slots out : List ℕ) (o b z k : ℕ) where
       let P = J .2 in
       (omega (arith, one-after (P .base), one-within (P .base)), omega (arith, P .before, one-after (P .base), one-within (P .base)))
 
-  module _ (tmp : List ℕ) (lt : length tmp ≡ scratch) (tmp′ : List ℕ) (n : ℕ) (D : Promises (Prod slots out z k (length tmp))
+  module _ (tmp : List ℕ) (lt : length tmp ≡ termRoom) (tmp′ : List ℕ) (n : ℕ) (D : Promises (Prod slots out z k (length tmp))
       (λ (ts : Terms). Wrote (length tmp) tmp 0 tmp′ n (written ts))) where
     wrote : (t : Term) (ts : Terms) (P : Power slots out o b z k t ts) → Wrote (length tmp) tmp 0 tmp′ n (written ts)
     wrote t ts P = D ts (subst (λ (j : ℕ). Prod slots out z k j ts) (sym lt) (prod t ts P))

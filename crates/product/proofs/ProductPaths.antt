@@ -6,6 +6,7 @@ use mathlib.Core.List.{List}
 use native.Mathlib.Omega.{arith}
 use lib.ListN.{length, take, set}
 use lib.IntN.{ℤ}
+use Rattle.term.specs.Sizes.{termRoom}
 use Rattle.lists.specs.Asks.{Asks, Asks₂, Promises, Promises₂}
 use Rattle.octets.specs.Splice.{splice}
 use Rattle.octets.specs.Splice.Prefix.{Wrote, wrote-one}
@@ -26,7 +27,7 @@ use Rattle.product.specs.Chain.Laws.{written-none, written-some, written
 use Rattle.product.specs.Side.{side}
 use Rattle.product.specs.Side.Laws.{side-ups, side-downs}
 use Rattle.product.specs.Length.{product-short}
-use Rattle.product.specs.Contracts.{scratch, Whole}
+use Rattle.product.specs.Contracts.{Whole}
 use Rattle.product.specs.Inner.{Both, Prod}
 
 -- ── write_product ──
@@ -81,7 +82,7 @@ module _ (slots out : List ℕ) (o e : ℕ) where
     short : length (encode (multiplied (t & nil))) ≤ length (encode t)
     short = product-short (arity slots) (M .group) t (M .formed)
 
-    prod : Prod slots out o 1 scratch (t & nil)
+    prod : Prod slots out o 1 termRoom (t & nil)
     prod = record {
       laid = laid-one one;
       many = refl;
@@ -91,13 +92,13 @@ module _ (slots out : List ℕ) (o e : ℕ) where
       fits = omega (arith, written-short (t & nil), short, M .small);
     }
 
-  pub multiply-asks : Asks (Whole slots out o e) → Asks (Prod slots out o 1 scratch)
+  pub multiply-asks : Asks (Whole slots out o e) → Asks (Prod slots out o 1 termRoom)
   multiply-asks J = (_, prod (J .0) (J .1))
 
   pub multiply-inside : Asks (Whole slots out o e) → o < length out
   multiply-inside J = let O = one (J .0) (J .1) in omega (arith, one-after O, one-within O)
 
-  module _ (tmp : List ℕ) (lt : length tmp ≡ scratch) (tmp′ : List ℕ) (n : ℕ) (D : Promises (Prod slots out o 1 (length tmp))
+  module _ (tmp : List ℕ) (lt : length tmp ≡ termRoom) (tmp′ : List ℕ) (n : ℕ) (D : Promises (Prod slots out o 1 (length tmp))
       (λ (ts : Terms). Wrote (length tmp) tmp 0 tmp′ n (written ts))) where
     wrote : (t : Term) (M : Whole slots out o e t) → Wrote (length tmp) tmp 0 tmp′ n (written (t & nil))
     wrote t M = D (t & nil) (subst (λ (j : ℕ). Prod slots out o 1 j (t & nil)) (sym lt) (prod t M))

@@ -14,7 +14,7 @@ use mir.Val.{Fits, SFits, toZ, ofZ}
 use borrow.Author.Tests.{ltb-true, ltb-false}
 use Rattle.lists.specs.Choice.{clash}
 use Rattle.factors.specs.Whole.{back, small-fits}
-use Rattle.product.specs.Side.{rise, Next, Small}
+use Rattle.product.specs.Side.{signedLimit, rise, Next, Small}
 
 -- ── rises ──
 neg-abs : (k : ℤ) → natAbs (negℤ k) ≡ natAbs k
@@ -31,7 +31,7 @@ up-yes (pos zero) h = clash (cc)
 up-yes (pos (suc n)) h = (n, refl)
 up-yes (negsuc n) h = clash (cc)
 
-module _ (p : ℤ) (h : natAbs p < 2147483647) where
+module _ (p : ℤ) (h : natAbs p < signedLimit) where
   p-back : toZ w32 (ofZ w32 p) ≡ p
   p-back = back p (omega arith)
 
@@ -95,7 +95,7 @@ module _ (P : List ℤ) (i n : ℕ) (m : Bool) (pre : (i ≤ n) × (n ≤ length
     at-back : toZ w32 (ofZ w32 (getD P j (pos 0))) ≡ getD P j (pos 0)
     at-back = back _ (omega (arith, pre .2 j l))
 
-    pub rises-asks : natAbs (toZ w32 (ofZ w32 (getD P j (pos 0)))) < 2147483647
+    pub rises-asks : natAbs (toZ w32 (ofZ w32 (getD P j (pos 0)))) < signedLimit
     rises-asks = rw at-back (pre .2 j l)
 
     module _ (c : ℕ) (e : c ≡ rise m (toZ w32 (ofZ w32 (getD P j (pos 0))))) where

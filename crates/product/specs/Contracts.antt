@@ -1,19 +1,16 @@
 -- What `multiply` and `exponent` are asked.
-use Prim.Native.Nat.{ℕ, _^_, _≤_}
+use Prim.Native.Nat.{ℕ, _≤_}
 use mathlib.Core.List.{List}
 use lib.ListN.{length}
+use Rattle.octets.specs.Limits.{longest}
+use Rattle.term.specs.Sizes.{mostSymbols, termRoom}
 use Rattle.octets.specs.Head.{Stands}
 use Rattle.term.specs.Term.{Term, encode, symbols, Formed, InRange}
 use Rattle.term.specs.Arity.{arity}
 use Rattle.message.specs.Functions.{exp}
 use Rattle.message.specs.Rules.{FitArities}
-use Rattle.factors.specs.Contracts.{most}
 -- a term that was written may be handed over, and what becomes of it is written in its place
 pub mod Laws
-
--- the bytes of scratch: no term that is asked of is longer
-abbrev pub scratch : ℕ
-scratch = 1280
 
 -- the term t stands in out from o up to e; the built-in functions have their arities
 pub record Whole (slots out : List ℕ) (o e : ℕ) (t : Term) : Type 0 where
@@ -21,9 +18,9 @@ pub record Whole (slots out : List ℕ) (o e : ℕ) (t : Term) : Type 0 where
   pub formed : Formed (arity slots) t
   pub range : InRange t
   pub stands : Stands out o (encode t) e
-  pub few : symbols t ≤ most
-  pub small : length (encode t) ≤ scratch
-  pub short : length out ≤ 2 ^ 32
+  pub few : symbols t ≤ mostSymbols
+  pub small : length (encode t) ≤ termRoom
+  pub short : length out ≤ longest
 
 -- the same of exp(x, y)
 abbrev pub WholePower : List ℕ → List ℕ → ℕ → ℕ → Term → Term → Type 0

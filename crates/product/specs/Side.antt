@@ -1,5 +1,5 @@
 -- The factors on one side: of positive exponent, or (true) of negative. "exponent zero drops out": a factor of exponent zero is on neither.
-use Prim.Native.Nat.{ℕ, suc, _≤_, _<_}
+use Prim.Native.Nat.{ℕ, suc, _-_, _^_, _≤_, _<_}
 use mathlib.Core.Path.{_≡_}
 use mathlib.Core.Bool.{Bool, true, false}
 use mathlib.Core.List.{List}
@@ -29,5 +29,9 @@ pub record Next (P : List ℤ) (i n : ℕ) (m : Bool) (r : ℕ) : Type 0 where
   pub none : (j : ℕ) → i ≤ j → j < r → rise m (getD P j (pos 0)) ≡ 0
   pub here : r < n → 0 < rise m (getD P r (pos 0))
 
+-- below it a whole number in 32 bits can turn its sign
+abbrev pub signedLimit : ℕ
+signedLimit = 2 ^ 31 - 1
+
 abbrev pub Small : List ℤ → ℕ → Type 0
-Small P n = (j : ℕ) → j < n → natAbs (getD P j (pos 0)) < 2147483647
+Small P n = (j : ℕ) → j < n → natAbs (getD P j (pos 0)) < signedLimit

@@ -11,13 +11,26 @@ ghost use Rattle.term.specs.Term.{Term, Terms, encode, encodes, nil, _&_};
 ghost use Rattle.message.specs.Product.{Exps};
 ghost use Rattle.lists.specs.Asks.{Asks, Asks₂, Promises, Promises₂};
 ghost use Rattle.octets.specs.Splice.Prefix.{Wrote};
+ghost use Rattle.term.specs.Tags.{expTag};
 ghost use Rattle.term.specs.Reader.{symbolAt};
 ghost use Rattle.product.specs.Chain.{repeated, copies, row, sides, written};
-ghost use Rattle.product.specs.Side.{rise, Next, Small, side};
+ghost use Rattle.product.specs.Side.{signedLimit, rise, Next, Small, side};
 ghost use Rattle.product.specs.Base.{baseOf};
 ghost use Rattle.product.specs.Contracts.{Whole, WholePower};
 ghost use Rattle.product.specs.Inner.{Lay, Both, Prod, Power, Behind};
 use term::Symbol;
+
+// The tags that are written, as bytes.
+const ONE: u8 = term::ONE as u8;
+
+const INV: u8 = term::INV as u8;
+
+const MUL: u8 = term::MUL as u8;
+
+// The factors of a power's exponent: its own, or also that of the exp in its base.
+const OWN: usize = 1;
+
+const BOTH: usize = 2;
 
 // Whether the base of an exp is an exp itself, whose arguments begin at a place.
 pub enum Base {
@@ -27,7 +40,7 @@ pub enum Base {
 
 // How often a factor of exponent p stands on the side of the sign; true is minus.
 fn rises(p: i32, minus: bool) -> usize
-    requires { ⌜ natAbs p < 2147483647 ⌝ }
+    requires { ⌜ natAbs p < signedLimit ⌝ }
     ensures { λ r. ⌜ r ≡ rise minus p ⌝ }
 {
     if minus {
@@ -68,7 +81,7 @@ fn put_many(out: &mut [u8], o: usize, x: &[u8], m: usize) -> usize
     let mut p = o;
     let mut i = 0;
     while i < m {
-        out[p] = 12;
+        out[p] = MUL;
         p = octets::copy_into(out, p + 1, x);
         i += 1;
     }
@@ -154,10 +167,10 @@ fn write_table(
     }
     let u = next_row(powers, 0, n, false);
     if n <= u {
-        return write_tagged(out, 0, 11, s, starts, ends, powers, n, true);
+        return write_tagged(out, 0, INV, s, starts, ends, powers, n, true);
     }
-    let i = write_tagged(out, 0, 12, s, starts, ends, powers, n, false);
-    write_tagged(out, i, 11, s, starts, ends, powers, n, true)
+    let i = write_tagged(out, 0, MUL, s, starts, ends, powers, n, false);
+    write_tagged(out, i, INV, s, starts, ends, powers, n, true)
 }
 
 // Writes the product of the k terms at a place, and nothing where no factor is left.
@@ -165,9 +178,9 @@ fn write_product(out: &mut [u8], s: &[u8], at: usize, k: usize, arities: &[u8]) 
     requires { ⌜ Asks (Prod (now arities) (now s) at k (length (now out))) ⌝ }
     ensures { λ r. ⌜ Promises (Prod (now (arities .entry)) (now (s .entry)) at k (length (now (out .entry)))) (λ (ts : Terms). Wrote (length (now (out .entry))) (now (out .entry)) 0 (now (out .exit)) r (written ts)) ⌝ }
 {
-    let mut starts = [0usize; 256];
-    let mut ends = [0usize; 256];
-    let mut powers = [0i32; 256];
+    let mut starts = [0usize; term::MOST_SYMBOLS];
+    let mut ends = [0usize; term::MOST_SYMBOLS];
+    let mut powers = [0i32; term::MOST_SYMBOLS];
     let f = factors::collect(
         &mut starts,
         &mut ends,
@@ -187,10 +200,10 @@ pub fn multiply(out: &mut [u8], o: usize, e: usize, arities: &[u8]) -> usize
     requires { ⌜ Asks (Whole (now arities) (now out) o e) ⌝ }
     ensures { λ r. ⌜ Promises (Whole (now (arities .entry)) (now (out .entry)) o e) (λ (t : Term). Wrote e (now (out .entry)) o (now (out .exit)) r (encode (multiplied (t & nil)))) ⌝ }
 {
-    let mut tmp = [0u8; 1280];
+    let mut tmp = [0u8; term::TERM_ROOM];
     let n = write_product(&mut tmp, out, o, 1, arities);
     if n == 0 {
-        out[o] = 3;
+        out[o] = ONE;
         return o + 1;
     }
     octets::copy_into(out, o, &tmp[..n])
@@ -201,7 +214,7 @@ fn power_at(out: &mut [u8], o: usize, b: usize, z: usize, k: usize, arities: &[u
     requires { ⌜ Asks₂ (Power (now arities) (now out) o b z k) ⌝ }
     ensures { λ r. ⌜ Promises₂ (Power (now (arities .entry)) (now (out .entry)) o b z k) (λ (t : Term) (ts : Terms). Wrote (z + length (encodes ts)) (now (out .entry)) o (now (out .exit)) r (encode (powered t ts))) ⌝ }
 {
-    let mut tmp = [0u8; 1280];
+    let mut tmp = [0u8; term::TERM_ROOM];
     let n = write_product(&mut tmp, out, z, k, arities);
     if n == 0 {
         octets::copy_within(out, b, o, z - b);
@@ -218,7 +231,7 @@ fn base_at(s: &[u8], arities: &[u8], at: usize) -> Base
     match term::symbol_at(s, arities, at) {
         Symbol::Leaf(_, _, _) => Base::Plain,
         Symbol::Op(t, _, e) => {
-            if t == 10 {
+            if t == term::EXP {
                 return Base::Power(e);
             }
             Base::Plain
@@ -238,17 +251,17 @@ fn behind(s: &[u8], arities: &[u8], at: usize) -> usize
 // exp(x, y) at o, up to e, becomes the power: returns where that ends.
 pub fn exponent(out: &mut [u8], o: usize, e: usize, arities: &[u8]) -> usize
     requires { ⌜ Asks₂ (WholePower (now arities) (now out) o e) ⌝ }
-    ensures { λ r. ⌜ Promises₂ (WholePower (now (arities .entry)) (now (out .entry)) o e) (λ (x y : Term). Wrote e (now (out .entry)) o (now (out .exit)) r (encode (raised (as2 10 x) x y))) ⌝ }
+    ensures { λ r. ⌜ Promises₂ (WholePower (now (arities .entry)) (now (out .entry)) o e) (λ (x y : Term). Wrote e (now (out .entry)) o (now (out .exit)) r (encode (raised (as2 expTag x) x y))) ⌝ }
 {
     let a = o + 1;
     match base_at(out, arities, a) {
         Base::Power(b) => {
             let z = behind(out, arities, b);
-            power_at(out, o, b, z, 2, arities)
+            power_at(out, o, b, z, BOTH, arities)
         }
         Base::Plain => {
             let z = behind(out, arities, a);
-            power_at(out, o, a, z, 1, arities)
+            power_at(out, o, a, z, OWN, arities)
         }
     }
 }

@@ -4,6 +4,7 @@ use Prim.Native.Nat.{ℕ, _+_, _≤_, _<_}
 use mathlib.Core.List.{List}
 use mathlib.Core.Path.{_≡_}
 use lib.ListN.{length, getD, take}
+use Rattle.protocol.specs.Figures.{mostOwn, firstOwn, symbolCount, mostRules}
 use Rattle.number.specs.Reading.{Read, got, fault}
 use Rattle.number.specs.declared.Number.{Number}
 use Rattle.number.specs.declared.Number.the-variants as num
@@ -37,9 +38,9 @@ Slotted arities fs n = arities ≡ slots fs
 -- the tables have the n own symbols behind the four built-in ones
 pub record Tabled (ars flags : List ℕ) (os : List Own) (n : ℕ) : Type 0 where
   pub count : length os ≡ n
-  pub few : n ≤ 32
-  pub arities : take (n + 4) ars ≡ factArities os
-  pub flagged : take (n + 4) flags ≡ factFlags os
+  pub few : n ≤ mostOwn
+  pub arities : take (n + firstOwn) ars ≡ factArities os
+  pub flagged : take (n + firstOwn) flags ≡ factFlags os
 
 -- the n things stand at their places
 pub record Placed {A : Type 0} (p : ℕ → Read A) (d : A) (places : List ℕ) (xs : List A) (n : ℕ) : Type 0 where
@@ -54,9 +55,9 @@ pub record Entries (s : List ℕ) (ns nr : ℕ) (arities ars flags places : List
   pub slotted : arities ≡ slots (is .functions)
   pub tabled : take ns ars ≡ factArities (is .symbols)
   pub flagged : take ns flags ≡ factFlags (is .symbols)
-  pub count : length (is .symbols) + 4 ≡ ns
-  pub few-symbols : ns ≤ 36
-  pub few-rules : nr ≤ 64
+  pub count : length (is .symbols) + firstOwn ≡ ns
+  pub few-symbols : ns ≤ symbolCount
+  pub few-rules : nr ≤ mostRules
   pub placed : Placed (rule s arities (take ns ars)) noRule places (is .rules) nr
 
 -- the counts and the right entries, or a fault, just as the definition says

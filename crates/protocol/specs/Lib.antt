@@ -1,5 +1,7 @@
 -- Protocol files.
 
+-- the figures of a protocol file
+pub mod Figures
 -- a protocol file: abstract syntax, bytes, reading; its limits; exact in both directions; what code answers of it
 pub mod Protocol
 -- the places in a rule: its lists, their facts, their terms, its variables' sorts

@@ -3,6 +3,7 @@ use Prim.Native.Nat.{ℕ}
 use mathlib.Core.List.{List}
 use mathlib.Core.Path.{_≡_}
 use lib.ListN.{length}
+use Rattle.protocol.specs.Figures.{sortCount, factLimit, variableLimit}
 use Rattle.number.specs.Reading.{Read, got, fault, andThen, below, many}
 use Rattle.protocol.specs.Protocol.{ruleTerm, fact, facts}
 use Rattle.protocol.specs.Protocol.Walks.{sortsAt}
@@ -29,14 +30,14 @@ valueOf fault = 0
 
 -- of the rule at a place: the sort of variable v; the place of list w (0 premises, 1 actions, 2 conclusions)
 unfoldable pub sortOf : List ℕ → ℕ → ℕ → Read ℕ
-sortOf s at v = andThen (below s 17 at) (λ n e. andThen (many (below s 3) v e) (λ vs f. below s 3 f))
+sortOf s at v = andThen (below s variableLimit at) (λ n e. andThen (many (below s sortCount) v e) (λ vs f. below s sortCount f))
 
 unfoldable pub listPlace : List ℕ → List ℕ → List ℕ → ℕ → ℕ → ℕ
 listPlace s slots ars at w = placeOf (andThen (sortsAt s at) (λ n e. many (facts s slots ars) w e))
 
 -- of the list at a place: the place of fact i
 unfoldable pub factPlace : List ℕ → List ℕ → List ℕ → ℕ → ℕ → ℕ
-factPlace s slots ars at i = placeOf (andThen (below s 9 at) (λ n e. many (fact s slots ars) i e))
+factPlace s slots ars at i = placeOf (andThen (below s factLimit at) (λ n e. many (fact s slots ars) i e))
 
 -- of the fact at a place: the place of term j
 unfoldable pub termPlace : List ℕ → List ℕ → List ℕ → ℕ → ℕ → ℕ

@@ -4,6 +4,9 @@ use mathlib.Core.List.{List, [], _∷_, _++_, map}
 use mathlib.Core.Bool.{Bool, not}
 use lib.ListN.{length, getD}
 use lib.Dec.{ltb, eqb}
+use Rattle.term.specs.Tags.{mostFunctions, variableTag}
+use Rattle.protocol.specs.Figures.{mostOwn, flagCount, mostRules, mostVariables, sortCount, arityLimit, factArityLimit, ruleSymbolLimit}
+use Rattle.protocol.specs.Figures.{premiseList, actionList, conclusionList, listCount, mostFacts}
 use Rattle.lists.specs.Choice.{pick}
 use Rattle.number.specs.Groups.{groups, numberLimit}
 use Rattle.number.specs.Reading.{Read, got, fault, andThen, below, many, counted}
@@ -59,13 +62,13 @@ abbrev pub part : ℕ → Rule → List Fact
 part w r = getD (r .parts) w []
 
 abbrev pub premises : Rule → List Fact
-premises = part 0
+premises = part premiseList
 
 abbrev pub actions : Rule → List Fact
-actions = part 1
+actions = part actionList
 
 abbrev pub conclusions : Rule → List Fact
-conclusions = part 2
+conclusions = part conclusionList
 
 -- where a list has no item of some number
 abbrev pub noFact : Fact
@@ -114,11 +117,11 @@ leafIn kind lo hi f = anyBy (λ t. holds t kind lo hi) (f .terms)
 
 -- every variable of a rule is declared: none from the rule's count on
 abbrev pub declared : Rule → Bool
-declared r = not (anyBy (anyBy (leafIn 0 (length (r .sorts)) numberLimit)) (r .parts))
+declared r = not (anyBy (anyBy (leafIn variableTag (length (r .sorts)) numberLimit)) (r .parts))
 
 -- "a rule's term has at most 64 symbols"
 unfoldable pub ruleTerm : List ℕ → List ℕ → ℕ → Read Term
-ruleTerm s slots at = andThen (term s slots at) (λ t e. pick (ltb (symbols t) 65) (got t e) fault)
+ruleTerm s slots at = andThen (term s slots at) (λ t e. pick (ltb (symbols t) ruleSymbolLimit) (got t e) fault)
 
 -- "A fact is its symbol and terms", as many as the symbol's arity
 unfoldable pub fact : List ℕ → List ℕ → List ℕ → ℕ → Read Fact
@@ -128,25 +131,25 @@ fact s slots ars at =
 
 -- "premises, actions, conclusions, each a count (8) and facts"
 unfoldable pub facts : List ℕ → List ℕ → List ℕ → ℕ → Read (List Fact)
-facts s slots ars at = counted s 8 (fact s slots ars) at
+facts s slots ars at = counted s mostFacts (fact s slots ars) at
 
 -- the layout of a rule
 unfoldable pub layout : List ℕ → List ℕ → List ℕ → ℕ → Read Rule
 layout s slots ars at =
-    andThen (counted s 16 (below s 3) at) (λ vs e.
-    andThen (many (facts s slots ars) 3 e) (λ ps f. got (rule-of vs ps) f))
+    andThen (counted s mostVariables (below s sortCount) at) (λ vs e.
+    andThen (many (facts s slots ars) listCount e) (λ ps f. got (rule-of vs ps) f))
 
 -- a rule: its variables are declared
 unfoldable pub rule : List ℕ → List ℕ → List ℕ → ℕ → Read Rule
 rule s slots ars at = andThen (layout s slots ars at) (λ r e. pick (declared r) (got r e) fault)
 
 unfoldable pub own : List ℕ → ℕ → Read Own
-own s at = andThen (below s 9 at) (λ a e. andThen (below s 2 e) (λ l f. got (own-of a l) f))
+own s at = andThen (below s factArityLimit at) (λ a e. andThen (below s flagCount e) (λ l f. got (own-of a l) f))
 
 -- the whole file; leftover bytes are a fault
 unfoldable pub protocol : List ℕ → Read Protocol
 protocol s =
-    andThen (counted s 16 (below s 5) 0) (λ fs e.
-    andThen (counted s 32 (own s) e) (λ os f.
-    andThen (counted s 64 (rule s (slots fs) (factArities os)) f) (λ rs g.
+    andThen (counted s mostFunctions (below s arityLimit) 0) (λ fs e.
+    andThen (counted s mostOwn (own s) e) (λ os f.
+    andThen (counted s mostRules (rule s (slots fs) (factArities os)) f) (λ rs g.
     pick (eqb g (length s)) (got (protocol-of fs os rs) g) fault)))

@@ -1,13 +1,17 @@
 // The index of a protocol file, filled in one pass over it.
 ghost use mathlib.Core.Path.{_≡_};
-ghost use Prim.Native.Nat.{_^_, _≤_, _<_, _+_};
+ghost use Prim.Native.Nat.{_≤_, _<_, _+_};
 ghost use mathlib.Core.List.{[]};
 ghost use lib.ListN.{length};
+ghost use Rattle.octets.specs.Limits.{longest};
+ghost use Rattle.term.specs.Tags.{mostFunctions, tagCount};
+ghost use Rattle.protocol.specs.Figures.{mostOwn, symbolCount, mostRules, arityLimit};
 ghost use Rattle.number.specs.Reading.{below, many, counted};
 ghost use Rattle.term.specs.Arity.{slots};
 ghost use Rattle.protocol.specs.Protocol.{noRule, rule, own};
 ghost use Rattle.protocol.specs.Index.{Told, Slotted, Tabled, Placed, Indexed};
 ghost use Rattle.protocol.specs.Index.Fill.{asOwn};
+use crate::figures;
 use crate::walks;
 use number::Number;
 use number::Seen;
@@ -26,16 +30,16 @@ pub enum OwnRead {
 
 // The arities of n functions, each into the slot of its tag.
 fn functions_from(s: &[u8], at: usize, n: u32, arities: &mut [u8]) -> Number
-    requires { ⌜ (n ≤ 16) × (length (now arities) ≡ 29) × (now arities ≡ slots []) ⌝ }
+    requires { ⌜ (n ≤ mostFunctions) × (length (now arities) ≡ tagCount) × (now arities ≡ slots []) ⌝ }
     ensures kept { λ r. ⌜ length (now (arities .exit)) ≡ length (now (arities .entry)) ⌝ }
-    ensures told { λ r. ⌜ Told (many (below (now (s .entry)) 5) n at) (Slotted (now (arities .exit))) r ⌝ }
+    ensures told { λ r. ⌜ Told (many (below (now (s .entry)) arityLimit) n at) (Slotted (now (arities .exit))) r ⌝ }
 {
     let mut i = at;
     let mut j: u32 = 0;
     while j < n {
-        match number::below(s, i, 5) {
+        match number::below(s, i, figures::ARITY_LIMIT) {
             Number::Value(v, e) => {
-                arities[13 + j as usize] = v as u8;
+                arities[term::FIRST_FREE + j as usize] = v as u8;
                 i = e;
                 j += 1;
             }
@@ -49,16 +53,16 @@ fn functions_from(s: &[u8], at: usize, n: u32, arities: &mut [u8]) -> Number
 
 // The built-in functions' arities; then a count and that many arities.
 fn functions(s: &[u8], at: usize, arities: &mut [u8]) -> Number
-    requires { ⌜ length (now arities) ≡ 29 ⌝ }
+    requires { ⌜ length (now arities) ≡ tagCount ⌝ }
     ensures kept { λ r. ⌜ length (now (arities .exit)) ≡ length (now (arities .entry)) ⌝ }
-    ensures told { λ r. ⌜ Told (counted (now (s .entry)) 16 (below (now (s .entry)) 5) at) (Slotted (now (arities .exit))) r ⌝ }
+    ensures told { λ r. ⌜ Told (counted (now (s .entry)) mostFunctions (below (now (s .entry)) arityLimit) at) (Slotted (now (arities .exit))) r ⌝ }
 {
     octets::copy_into(
         arities,
         0,
         b"\xff\xff\xff\x00\x02\x02\x01\x02\x01\x01\x02\x01\x02\xff\xff\xff\xff\xff\xff\xff\xff\xff\xff\xff\xff\xff\xff\xff\xff",
     );
-    match number::below(s, at, 17) {
+    match number::below(s, at, figures::FUNCTION_LIMIT) {
         Number::Value(n, e) => functions_from(s, e, n, arities),
         Number::Fault => Number::Fault,
     }
@@ -68,10 +72,10 @@ fn functions(s: &[u8], at: usize, arities: &mut [u8]) -> Number
 fn own_at(s: &[u8], at: usize) -> OwnRead
     ensures { λ r. ⌜ asOwn r ≡ own (now (s .entry)) at ⌝ }
 {
-    let Number::Value(a, e) = number::below(s, at, 9) else {
+    let Number::Value(a, e) = number::below(s, at, figures::FACT_ARITY_LIMIT) else {
         return OwnRead::Fault;
     };
-    match number::below(s, e, 2) {
+    match number::below(s, e, figures::FLAGS) {
         Number::Value(l, f) => OwnRead::Got(a, l, f),
         Number::Fault => OwnRead::Fault,
     }
@@ -79,7 +83,7 @@ fn own_at(s: &[u8], at: usize) -> OwnRead
 
 // The built-in fact symbols, then the arities and flags of n own ones.
 fn symbols_from(s: &[u8], at: usize, n: u32, ars: &mut [u8], flags: &mut [u8]) -> Number
-    requires { ⌜ (n ≤ 32) × (36 ≤ length (now ars)) × (36 ≤ length (now flags)) ⌝ }
+    requires { ⌜ (n ≤ mostOwn) × (symbolCount ≤ length (now ars)) × (symbolCount ≤ length (now flags)) ⌝ }
     ensures kept { λ r. ⌜ (length (now (ars .exit)) ≡ length (now (ars .entry))) × (length (now (flags .exit)) ≡ length (now (flags .entry))) ⌝ }
     ensures told { λ r. ⌜ Told (many (own (now (s .entry))) n at) (Tabled (now (ars .exit)) (now (flags .exit))) r ⌝ }
 {
@@ -90,7 +94,7 @@ fn symbols_from(s: &[u8], at: usize, n: u32, ars: &mut [u8], flags: &mut [u8]) -
     while j < n {
         match own_at(s, i) {
             OwnRead::Got(a, l, e) => {
-                let k = j as usize + 4;
+                let k = j as usize + figures::FIRST_OWN;
                 ars[k] = a as u8;
                 flags[k] = l as u8;
                 i = e;
@@ -105,11 +109,11 @@ fn symbols_from(s: &[u8], at: usize, n: u32, ars: &mut [u8], flags: &mut [u8]) -
 }
 
 fn symbols(s: &[u8], at: usize, ars: &mut [u8], flags: &mut [u8]) -> Number
-    requires { ⌜ (36 ≤ length (now ars)) × (36 ≤ length (now flags)) ⌝ }
+    requires { ⌜ (symbolCount ≤ length (now ars)) × (symbolCount ≤ length (now flags)) ⌝ }
     ensures kept { λ r. ⌜ (length (now (ars .exit)) ≡ length (now (ars .entry))) × (length (now (flags .exit)) ≡ length (now (flags .entry))) ⌝ }
-    ensures told { λ r. ⌜ Told (counted (now (s .entry)) 32 (own (now (s .entry))) at) (Tabled (now (ars .exit)) (now (flags .exit))) r ⌝ }
+    ensures told { λ r. ⌜ Told (counted (now (s .entry)) mostOwn (own (now (s .entry))) at) (Tabled (now (ars .exit)) (now (flags .exit))) r ⌝ }
 {
-    match number::below(s, at, 33) {
+    match number::below(s, at, figures::OWN_LIMIT) {
         Number::Value(n, e) => symbols_from(s, e, n, ars, flags),
         Number::Fault => Number::Fault,
     }
@@ -124,7 +128,7 @@ fn rules_from(
     n: u32,
     places: &mut [usize],
 ) -> Number
-    requires { ⌜ (length (now s) ≤ 2 ^ 32) × (n ≤ 64) × (64 ≤ length (now places)) ⌝ }
+    requires { ⌜ (length (now s) ≤ longest) × (n ≤ mostRules) × (mostRules ≤ length (now places)) ⌝ }
     ensures kept { λ r. ⌜ length (now (places .exit)) ≡ length (now (places .entry)) ⌝ }
     ensures told { λ r. ⌜ Told (many (rule (now (s .entry)) (now (arities .entry)) (now (ars .entry))) n at) (Placed (rule (now (s .entry)) (now (arities .entry)) (now (ars .entry))) noRule (now (places .exit))) r ⌝ }
 {
@@ -146,11 +150,11 @@ fn rules_from(
 }
 
 fn rules(s: &[u8], arities: &[u8], ars: &[u8], at: usize, places: &mut [usize]) -> Number
-    requires { ⌜ (length (now s) ≤ 2 ^ 32) × (64 ≤ length (now places)) ⌝ }
+    requires { ⌜ (length (now s) ≤ longest) × (mostRules ≤ length (now places)) ⌝ }
     ensures kept { λ r. ⌜ length (now (places .exit)) ≡ length (now (places .entry)) ⌝ }
-    ensures told { λ r. ⌜ Told (counted (now (s .entry)) 64 (rule (now (s .entry)) (now (arities .entry)) (now (ars .entry))) at) (Placed (rule (now (s .entry)) (now (arities .entry)) (now (ars .entry))) noRule (now (places .exit))) r ⌝ }
+    ensures told { λ r. ⌜ Told (counted (now (s .entry)) mostRules (rule (now (s .entry)) (now (arities .entry)) (now (ars .entry))) at) (Placed (rule (now (s .entry)) (now (arities .entry)) (now (ars .entry))) noRule (now (places .exit))) r ⌝ }
 {
-    match number::below(s, at, 65) {
+    match number::below(s, at, figures::RULE_LIMIT) {
         Number::Value(n, e) => rules_from(s, arities, ars, e, n, places),
         Number::Fault => Number::Fault,
     }
@@ -164,7 +168,7 @@ pub fn read_protocol(
     flags: &mut [u8],
     places: &mut [usize],
 ) -> Index
-    requires { ⌜ (length (now s) ≤ 2 ^ 32) × (length (now arities) ≡ 29) × (36 ≤ length (now ars)) × (36 ≤ length (now flags)) × (64 ≤ length (now places)) ⌝ }
+    requires { ⌜ (length (now s) ≤ longest) × (length (now arities) ≡ tagCount) × (symbolCount ≤ length (now ars)) × (symbolCount ≤ length (now flags)) × (mostRules ≤ length (now places)) ⌝ }
     ensures { λ r. ⌜ Indexed (now (s .entry)) r (now (arities .exit)) (now (ars .exit)) (now (flags .exit)) (now (places .exit)) ⌝ }
 {
     let Number::Value(_, e) = functions(s, 0, arities) else {
@@ -173,7 +177,7 @@ pub fn read_protocol(
     let Number::Value(no, f) = symbols(s, e, ars, flags) else {
         return Index::Fault;
     };
-    let m = no as usize + 4;
+    let m = no as usize + figures::FIRST_OWN;
     let Number::Value(nr, g) = rules(s, arities, &ars[..m], f, places) else {
         return Index::Fault;
     };

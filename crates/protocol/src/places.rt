@@ -1,11 +1,14 @@
 // The places in a rule: its lists, their facts, their terms; its variables and their sorts.
 ghost use mathlib.Core.Path.{_≡_};
-ghost use Prim.Native.Nat.{_^_, _≤_};
+ghost use Prim.Native.Nat.{_≤_};
 ghost use lib.ListN.{length};
+ghost use Rattle.octets.specs.Limits.{longest};
+ghost use Rattle.protocol.specs.Figures.{factLimit};
 ghost use Rattle.number.specs.Reading.{below};
 ghost use Rattle.protocol.specs.Protocol.Walks.{sortsAt};
 ghost use Rattle.protocol.specs.Places.{valueOf, sortOf, listPlace, factPlace, termPlace};
 ghost use Rattle.protocol.specs.Places.Steps.{endOf, sortFrom};
+use crate::figures;
 use crate::walks;
 use number::Number;
 use number::Seen;
@@ -44,7 +47,7 @@ fn sort_from(s: &[u8], at: usize, v: u32) -> usize
     ensures { λ r. ⌜ r ≡ valueOf (sortFrom (now (s .entry)) v at) ⌝ }
 {
     match walks::sorts_end(s, at, v) {
-        Number::Value(_, e) => value_below(s, e, 3),
+        Number::Value(_, e) => value_below(s, e, figures::SORTS),
         Number::Fault => 0,
     }
 }
@@ -53,7 +56,7 @@ fn sort_from(s: &[u8], at: usize, v: u32) -> usize
 pub fn sort_of(s: &[u8], at: usize, v: u32) -> usize
     ensures { λ r. ⌜ r ≡ valueOf (sortOf (now (s .entry)) at v) ⌝ }
 {
-    match number::below(s, at, 17) {
+    match number::below(s, at, figures::VARIABLE_LIMIT) {
         Number::Value(_, e) => sort_from(s, e, v),
         Number::Fault => 0,
     }
@@ -61,29 +64,47 @@ pub fn sort_of(s: &[u8], at: usize, v: u32) -> usize
 
 // The place of list w of the rule at a place: 0 premises, 1 actions, 2 conclusions.
 pub fn list_at(s: &[u8], arities: &[u8], ars: &[u8], at: usize, w: usize) -> usize
-    requires { ⌜ length (now s) ≤ 2 ^ 32 ⌝ }
+    requires { ⌜ length (now s) ≤ longest ⌝ }
     ensures { λ r. ⌜ r ≡ listPlace (now (s .entry)) (now (arities .entry)) (now (ars .entry)) at w ⌝ }
 {
     match walks::sorts_at(s, at) {
-        Number::Value(_, e) => end_of(walks::some_parts(s, arities, ars, e, w, 0, 0, 0)),
+        Number::Value(_, e) => end_of(walks::some_parts(
+            s,
+            arities,
+            ars,
+            e,
+            w,
+            term::VARIABLE,
+            0,
+            0,
+        )),
         Number::Fault => 0,
     }
 }
 
 // How many facts the list at a place has.
 pub fn count_of(s: &[u8], at: usize) -> usize
-    ensures { λ r. ⌜ r ≡ valueOf (below (now (s .entry)) 9 at) ⌝ }
+    ensures { λ r. ⌜ r ≡ valueOf (below (now (s .entry)) factLimit at) ⌝ }
 {
-    value_below(s, at, 9)
+    value_below(s, at, figures::FACT_LIMIT)
 }
 
 // The place of fact i of the list at a place.
 pub fn fact_at(s: &[u8], arities: &[u8], ars: &[u8], at: usize, i: usize) -> usize
-    requires { ⌜ length (now s) ≤ 2 ^ 32 ⌝ }
+    requires { ⌜ length (now s) ≤ longest ⌝ }
     ensures { λ r. ⌜ r ≡ factPlace (now (s .entry)) (now (arities .entry)) (now (ars .entry)) at i ⌝ }
 {
-    match number::below(s, at, 9) {
-        Number::Value(_, e) => end_of(walks::some_facts(s, arities, ars, e, i, 0, 0, 0)),
+    match number::below(s, at, figures::FACT_LIMIT) {
+        Number::Value(_, e) => end_of(walks::some_facts(
+            s,
+            arities,
+            ars,
+            e,
+            i,
+            term::VARIABLE,
+            0,
+            0,
+        )),
         Number::Fault => 0,
     }
 }
@@ -97,11 +118,11 @@ pub fn symbol_of(s: &[u8], ars: &[u8], at: usize) -> usize
 
 // The place of term j of the fact at a place.
 pub fn term_at(s: &[u8], arities: &[u8], ars: &[u8], at: usize, j: usize) -> usize
-    requires { ⌜ length (now s) ≤ 2 ^ 32 ⌝ }
+    requires { ⌜ length (now s) ≤ longest ⌝ }
     ensures { λ r. ⌜ r ≡ termPlace (now (s .entry)) (now (arities .entry)) (now (ars .entry)) at j ⌝ }
 {
     match number::below(s, at, ars.len()) {
-        Number::Value(_, e) => end_of(walks::rule_terms(s, arities, e, j, 0, 0, 0)),
+        Number::Value(_, e) => end_of(walks::rule_terms(s, arities, e, j, term::VARIABLE, 0, 0)),
         Number::Fault => 0,
     }
 }

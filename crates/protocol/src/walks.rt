@@ -1,24 +1,28 @@
 // The walks over a rule: its terms, its facts, its lists. Each tells the place behind, and whether one test, by three numbers, holds.
 ghost use mathlib.Core.Path.{_≡_};
-ghost use Prim.Native.Nat.{_^_, _≤_, _<_, _+_};
+ghost use Prim.Native.Nat.{_≤_, _<_, _+_};
 ghost use lib.ListN.{length};
+ghost use Rattle.octets.specs.Limits.{longest};
+ghost use Rattle.term.specs.Tags.{variableTag};
+ghost use Rattle.protocol.specs.Figures.{listCount};
 ghost use Rattle.number.specs.Groups.{numberLimit};
 ghost use Rattle.number.specs.Reading.{many, asRead, seen};
 ghost use Rattle.lists.specs.Lists.{anyBy};
 ghost use Rattle.protocol.specs.Protocol.{ruleTerm, fact, facts, layout, rule};
 ghost use Rattle.protocol.specs.Protocol.Walks.{leafAt, asks, ruleAsks, factFrom, sortsFrom, sortsAt, ended, closed};
+use crate::figures;
 use number::Number;
 use number::Seen;
 use term::Walk;
 
 // A term of a rule, 64 symbols at most, and whether a leaf of that kind, from lo on and below hi, stands in it.
 fn rule_term(s: &[u8], arities: &[u8], at: usize, kind: usize, lo: usize, hi: usize) -> Seen
-    requires { ⌜ length (now s) ≤ 2 ^ 32 ⌝ }
+    requires { ⌜ length (now s) ≤ longest ⌝ }
     ensures { λ r. ⌜ r ≡ seen (leafAt kind lo hi) (ruleTerm (now (s .entry)) (now (arities .entry)) at) ⌝ }
 {
     match term::walk_term(s, arities, at, kind, lo, hi) {
         Walk::End(e, n, h) => {
-            if n < 65 {
+            if n < figures::RULE_SYMBOL_LIMIT {
                 return Seen::End(e, h);
             }
             Seen::Fault
@@ -37,7 +41,7 @@ pub fn rule_terms(
     lo: usize,
     hi: usize,
 ) -> Seen
-    requires { ⌜ length (now s) ≤ 2 ^ 32 ⌝ }
+    requires { ⌜ length (now s) ≤ longest ⌝ }
     ensures { λ r. ⌜ r ≡ seen (anyBy (leafAt kind lo hi)) (many (ruleTerm (now (s .entry)) (now (arities .entry))) n at) ⌝ }
 {
     let mut i = at;
@@ -69,12 +73,12 @@ fn fact_from(
     lo: usize,
     hi: usize,
 ) -> Seen
-    requires { ⌜ (length (now s) ≤ 2 ^ 32) × (y < length (now ars)) ⌝ }
+    requires { ⌜ (length (now s) ≤ longest) × (y < length (now ars)) ⌝ }
     ensures { λ r. ⌜ r ≡ seen (asks kind lo hi) (factFrom (now (s .entry)) (now (arities .entry)) (now (ars .entry)) y at) ⌝ }
 {
     match rule_terms(s, arities, at, ars[y] as usize, kind, lo, hi) {
         Seen::End(e, h) => {
-            if kind < 3 {
+            if kind < figures::SYMBOL_KIND {
                 return Seen::End(e, h);
             }
             Seen::End(e, !(y < lo) & (y < hi))
@@ -93,7 +97,7 @@ pub fn one_fact(
     lo: usize,
     hi: usize,
 ) -> Seen
-    requires { ⌜ length (now s) ≤ 2 ^ 32 ⌝ }
+    requires { ⌜ length (now s) ≤ longest ⌝ }
     ensures { λ r. ⌜ r ≡ seen (asks kind lo hi) (fact (now (s .entry)) (now (arities .entry)) (now (ars .entry)) at) ⌝ }
 {
     match number::below(s, at, ars.len()) {
@@ -113,7 +117,7 @@ pub fn some_facts(
     lo: usize,
     hi: usize,
 ) -> Seen
-    requires { ⌜ length (now s) ≤ 2 ^ 32 ⌝ }
+    requires { ⌜ length (now s) ≤ longest ⌝ }
     ensures { λ r. ⌜ r ≡ seen (anyBy (asks kind lo hi)) (many (fact (now (s .entry)) (now (arities .entry)) (now (ars .entry))) n at) ⌝ }
 {
     let mut i = at;
@@ -144,10 +148,10 @@ pub fn one_part(
     lo: usize,
     hi: usize,
 ) -> Seen
-    requires { ⌜ length (now s) ≤ 2 ^ 32 ⌝ }
+    requires { ⌜ length (now s) ≤ longest ⌝ }
     ensures { λ r. ⌜ r ≡ seen (anyBy (asks kind lo hi)) (facts (now (s .entry)) (now (arities .entry)) (now (ars .entry)) at) ⌝ }
 {
-    match number::below(s, at, 9) {
+    match number::below(s, at, figures::FACT_LIMIT) {
         Number::Value(n, e) => some_facts(s, arities, ars, e, n as usize, kind, lo, hi),
         Number::Fault => Seen::Fault,
     }
@@ -164,7 +168,7 @@ pub fn some_parts(
     lo: usize,
     hi: usize,
 ) -> Seen
-    requires { ⌜ length (now s) ≤ 2 ^ 32 ⌝ }
+    requires { ⌜ length (now s) ≤ longest ⌝ }
     ensures { λ r. ⌜ r ≡ seen (anyBy (anyBy (asks kind lo hi))) (many (facts (now (s .entry)) (now (arities .entry)) (now (ars .entry))) n at) ⌝ }
 {
     let mut i = at;
@@ -192,7 +196,7 @@ pub fn sorts_end(s: &[u8], at: usize, n: u32) -> Number
     let mut i = at;
     let mut j: u32 = 0;
     while j < n {
-        match number::below(s, i, 3) {
+        match number::below(s, i, figures::SORTS) {
             Number::Value(_, e) => {
                 i = e;
                 j += 1;
@@ -209,7 +213,7 @@ pub fn sorts_end(s: &[u8], at: usize, n: u32) -> Number
 pub fn sorts_at(s: &[u8], at: usize) -> Number
     ensures { λ r. ⌜ asRead r ≡ sortsAt (now (s .entry)) at ⌝ }
 {
-    match number::below(s, at, 17) {
+    match number::below(s, at, figures::VARIABLE_LIMIT) {
         Number::Value(n, e) => sorts_end(s, e, n),
         Number::Fault => Number::Fault,
     }
@@ -225,21 +229,30 @@ pub fn one_layout(
     lo: usize,
     hi: usize,
 ) -> Seen
-    requires { ⌜ length (now s) ≤ 2 ^ 32 ⌝ }
+    requires { ⌜ length (now s) ≤ longest ⌝ }
     ensures { λ r. ⌜ r ≡ seen (ruleAsks kind lo hi) (layout (now (s .entry)) (now (arities .entry)) (now (ars .entry)) at) ⌝ }
 {
     match sorts_at(s, at) {
-        Number::Value(_, e) => some_parts(s, arities, ars, e, 3, kind, lo, hi),
+        Number::Value(_, e) => some_parts(s, arities, ars, e, figures::LISTS, kind, lo, hi),
         Number::Fault => Seen::Fault,
     }
 }
 
 // The three lists of a rule of n variables: no variable from n on stands in them.
 fn closed_parts(s: &[u8], arities: &[u8], ars: &[u8], at: usize, n: usize) -> Seen
-    requires { ⌜ length (now s) ≤ 2 ^ 32 ⌝ }
-    ensures { λ r. ⌜ r ≡ closed (seen (anyBy (anyBy (asks 0 n numberLimit))) (many (facts (now (s .entry)) (now (arities .entry)) (now (ars .entry))) 3 at)) ⌝ }
+    requires { ⌜ length (now s) ≤ longest ⌝ }
+    ensures { λ r. ⌜ r ≡ closed (seen (anyBy (anyBy (asks variableTag n numberLimit))) (many (facts (now (s .entry)) (now (arities .entry)) (now (ars .entry))) listCount at)) ⌝ }
 {
-    match some_parts(s, arities, ars, at, 3, 0, n, number::NUMBER_LIMIT) {
+    match some_parts(
+        s,
+        arities,
+        ars,
+        at,
+        figures::LISTS,
+        term::VARIABLE,
+        n,
+        number::NUMBER_LIMIT,
+    ) {
         Seen::End(e, h) => {
             if h {
                 return Seen::Fault;
@@ -252,7 +265,7 @@ fn closed_parts(s: &[u8], arities: &[u8], ars: &[u8], at: usize, n: usize) -> Se
 
 // A rule: its layout, and each variable in it declared.
 pub fn one_rule(s: &[u8], arities: &[u8], ars: &[u8], at: usize) -> Seen
-    requires { ⌜ length (now s) ≤ 2 ^ 32 ⌝ }
+    requires { ⌜ length (now s) ≤ longest ⌝ }
     ensures { λ r. ⌜ r ≡ ended (rule (now (s .entry)) (now (arities .entry)) (now (ars .entry)) at) ⌝ }
 {
     match sorts_at(s, at) {

@@ -1,8 +1,11 @@
 // The conditions P1 to P4, and the judgement of a protocol file.
 ghost use mathlib.Core.Path.{_≡_};
 ghost use mathlib.Core.List.{List};
-ghost use Prim.Native.Nat.{_^_, _≤_, _<_};
+ghost use Prim.Native.Nat.{_≤_, _<_};
 ghost use lib.ListN.{length};
+ghost use Rattle.octets.specs.Limits.{longest};
+ghost use Rattle.term.specs.Tags.{tagCount};
+ghost use Rattle.protocol.specs.Figures.{symbolCount, mostRules, listCount};
 ghost use Rattle.lists.specs.Lists.{anyBy};
 ghost use Rattle.protocol.specs.Protocol.{Rule, noRule, part, rule, protocol};
 ghost use Rattle.protocol.specs.Protocol.Walks.{asks, ruleAsks};
@@ -12,6 +15,7 @@ ghost use Rattle.lists.specs.Below.{least, allBelow};
 ghost use Rattle.rules.specs.Fit.Laws.{hitOf, OfRule, unfit, verdictOf, Indexes};
 use number::Number;
 use number::Seen;
+use protocol::figures;
 use protocol::index;
 use protocol::index::Index;
 use protocol::places;
@@ -44,7 +48,7 @@ fn list_asks(
     lo: usize,
     hi: usize,
 ) -> bool
-    requires { ⌜ (length (now s) ≤ 2 ^ 32) × (w < 3) ⌝ }
+    requires { ⌜ (length (now s) ≤ longest) × (w < listCount) ⌝ }
     ensures { λ b. ⌜ OfRule (now (s .entry)) (now (arities .entry)) (now (ars .entry)) at (λ (r : Rule). b ≡ anyBy (asks kind lo hi) (part w r)) ⌝ }
 {
     let list = places::list_at(s, arities, ars, at, w);
@@ -61,7 +65,7 @@ fn rule_asks(
     lo: usize,
     hi: usize,
 ) -> bool
-    requires { ⌜ length (now s) ≤ 2 ^ 32 ⌝ }
+    requires { ⌜ length (now s) ≤ longest ⌝ }
     ensures { λ b. ⌜ OfRule (now (s .entry)) (now (arities .entry)) (now (ars .entry)) at (λ (r : Rule). b ≡ ruleAsks kind lo hi r) ⌝ }
 {
     hit_of(walks::one_layout(s, arities, ars, at, kind, lo, hi))
@@ -69,19 +73,37 @@ fn rule_asks(
 
 // Whether variable v of the rule at a place is of sort public, in a premise, or in no conclusion.
 fn is_bound(s: &[u8], arities: &[u8], ars: &[u8], at: usize, v: u32) -> bool
-    requires { ⌜ length (now s) ≤ 2 ^ 32 ⌝ }
+    requires { ⌜ length (now s) ≤ longest ⌝ }
     ensures { λ b. ⌜ OfRule (now (s .entry)) (now (arities .entry)) (now (ars .entry)) at (λ (r : Rule). v < length (r .sorts) → b ≡ bound r v) ⌝ }
 {
-    let public = places::sort_of(s, at, v) == 2;
+    let public = places::sort_of(s, at, v) == figures::PUBLIC_SORT;
     let x = v as usize;
-    let above = list_asks(s, arities, ars, at, 0, 0, x, x + 1);
-    let below = list_asks(s, arities, ars, at, 2, 0, x, x + 1);
+    let above = list_asks(
+        s,
+        arities,
+        ars,
+        at,
+        figures::PREMISES,
+        term::VARIABLE,
+        x,
+        x + 1,
+    );
+    let below = list_asks(
+        s,
+        arities,
+        ars,
+        at,
+        figures::CONCLUSIONS,
+        term::VARIABLE,
+        x,
+        x + 1,
+    );
     public | (above | !below)
 }
 
 // The same for the first n variables.
 fn all_bound(s: &[u8], arities: &[u8], ars: &[u8], at: usize, n: u32) -> bool
-    requires { ⌜ length (now s) ≤ 2 ^ 32 ⌝ }
+    requires { ⌜ length (now s) ≤ longest ⌝ }
     ensures { λ b. ⌜ OfRule (now (s .entry)) (now (arities .entry)) (now (ars .entry)) at (λ (r : Rule). n ≤ length (r .sorts) → b ≡ allBelow (bound r) n) ⌝ }
 {
     let mut j: u32 = 0;
@@ -96,7 +118,7 @@ fn all_bound(s: &[u8], arities: &[u8], ars: &[u8], at: usize, n: u32) -> bool
 
 // P4 of the rule at a place.
 fn variables_bound(s: &[u8], arities: &[u8], ars: &[u8], at: usize) -> bool
-    requires { ⌜ length (now s) ≤ 2 ^ 32 ⌝ }
+    requires { ⌜ length (now s) ≤ longest ⌝ }
     ensures { λ b. ⌜ OfRule (now (s .entry)) (now (arities .entry)) (now (ars .entry)) at (λ (r : Rule). b ≡ p4 r) ⌝ }
 {
     match walks::sorts_at(s, at) {
@@ -107,20 +129,47 @@ fn variables_bound(s: &[u8], arities: &[u8], ars: &[u8], at: usize) -> bool
 
 // P1 to P4 of the rule at a place.
 fn rule_fits(s: &[u8], arities: &[u8], ars: &[u8], at: usize) -> bool
-    requires { ⌜ length (now s) ≤ 2 ^ 32 ⌝ }
+    requires { ⌜ length (now s) ≤ longest ⌝ }
     ensures { λ b. ⌜ OfRule (now (s .entry)) (now (arities .entry)) (now (ars .entry)) at (λ (r : Rule). b ≡ fits r) ⌝ }
 {
-    let fresh = rule_asks(s, arities, ars, at, 2, 0, number::NUMBER_LIMIT);
-    let known = list_asks(s, arities, ars, at, 0, 3, 2, 4);
-    let made = list_asks(s, arities, ars, at, 2, 3, 0, 2);
-    let learnt = list_asks(s, arities, ars, at, 2, 3, 3, 4);
+    let fresh = rule_asks(s, arities, ars, at, term::FRESH, 0, number::NUMBER_LIMIT);
+    let known = list_asks(
+        s,
+        arities,
+        ars,
+        at,
+        figures::PREMISES,
+        figures::SYMBOL_KIND,
+        figures::OUT,
+        figures::PAST_K,
+    );
+    let made = list_asks(
+        s,
+        arities,
+        ars,
+        at,
+        figures::CONCLUSIONS,
+        figures::SYMBOL_KIND,
+        figures::FR,
+        figures::OUT,
+    );
+    let learnt = list_asks(
+        s,
+        arities,
+        ars,
+        at,
+        figures::CONCLUSIONS,
+        figures::SYMBOL_KIND,
+        figures::K,
+        figures::PAST_K,
+    );
     let held = variables_bound(s, arities, ars, at);
     !fresh & (!known & ((!made & !learnt) & held))
 }
 
 // The least of n rules that breaks a condition, counted from 1; 0 if there is none.
 fn least_unfit(s: &[u8], arities: &[u8], ars: &[u8], places: &[usize], n: usize) -> usize
-    requires { ⌜ (length (now s) ≤ 2 ^ 32) × (n ≤ length (now places)) ⌝ }
+    requires { ⌜ (length (now s) ≤ longest) × (n ≤ length (now places)) ⌝ }
     ensures { λ m. ⌜ ((rs : List Rule) → Placed (rule (now (s .entry)) (now (arities .entry)) (now (ars .entry))) noRule (now (places .entry)) rs n → m ≡ least (unfit rs) n) ⌝ }
 {
     let mut j: usize = 0;
@@ -141,7 +190,7 @@ pub fn judge(
     flags: &mut [u8],
     places: &mut [usize],
 ) -> Judged
-    requires { ⌜ (length (now s) ≤ 2 ^ 32) × (length (now arities) ≡ 29) × (36 ≤ length (now ars)) × (36 ≤ length (now flags)) × (64 ≤ length (now places)) ⌝ }
+    requires { ⌜ (length (now s) ≤ longest) × (length (now arities) ≡ tagCount) × (symbolCount ≤ length (now ars)) × (symbolCount ≤ length (now flags)) × (mostRules ≤ length (now places)) ⌝ }
     ensures told { λ r. ⌜ verdictOf r ≡ judged (protocol (now (s .entry))) ⌝ }
     ensures index { λ r. ⌜ Indexes (now (s .entry)) r (now (arities .exit)) (now (ars .exit)) (now (flags .exit)) (now (places .exit)) ⌝ }
 {

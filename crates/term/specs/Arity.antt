@@ -5,6 +5,7 @@ use mathlib.Core.Option.{Option, some, none}
 use lib.ListN.{getD}
 use lib.Dec.{ltb, eqb}
 use Rattle.lists.specs.Choice.{pick}
+use Rattle.term.specs.Tags.{firstFunction, mostFunctions}
 -- their laws
 pub mod Laws
 
@@ -15,7 +16,7 @@ undeclared = 255
 -- the arity of each tag in a table of slots; tags 0 to 2 are leaves and no functions
 unfoldable pub arity : List ℕ → ℕ → Option ℕ
 arity slots f =
-    pick (ltb f 3) none (pick (eqb (getD slots f undeclared) undeclared) none (some (getD slots f undeclared)))
+    pick (ltb f firstFunction) none (pick (eqb (getD slots f undeclared) undeclared) none (some (getD slots f undeclared)))
 
 -- 3 one; 4 enc; 5 dec; 6 h; 7 pair; 8 fst; 9 snd; 10 exp; 11 inv; 12 mul
 abbrev pub builtin : List ℕ
@@ -29,4 +30,4 @@ padded (suc n) (a ∷ l) = a ∷ padded n l
 
 -- document 01's table, for the declared arities of the free functions: "13+j free function j (j from 0)", 16 at most
 unfoldable pub slots : List ℕ → List ℕ
-slots free = builtin ++ padded 16 free
+slots free = builtin ++ padded mostFunctions free

@@ -9,6 +9,7 @@ use Rattle.number.specs.Reading.{Read, got, fault, andThen, readNumber, many}
 use Rattle.term.specs.declared.Symbol.{Symbol}
 use Rattle.term.specs.declared.Symbol.the-variants as sy
 use Rattle.term.specs.Term.{Kind, variable, public, fresh, Term, leaf, app, Terms, nil, _&_}
+use Rattle.term.specs.Tags.{firstFunction}
 use Rattle.term.specs.Arity.{arity}
 -- a term goes forward, and how deep it is does not matter
 pub mod Laws
@@ -34,7 +35,7 @@ opAt t (some k) e = sy.Op t k e
 opAt t none e = sy.Fault
 
 abbrev pub symbolOf : List ℕ → List ℕ → Read ℕ → Symbol
-symbolOf s slots (got t e) = pick (ltb t 3) (nameAt t (readNumber s e)) (opAt t (arity slots t) e)
+symbolOf s slots (got t e) = pick (ltb t firstFunction) (nameAt t (readNumber s e)) (opAt t (arity slots t) e)
 symbolOf s slots fault = sy.Fault
 
 unfoldable pub symbolAt : List ℕ → List ℕ → ℕ → Symbol

@@ -4,6 +4,7 @@ use mathlib.Core.List.{List, [], _++_}
 use mathlib.Core.Option.{Option, some}
 use mathlib.Core.Path.{_≡_}
 use Rattle.number.specs.Groups.{groups, numberLimit}
+use Rattle.term.specs.Tags.{variableTag, publicTag, freshTag}
 -- the encoding is read in one way only
 pub mod Laws
 
@@ -23,9 +24,9 @@ mutual
     _&_ : Term → Terms → Terms
 
 abbrev pub tagOf : Kind → ℕ
-tagOf variable = 0
-tagOf public = 1
-tagOf fresh = 2
+tagOf variable = variableTag
+tagOf public = publicTag
+tagOf fresh = freshTag
 
 abbrev pub count : Terms → ℕ
 count nil = 0

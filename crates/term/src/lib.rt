@@ -1,16 +1,60 @@
 // Terms in the files: prefix order, tag first.
 ghost use mathlib.Core.Path.{_≡_};
-ghost use Prim.Native.Nat.{_^_, _≤_, _<_, _+_};
+ghost use Prim.Native.Nat.{_≤_, _<_, _+_};
 ghost use lib.ListN.{length, getD};
+ghost use Rattle.octets.specs.Limits.{longest};
 ghost use Rattle.number.specs.Reading.{readNumber, many};
+ghost use Rattle.term.specs.Tags.{firstFunction};
 ghost use Rattle.term.specs.Arity.{undeclared, arity};
 ghost use Rattle.term.specs.Reader.{nameAt, opAt, symbolAt, term};
 ghost use Rattle.term.specs.Walk.{hits, walked, walks, ended, endeds, bytesOf};
 ghost use Rattle.term.specs.Walk.Laws.{stepOf};
 use number::Number;
 
+// "0 variable and its number; 1 public name and its number; 2 fresh name and its number"
+pub const VARIABLE: usize = 0;
+
+pub const PUBLIC: usize = 1;
+
+pub const FRESH: usize = 2;
+
+// "3 one; 4 enc; 5 dec; 6 h; 7 pair; 8 fst; 9 snd; 10 exp; 11 inv; 12 mul"
+pub const ONE: usize = 3;
+
+pub const ENC: usize = 4;
+
+pub const DEC: usize = 5;
+
+pub const PAIR: usize = 7;
+
+pub const FST: usize = 8;
+
+pub const SND: usize = 9;
+
+pub const EXP: usize = 10;
+
+pub const INV: usize = 11;
+
+pub const MUL: usize = 12;
+
+// The tags of functions begin here; "13+j free function j (j from 0)", of which there are 16 at most.
+pub const FIRST_FUNCTION: usize = ONE;
+
+pub const FIRST_FREE: usize = 13;
+
+pub const MOST_FUNCTIONS: usize = 16;
+
+pub const TAGS: usize = FIRST_FREE + MOST_FUNCTIONS;
+
 // The slot of a tag that no function has.
 pub const UNDECLARED: u8 = 255;
+
+// "at most 256 symbols", and the bytes that are kept free for a term: five a symbol, a tag and a number of four groups.
+pub const MOST_SYMBOLS: usize = 256;
+
+const SYMBOL_ROOM: usize = 5;
+
+pub const TERM_ROOM: usize = SYMBOL_ROOM * MOST_SYMBOLS;
 
 // "Fresh and public names are two incomparable sets, each numbered from 0."
 pub struct Fresh(pub u32);
@@ -54,7 +98,7 @@ fn slot(arities: &[u8], tag: usize) -> u8
 
 // The function of a tag, and the place behind the tag.
 fn op_at(arities: &[u8], tag: usize, next: usize) -> Symbol
-    requires { ⌜ 3 ≤ tag ⌝ }
+    requires { ⌜ firstFunction ≤ tag ⌝ }
     ensures { λ r. ⌜ r ≡ opAt tag (arity (now (arities .entry)) tag) next ⌝ }
 {
     let k = slot(arities, tag);
@@ -81,7 +125,7 @@ pub fn symbol_at(s: &[u8], arities: &[u8], at: usize) -> Symbol
     match number::read_number(s, at) {
         Number::Value(t, e) => {
             let tag = t as usize;
-            if tag < 3 {
+            if tag < FIRST_FUNCTION {
                 return leaf_at(s, tag, e);
             }
             op_at(arities, tag, e)
@@ -117,7 +161,7 @@ pub fn walk_terms(
     lo: usize,
     hi: usize,
 ) -> Walk
-    requires { ⌜ (length (now s) ≤ 2 ^ 32) × (k ≤ 2 ^ 32) ⌝ }
+    requires { ⌜ (length (now s) ≤ longest) × (k ≤ longest) ⌝ }
     ensures { λ r. ⌜ r ≡ walks kind lo hi (many (term (now (s .entry)) (now (arities .entry))) k at) ⌝ }
 {
     let mut i = at;
@@ -142,7 +186,7 @@ pub fn walk_terms(
 
 // The same for one term.
 pub fn walk_term(s: &[u8], arities: &[u8], at: usize, kind: usize, lo: usize, hi: usize) -> Walk
-    requires { ⌜ length (now s) ≤ 2 ^ 32 ⌝ }
+    requires { ⌜ length (now s) ≤ longest ⌝ }
     ensures { λ r. ⌜ r ≡ walked kind lo hi (term (now (s .entry)) (now (arities .entry)) at) ⌝ }
 {
     walk_terms(s, arities, at, 1, kind, lo, hi)
@@ -150,10 +194,10 @@ pub fn walk_term(s: &[u8], arities: &[u8], at: usize, kind: usize, lo: usize, hi
 
 // Passes over k terms from a place on.
 pub fn terms_end(s: &[u8], arities: &[u8], at: usize, k: usize) -> Part
-    requires { ⌜ (length (now s) ≤ 2 ^ 32) × (k ≤ 2 ^ 32) ⌝ }
+    requires { ⌜ (length (now s) ≤ longest) × (k ≤ longest) ⌝ }
     ensures { λ r. ⌜ r ≡ endeds (many (term (now (s .entry)) (now (arities .entry))) k at) ⌝ }
 {
-    match walk_terms(s, arities, at, k, 0, 0, 0) {
+    match walk_terms(s, arities, at, k, VARIABLE, 0, 0) {
         Walk::End(e, n, _) => Part::End(e, n),
         Walk::Fault => Part::Fault,
     }
@@ -161,7 +205,7 @@ pub fn terms_end(s: &[u8], arities: &[u8], at: usize, k: usize) -> Part
 
 // Passes over the term at a place.
 pub fn term_end(s: &[u8], arities: &[u8], at: usize) -> Part
-    requires { ⌜ length (now s) ≤ 2 ^ 32 ⌝ }
+    requires { ⌜ length (now s) ≤ longest ⌝ }
     ensures { λ r. ⌜ r ≡ ended (term (now (s .entry)) (now (arities .entry)) at) ⌝ }
 {
     terms_end(s, arities, at, 1)
@@ -169,7 +213,7 @@ pub fn term_end(s: &[u8], arities: &[u8], at: usize) -> Part
 
 // The bytes of the term at a place, as a part of the caller's slice; none where no term stands.
 pub fn term_part<'a>(s: &'a [u8], arities: &[u8], at: usize) -> &'a [u8]
-    requires { ⌜ length (now s) ≤ 2 ^ 32 ⌝ }
+    requires { ⌜ length (now s) ≤ longest ⌝ }
     ensures { λ r. ⌜ now r ≡ bytesOf (term (now (s .entry)) (now (arities .entry)) at) ⌝ }
 {
     match term_end(s, arities, at) {

@@ -4,6 +4,7 @@ use mathlib.Core.Path.{_≡_, ap, subst}
 use mathlib.Core.List.{List}
 use mathlib.Core.Logic.{_↔_, inl, inr}
 use native.Mathlib.Omega.{arith}
+use Rattle.term.specs.Sizes.{mostSymbols}
 use Rattle.term.specs.Term.{Term, Terms, nil, _&_, encodes, symbols, Formed, Formeds, InRange, InRanges}
 use Rattle.term.specs.Arity.{arity}
 use Rattle.message.specs.Canonical.{Canonical}
@@ -16,7 +17,7 @@ use Rattle.message.specs.Filled.{filled, filleds}
 use Rattle.message.specs.Filled.Laws.{filled-canon, filleds-canon}
 use Rattle.canonical.specs.Builtins.{Builtins, group}
 use Rattle.canonical.specs.Loose.Laws.{sub-range}
-use Rattle.canonical.specs.Contract.{mostSymbols, Value, Job}
+use Rattle.canonical.specs.Contract.{Value, Job}
 
 module _ (slots vals starts src : List ℕ) (at k n o : ℕ) (θ : ℕ → Term) (ts : Terms) (J : Job slots vals starts src at k n o θ ts) where
   pub filled-canons : filleds θ ts ≡ canons (subs θ ts)

@@ -8,6 +8,7 @@ use mathlib.Core.Option.{Option, some}
 use native.Mathlib.Omega.{arith}
 use lib.ListN.{length, length-append}
 use borrow.Author.Tests.{ne-eqb}
+use Rattle.term.specs.Tags.{expTag}
 use Rattle.lists.specs.Choice.{clash}
 use Rattle.number.specs.Groups.{groups}
 use Rattle.term.specs.Term.{variable, public, fresh, Term, leaf, app, Terms, nil, _&_}
@@ -164,7 +165,7 @@ module _ (ar : ℕ → Option ℕ) (g : FitArities ar) (θ : ℕ → Term) where
       (parts-build σ (neg l) (entries-neg (Formed ar) l (formed-sums σ (filleds θ ts) v)) (entries-neg Atom l (sums-atoms (filleds θ ts)))
       (asc-neg l (sums-asc (filleds θ ts)))) c w
   function inside f ts r is-exp s v c w =
-      whole inside (app 10 ts) (closed-other inside 10 (mades false θ ts) refl ∙ ap (mk rules 10) (s .are refl)) c w
+      whole inside (app expTag ts) (closed-other inside expTag (mades false θ ts) refl ∙ ap (mk rules expTag) (s .are refl)) c w
   function inside f ts r (is-plain p) s v c w =
       let e : isProduct f ≡ false = ordinary-product f p in
       whole inside (app f ts) (closed-other inside f (mades (isProduct f) θ ts) e ∙ ap (mk rules f) (s .are e)) c w

@@ -6,6 +6,7 @@ use mathlib.Core.List.{List}
 use native.Mathlib.Omega.{arith}
 use lib.ListN.{length, drop, length-append}
 use borrow.Author.Tests.{eq-eqb, ne-eqb}
+use Rattle.term.specs.Tags.{oneTag, invTag, mulTag}
 use Rattle.lists.specs.Choice.{cut-eq, clash}
 use Rattle.number.specs.Groups.{groups}
 use Rattle.number.specs.Groups.Laws.{groups-some}
@@ -22,16 +23,16 @@ use Rattle.factors.specs.Way.{wayAt, wayOf}
 
 -- ── at each function ──
 module _ (m : Bool) (f k e : ℕ) where
-  pub way-one : f ≡ 3 → way.Into m k e ≡ wayAt m f k e
+  pub way-one : f ≡ oneTag → way.Into m k e ≡ wayAt m f k e
   way-one h = simp (eq-eqb f 3 h)
 
-  pub way-mul : (f ≡ 3 → ⊥) → f ≡ 12 → way.Into m k e ≡ wayAt m f k e
+  pub way-mul : (f ≡ oneTag → ⊥) → f ≡ mulTag → way.Into m k e ≡ wayAt m f k e
   way-mul a h = simp (ne-eqb f 3 a, eq-eqb f 12 h)
 
-  pub way-inv : (f ≡ 3 → ⊥) → (f ≡ 12 → ⊥) → f ≡ 11 → way.Into (not m) k e ≡ wayAt m f k e
+  pub way-inv : (f ≡ oneTag → ⊥) → (f ≡ mulTag → ⊥) → f ≡ invTag → way.Into (not m) k e ≡ wayAt m f k e
   way-inv a b h = simp (ne-eqb f 3 a, ne-eqb f 12 b, eq-eqb f 11 h)
 
-  pub way-other : (f ≡ 3 → ⊥) → (f ≡ 12 → ⊥) → (f ≡ 11 → ⊥) → way.Factor ≡ wayAt m f k e
+  pub way-other : (f ≡ oneTag → ⊥) → (f ≡ mulTag → ⊥) → (f ≡ invTag → ⊥) → way.Factor ≡ wayAt m f k e
   way-other a b c = simp (ne-eqb f 3 a, ne-eqb f 12 b, ne-eqb f 11 c)
 
 -- ── at a term that stands there ──

@@ -5,6 +5,7 @@ use mathlib.Core.Logic.{⊎-elim, inl, inr}
 use mathlib.Core.Path.{_≡_, refl, ap, sym, _∙_, subst}
 use native.Mathlib.Omega.{arith}
 use lib.ListN.{length, getD, drop, length-append, length-map}
+use Rattle.term.specs.Sizes.{mostSymbols}
 use Rattle.octets.specs.Head.{Bytes}
 use Rattle.octets.specs.Splice.Prefix.{Wrote, widen}
 use Rattle.number.specs.Layout.{flat}
@@ -16,7 +17,7 @@ use Rattle.message.specs.Substitution.{sub, subs, Occurs, Occurss}
 use Rattle.message.specs.Theorems.{fewer-bytes}
 use Rattle.message.specs.Canon.{canon}
 use Rattle.canonical.specs.Builtins.{group}
-use Rattle.canonical.specs.Contract.{mostSymbols, Job, Ready, Done}
+use Rattle.canonical.specs.Contract.{Job, Ready, Done}
 use Rattle.canonical.specs.Contract.Laws.{written-canons}
 use Rattle.protocol.specs.Protocol.{Fact}
 use Rattle.protocol.specs.Places.{termPlace}

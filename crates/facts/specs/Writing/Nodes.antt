@@ -6,6 +6,8 @@ use mathlib.Core.Option.{some, Option·some-injective}
 use mathlib.Core.Path.{_≡_, refl, ap, sym, _∙_, subst}
 use native.Mathlib.Omega.{arith}
 use lib.ListN.{length, getD, getElem?}
+use Rattle.octets.specs.Limits.{longest}
+use Rattle.term.specs.Sizes.{mostSymbols}
 use Rattle.octets.specs.Head.{Bytes}
 use Rattle.number.specs.Groups.{numberLimit}
 use Rattle.lists.specs.Lists.{anyBy, _∈_}
@@ -19,7 +21,6 @@ use Rattle.message.specs.Canonical.{Canonical}
 use Rattle.message.specs.Substitution.{sub, Ground}
 use Rattle.message.specs.Canon.{canon}
 use Rattle.canonical.specs.Builtins.{Builtins, declared}
-use Rattle.canonical.specs.Contract.{mostSymbols, longest}
 use Rattle.canonical.specs.Contract.Laws.{own-canonical}
 use Rattle.protocol.specs.Protocol.{Fact, Rule, Own, Protocol, part, noFact, factArities, fact, leafIn}
 use Rattle.protocol.specs.Protocol.Limits.{FactWithin, OwnWithin, RuleWithin, Within}

@@ -6,6 +6,8 @@ use mathlib.Core.Logic.{⊎-elim, inl, inr}
 use mathlib.Core.Path.{_≡_, refl}
 use native.Mathlib.Omega.{arith}
 use lib.ListN.{length, length-append}
+use Rattle.octets.specs.Limits.{longest}
+use Rattle.term.specs.Sizes.{mostSymbols}
 use Rattle.octets.specs.Head.{Bytes}
 use Rattle.number.specs.Groups.{numberLimit}
 use Rattle.number.specs.Layout.{flat}
@@ -18,7 +20,7 @@ use Rattle.message.specs.Canon.{canon}
 use Rattle.canonical.specs.Builtins.{Builtins}
 use Rattle.canonical.specs.Size.{bytes-few}
 use Rattle.canonical.specs.Loose.Laws.{sub-range}
-use Rattle.canonical.specs.Contract.{mostSymbols, longest, Value}
+use Rattle.canonical.specs.Contract.{Value}
 use Rattle.protocol.specs.Protocol.{Fact, fact, leafIn}
 use Rattle.protocol.specs.Protocol.Limits.{TermWithin}
 use Rattle.protocol.specs.Places.{Here}

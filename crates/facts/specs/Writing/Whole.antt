@@ -5,6 +5,7 @@ use mathlib.Core.Logic.{inl, inr}
 use mathlib.Core.Path.{_≡_, refl, ap, sym, _∙_, subst, subst₂}
 use native.Mathlib.Omega.{arith}
 use lib.ListN.{length, getD, drop, length-append}
+use Rattle.term.specs.Sizes.{mostSymbols}
 use Rattle.octets.specs.Head.{Bytes, Stands}
 use Rattle.octets.specs.Splice.Prefix.{Wrote, widen}
 use Rattle.number.specs.Reading.{Read, andThen, below, many}
@@ -21,7 +22,7 @@ use Rattle.message.specs.Theorems.{fewer-bytes}
 use Rattle.message.specs.Parts.Entries.{Each}
 use Rattle.message.specs.Canon.{canon, canons}
 use Rattle.canonical.specs.Builtins.{Builtins, group}
-use Rattle.canonical.specs.Contract.{mostSymbols, Job, Ready, Done}
+use Rattle.canonical.specs.Contract.{Job, Ready, Done}
 use Rattle.canonical.specs.Contract.Laws.{written-canons}
 use Rattle.protocol.specs.Protocol.{Fact, ruleTerm, fact}
 use Rattle.protocol.specs.Protocol.Limits.{TermWithin}

@@ -4,6 +4,7 @@ use mathlib.Core.Path.{_≡_, refl, sym, _∙_, ap, subst}
 use mathlib.Core.Logic.{_≢_, ⊎-elim}
 use mathlib.Core.Option.{Option, some}
 use native.Mathlib.Omega.{arith}
+use Rattle.term.specs.Tags.{expTag}
 use Rattle.lists.specs.Choice.{clash}
 use Rattle.term.specs.Term.{variable, public, fresh, Term, leaf, app, Terms, nil, _&_, count}
 use Rattle.message.specs.Functions.{one, exp}
@@ -130,8 +131,8 @@ module _ (σ : Theory) where
 
   exp-canonical : (x y : Term) → WF σ x → WF σ y → CanonicalBy S x → CanonicalBy S y → CanonicalBy S (mkExp x y)
   exp-canonical x y w v c d =
-      let o = as2 10 x in
-      let s = as2-view 10 x in
+      let o = as2 expTag x in
+      let s = as2-view expTag x in
       raise-canonical (baseOf o x) (add (expoOf o) (parts y)) (base-canonical x o s w c) (base-no-exp x o s w c)
       (entries-add (WF σ) (expoOf o) (parts y) (expo-formed x o s w) (formed-parts σ y v))
       (entries-add (Factor S) (expoOf o) (parts y) (expo-entries x o s w c) (canonical-entries σ S y v d))
@@ -140,7 +141,7 @@ module _ (σ : Theory) where
   -- ── the canonical form ──
   mk-canonical : (f : ℕ) (ts : Terms) (k : Role) → RoleOf f k → WF σ (app f ts) → Canonicals S ts → CanonicalBy S (mkAt (σ .rule) k f ts)
   mk-canonical f ts k is-one w c = canonical-build S (sums ts) (sums-asc ts) (sums-entries σ S ts (w .1) c)
-  mk-canonical f ts k is-exp w c = on2-ind (CanonicalBy S) mkExp 10 ts (arity-count σ 10 ts 2 (σ .arities .exp-arity) w) (λ x y e.
+  mk-canonical f ts k is-exp w c = on2-ind (CanonicalBy S) mkExp expTag ts (arity-count σ expTag ts 2 (σ .arities .exp-arity) w) (λ x y e.
       let v = subst (WFs σ) e (w .1) in let d = two-args S (subst (Canonicals S) e c) in exp-canonical x y (v .0) (v .1 .0) (d .0) (d .1))
   mk-canonical f ts k is-inv w c =
       canonical-build S (neg (sums ts)) (asc-neg (sums ts) (sums-asc ts)) (entries-neg (Factor S) (sums ts) (sums-entries σ S ts (w .1) c))

@@ -4,6 +4,7 @@ use mathlib.Core.Path.{_≡_, refl, sym, _∙_, ap, ap₂}
 use mathlib.Core.Logic.{_≢_}
 use mathlib.Core.Option.{Option, some}
 use lib.IntN.{_+ℤ_, negℤ, +ℤ-idr, +ℤ-assoc, +ℤ-comm, +ℤ-invr, negℤ-negℤ}
+use Rattle.term.specs.Tags.{expTag}
 use Rattle.term.specs.Term.{variable, public, fresh, Term, leaf, app, Terms, nil, _&_}
 use Rattle.message.specs.Functions.{one, exp, inv, mul}
 use Rattle.message.specs.Equations.{equation, reflexive, symmetric, transitive, congruent, same-none, same-more}
@@ -78,19 +79,19 @@ module _ (σ : Theory) where
   no-exp-as2 b o (isNot n) h = refl
   no-exp-as2 b o (isTwo u v) h = absurd (h u v refl)
 
-  raise-base : (b : Term) (l : Exps) → ((u v : Term) → b ≢ exp u v) → baseOf (as2 10 (raise b l)) (raise b l) ≡ b
-  raise-base b empty h = ap (λ (o : Two). baseOf o b) (no-exp-as2 b (as2 10 b) (as2-view 10 b) h)
+  raise-base : (b : Term) (l : Exps) → ((u v : Term) → b ≢ exp u v) → baseOf (as2 expTag (raise b l)) (raise b l) ≡ b
+  raise-base b empty h = ap (λ (o : Two). baseOf o b) (no-exp-as2 b (as2 expTag b) (as2-view expTag b) h)
   raise-base b (part t k l) h = refl
 
   raise-expo :
-      (b : Term) (l : Exps) → ((u v : Term) → b ≢ exp u v) → Entries (WF σ) l → Entries Atom l → Ascending l → expoOf (as2 10 (raise b l)) ≡ l
-  raise-expo b empty h w a s = ap expoOf (no-exp-as2 b (as2 10 b) (as2-view 10 b) h)
+      (b : Term) (l : Exps) → ((u v : Term) → b ≢ exp u v) → Entries (WF σ) l → Entries Atom l → Ascending l → expoOf (as2 expTag (raise b l)) ≡ l
+  raise-expo b empty h w a s = ap expoOf (no-exp-as2 b (as2 expTag b) (as2-view expTag b) h)
   raise-expo b (part t k l) h w a s = parts-build σ (part t k l) w a s
 
   at-exp : (x y z : Term) → WF σ x → WF σ y → WF σ z → CanonicalBy S x → mkExp (mkExp x y) z ≡ mkExp x (build (parts (mul y z)))
   at-exp x y z wx wy wz c =
-      let o = as2 10 x in
-      let v = as2-view 10 x in
+      let o = as2 expTag x in
+      let v = as2-view expTag x in
       let b = baseOf o x in
       let e = expoOf o in
       let l = add e (parts y) in
@@ -121,8 +122,8 @@ module _ (σ : Theory) where
 
   at-exp-one : (x : Term) → WF σ x → CanonicalBy S x → mkExp x one ≡ x
   at-exp-one x w c =
-      let o = as2 10 x in
-      let v = as2-view 10 x in
+      let o = as2 expTag x in
+      let v = as2-view expTag x in
       let e = expoOf o in
       ap (raise (baseOf o x))
       (ext σ (add e empty) e (entries-add (WF σ) e empty (expo-formed σ x o v w) tt) (expo-formed σ x o v w) (asc-add e empty tt) (expo-asc o)

@@ -3,6 +3,7 @@ use Prim.Native.Nat.{ℕ}
 use mathlib.Core.Path.{_≡_, refl, sym, _∙_, ap, ap₂, subst}
 use mathlib.Core.Logic.{_≢_, _↔_}
 use lib.IntN.{_+ℤ_, negℤ}
+use Rattle.term.specs.Tags.{oneTag, expTag, invTag, mulTag}
 use Rattle.term.specs.Term.{Term, app, Terms, nil, _&_, encode}
 use Rattle.message.specs.Encoding.{encode-same}
 use Rattle.message.specs.Functions.{exp, inv, mul}
@@ -94,13 +95,13 @@ module _ (σ : Theory) where
       go (part t k l) q = ap (λ (z : Term). exp x z) q
 
   mk-fixed :
-      (f : ℕ) (ts : Terms) (k : Role) → RoleOf f k → f ≢ 3 → f ≢ 11 → f ≢ 12 → WF σ (app f ts) → Canonicals S ts → S (app f ts)
+      (f : ℕ) (ts : Terms) (k : Role) → RoleOf f k → f ≢ oneTag → f ≢ invTag → f ≢ mulTag → WF σ (app f ts) → Canonicals S ts → S (app f ts)
       → mkAt (σ .rule) k f ts ≡ app f ts
   mk-fixed f ts k is-one a b c w cs r = absurd (a refl)
-  mk-fixed f ts k is-exp a b c w cs r = on2-ind (λ z. z ≡ app 10 ts) mkExp 10 ts (arity-count σ 10 ts 2 (σ .arities .exp-arity) w) (λ x y e.
+  mk-fixed f ts k is-exp a b c w cs r = on2-ind (λ z. z ≡ app expTag ts) mkExp expTag ts (arity-count σ expTag ts 2 (σ .arities .exp-arity) w) (λ x y e.
       let v = subst (WFs σ) e (w .1) in
-      exp-fixed y x (as2 10 x) (as2-view 10 x) (canonical-is σ S y (v .1 .0) (two-args S (subst (Canonicals S) e cs) .1))
-      (subst (λ (z : Terms). S (app 10 z)) e r) ∙ ap (app 10) (sym e))
+      exp-fixed y x (as2 expTag x) (as2-view expTag x) (canonical-is σ S y (v .1 .0) (two-args S (subst (Canonicals S) e cs) .1))
+      (subst (λ (z : Terms). S (app expTag z)) e r) ∙ ap (app expTag) (sym e))
   mk-fixed f ts k is-inv a b c w cs r = absurd (b refl)
   mk-fixed f ts k is-mul a b c w cs r = absurd (c refl)
   mk-fixed f ts k (is-plain p) a b c w cs r = plain-fixed f ts (reduceAt (σ .rule f) f ts) (plainly (σ .rule) f ts) r

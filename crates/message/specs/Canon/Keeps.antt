@@ -5,6 +5,7 @@ use mathlib.Core.Path.{_≡_, refl, sym, _∙_, ap, subst}
 use mathlib.Core.Logic.{⊎-elim}
 use mathlib.Core.Option.{Option, some}
 use native.Mathlib.Omega.{arith}
+use Rattle.term.specs.Tags.{expTag}
 use Rattle.number.specs.Groups.{numberLimit}
 use Rattle.term.specs.Term.{variable, public, fresh, Term, leaf, app, Terms, nil, _&_, count, InRange, InRanges}
 use Rattle.message.specs.Functions.{exp, inv, mul}
@@ -56,10 +57,10 @@ module _ (σ : Theory) (P : Term → Type 0) (k : Kept σ P) where
 
   exp-in : (x y : Term) → P x → P y → P (mkExp x y)
   exp-in x y w v =
-      raise-in (baseOf (as2 10 x) x) (add (expoOf (as2 10 x)) (parts y)) (base-in x (as2 10 x) (as2-view 10 x) w)
-      (entries-add P (expoOf (as2 10 x)) (parts y) (expo-in x (as2 10 x) (as2-view 10 x) w) (parts-in y v))
+      raise-in (baseOf (as2 expTag x) x) (add (expoOf (as2 expTag x)) (parts y)) (base-in x (as2 expTag x) (as2-view expTag x) w)
+      (entries-add P (expoOf (as2 expTag x)) (parts y) (expo-in x (as2 expTag x) (as2-view expTag x) w) (parts-in y v))
 
-  on2-in : (ts : Terms) → P (app 10 ts) → Each P ts → P (on2 mkExp 10 ts)
+  on2-in : (ts : Terms) → P (app expTag ts) → Each P ts → P (on2 mkExp expTag ts)
   on2-in nil w v = w
   on2-in (x & nil) w v = w
   on2-in (x & (y & nil)) w v = exp-in x y (v .0) (v .1 .0)

@@ -1,6 +1,7 @@
 -- A well-formed term equals its canonical form: the derivations, by the table's equations.
 use Prim.Native.Nat.{ℕ}
 use mathlib.Core.Path.{sym, subst}
+use Rattle.term.specs.Tags.{oneTag, expTag, invTag, mulTag}
 use Rattle.term.specs.Term.{Term, leaf, app, Terms, nil, _&_}
 use Rattle.message.specs.Functions.{one, exp, mul}
 use Rattle.message.specs.Equations.{equation, reflexive, symmetric, transitive, congruent, same-none, same-more}
@@ -37,8 +38,8 @@ module _ (σ : Theory) where
 
   exp-sound : (x y : Term) → WF σ x → WF σ y → SameIn σ (exp x y) (mkExp x y)
   exp-sound x y w v =
-      let o = as2 10 x in
-      let s = as2-view 10 x in
+      let o = as2 expTag x in
+      let s = as2-view expTag x in
       let b = baseOf o x in
       let e = expoOf o in
       let wb : WF σ b = base-in σ (WF σ) (formed-kept σ) x o s w in
@@ -54,12 +55,12 @@ module _ (σ : Theory) where
       (raise-val b (add e (parts y)) wb (entries-add (WF σ) e (parts y) we wy))))
 
   mk-sound : (f : ℕ) (ts : Terms) (k : Role) → RoleOf f k → WF σ (app f ts) → SameIn σ (app f ts) (mkAt (σ .rule) k f ts)
-  mk-sound f ts k is-one w = parts-sound σ (app 3 ts) w
-  mk-sound f ts k is-exp w = on2-ind (SameIn σ (app 10 ts)) mkExp 10 ts (arity-count σ 10 ts 2 (σ .arities .exp-arity) w) (λ x y e.
+  mk-sound f ts k is-one w = parts-sound σ (app oneTag ts) w
+  mk-sound f ts k is-exp w = on2-ind (SameIn σ (app expTag ts)) mkExp expTag ts (arity-count σ expTag ts 2 (σ .arities .exp-arity) w) (λ x y e.
       let v = subst (WFs σ) e (w .1) in
-      subst (λ (z : Terms). SameIn σ (app 10 z) (mkExp x y)) (sym e) (exp-sound x y (v .0) (v .1 .0)))
-  mk-sound f ts k is-inv w = parts-sound σ (app 11 ts) w
-  mk-sound f ts k is-mul w = parts-sound σ (app 12 ts) w
+      subst (λ (z : Terms). SameIn σ (app expTag z) (mkExp x y)) (sym e) (exp-sound x y (v .0) (v .1 .0)))
+  mk-sound f ts k is-inv w = parts-sound σ (app invTag ts) w
+  mk-sound f ts k is-mul w = parts-sound σ (app mulTag ts) w
   mk-sound f ts k (is-plain p) w = plain-sound f ts (reduceAt (σ .rule f) f ts) (plainly (σ .rule) f ts) w
 
   mutual

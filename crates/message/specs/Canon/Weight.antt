@@ -5,6 +5,7 @@ use mathlib.Core.Logic.{⊎-elim}
 use native.Mathlib.Omega.{arith}
 use native.Mathlib.Nat.{mul-le-mul-right}
 use lib.IntN.{ℤ, pos, negsuc, _+ℤ_, natAbs}
+use Rattle.term.specs.Tags.{oneTag, expTag, invTag, mulTag}
 use Rattle.octets.specs.declared.Order.{Order}
 use Rattle.octets.specs.declared.Order.the-variants.{Less, Equal, Greater}
 use Rattle.term.specs.Term.{Kind, variable, public, fresh, Term, leaf, app, Terms, nil, _&_, count}
@@ -117,10 +118,10 @@ module _ (σ : Theory) (wl : Kind → ℕ → ℕ) (wa : ℕ → ℕ) (lpos : (s
   at-μ :
       (f : ℕ) (ts : Terms) (k : Role) → RoleOf f k → WF σ (app f ts) → μ (sums ts) ≤ Ss ts + count ts
       → μ (partsAt k (app f ts) (sums ts)) ≤ S (app f ts) + 1
-  at-μ f ts k is-one w h = omega (arith, arity-count σ 3 ts 0 (σ .arities .one-arity) w, h)
-  at-μ f ts k is-exp w h = single-μ (app 10 ts)
-  at-μ f ts k is-inv w h = omega (arith, arity-count σ 11 ts 1 (σ .arities .inv-arity) w, h, neg-μ (sums ts), inv1)
-  at-μ f ts k is-mul w h = omega (arith, arity-count σ 12 ts 2 (σ .arities .mul-arity) w, h, mul1)
+  at-μ f ts k is-one w h = omega (arith, arity-count σ oneTag ts 0 (σ .arities .one-arity) w, h)
+  at-μ f ts k is-exp w h = single-μ (app expTag ts)
+  at-μ f ts k is-inv w h = omega (arith, arity-count σ invTag ts 1 (σ .arities .inv-arity) w, h, neg-μ (sums ts), inv1)
+  at-μ f ts k is-mul w h = omega (arith, arity-count σ mulTag ts 2 (σ .arities .mul-arity) w, h, mul1)
   at-μ f ts k (is-plain p) w h = single-μ (app f ts)
 
   mutual
@@ -200,12 +201,12 @@ module _ (σ : Theory) (wl : Kind → ℕ → ℕ) (wa : ℕ → ℕ) (lpos : (s
       omega (arith, raise-S b (add (parts e) (parts y)), a, parts-μ e (w .1 .1 .0), parts-μ y v, apos 10, S-pos e)
 
   mkAt-weight : (f : ℕ) (ts : Terms) (k : Role) → RoleOf f k → WF σ (app f ts) → S (mkAt (σ .rule) k f ts) ≤ S (app f ts)
-  mkAt-weight f ts k is-one w = parts-S (app 3 ts) w
-  mkAt-weight f ts k is-exp w = on2-ind (λ z. S z ≤ S (app 10 ts)) mkExp 10 ts (arity-count σ 10 ts 2 (σ .arities .exp-arity) w) (λ x y e.
+  mkAt-weight f ts k is-one w = parts-S (app oneTag ts) w
+  mkAt-weight f ts k is-exp w = on2-ind (λ z. S z ≤ S (app expTag ts)) mkExp expTag ts (arity-count σ expTag ts 2 (σ .arities .exp-arity) w) (λ x y e.
       let v = subst (WFs σ) e (w .1) in
-      subst (λ (z : Terms). S (mkExp x y) ≤ S (app 10 z)) (sym e) (exp-S y x (as2 10 x) (as2-view 10 x) (v .0) (v .1 .0)))
-  mkAt-weight f ts k is-inv w = parts-S (app 11 ts) w
-  mkAt-weight f ts k is-mul w = parts-S (app 12 ts) w
+      subst (λ (z : Terms). S (mkExp x y) ≤ S (app expTag z)) (sym e) (exp-S y x (as2 expTag x) (as2-view expTag x) (v .0) (v .1 .0)))
+  mkAt-weight f ts k is-inv w = parts-S (app invTag ts) w
+  mkAt-weight f ts k is-mul w = parts-S (app mulTag ts) w
   mkAt-weight f ts k (is-plain p) w = plain-S f ts (reduceAt (σ .rule f) f ts) (plainly (σ .rule) f ts)
 
   pub mk-weight : (f : ℕ) (ts : Terms) → WF σ (app f ts) → weight wl wa (mk (σ .rule) f ts) ≤ weight wl wa (app f ts)

@@ -3,6 +3,7 @@ use Prim.Native.Nat.{ℕ, zero, suc}
 use mathlib.Core.Path.{_≡_, refl, sym, _∙_, ap, subst}
 use mathlib.Core.Logic.{_≢_}
 use lib.IntN.{pos, negsuc}
+use Rattle.term.specs.Tags.{oneTag, decTag, fstTag, sndTag, expTag, invTag, mulTag}
 use Rattle.term.specs.Term.{Term, app, Terms, nil, _&_}
 use Rattle.message.specs.Product.{Exps, empty, part, Ascending, times, ups, downs, chain, quotient, build}
 use Rattle.message.specs.Canonical.{Settled, CanonicalBy, product, Factors, noFactor, factor, Factor, name, node, Canonicals, noArg, arg}
@@ -13,7 +14,7 @@ use Rattle.message.specs.Parts.Laws.{parts-build}
 use Rattle.message.specs.Canon.Views.{tag, RoleOf, is-one, is-exp, is-inv, is-mul, is-plain, roleOf}
 
 -- ── a function without an equation ──
-pub free-settled : (f : ℕ) (ts : Terms) → f ≢ 5 → f ≢ 8 → f ≢ 9 → f ≢ 10 → Settled (app f ts)
+pub free-settled : (f : ℕ) (ts : Terms) → f ≢ decTag → f ≢ fstTag → f ≢ sndTag → f ≢ expTag → Settled (app f ts)
 free-settled f ts a b c d = record {
   no-dec = λ m k e. a (tag e);
   no-fst = λ x y e. b (tag e);
@@ -46,7 +47,7 @@ module _ (S : Term → Type 0) where
   factor-atom name = refl
   factor-atom (node {f = f} {ts = ts} a b c cs i) = go f ts (role f) (roleOf f) refl a b c
     where
-      go : (f : ℕ) (ts : Terms) (k : Role) → RoleOf f k → role f ≡ k → f ≢ 3 → f ≢ 11 → f ≢ 12 → Atom (app f ts)
+      go : (f : ℕ) (ts : Terms) (k : Role) → RoleOf f k → role f ≡ k → f ≢ oneTag → f ≢ invTag → f ≢ mulTag → Atom (app f ts)
       go f ts k is-one e a b c = absurd (a refl)
       go f ts k is-exp e a b c = refl
       go f ts k is-inv e a b c = absurd (b refl)

@@ -4,6 +4,7 @@ use mathlib.Core.Path.{_≡_, refl, sym, _∙_, ap}
 use mathlib.Core.Logic.{_≢_}
 use mathlib.Core.Bool.{Bool, true, false, not}
 use lib.IntN.{ℤ, negℤ, negℤ-+ℤ}
+use Rattle.term.specs.Tags.{oneTag, invTag, mulTag}
 use Rattle.octets.specs.declared.Order.{Order}
 use Rattle.octets.specs.declared.Order.the-variants.{Less, Equal, Greater}
 use Rattle.term.specs.Term.{Term, leaf, app, Terms, nil, _&_}
@@ -14,25 +15,25 @@ use Rattle.message.specs.Gather.{enterAt, enter, sign, pourAt, pour, pou
 
 -- ── at each function ──
 module _ (m : Bool) (ts : Terms) (l : Exps) where
-  pub pour-one : pour m (app 3 ts) l ≡ pours m ts l
+  pub pour-one : pour m (app oneTag ts) l ≡ pours m ts l
   unfolding pour
   pour-one = refl
 
-  pub pour-mul : pour m (app 12 ts) l ≡ pours m ts l
+  pub pour-mul : pour m (app mulTag ts) l ≡ pours m ts l
   unfolding pour
   pour-mul = refl
 
-  pub pour-inv : pour m (app 11 ts) l ≡ pours (not m) ts l
+  pub pour-inv : pour m (app invTag ts) l ≡ pours (not m) ts l
   unfolding pour
   pour-inv = refl
 
   -- "A factor is no mul, inv or one."
-  pub pour-factor : (f : ℕ) → f ≢ 3 → f ≢ 11 → f ≢ 12 → pour m (app f ts) l ≡ enter (app f ts) (sign m) l
+  pub pour-factor : (f : ℕ) → f ≢ oneTag → f ≢ invTag → f ≢ mulTag → pour m (app f ts) l ≡ enter (app f ts) (sign m) l
   unfolding pour
   pour-factor f a b c = go f (role f) (roleOf f) a b c
     where
       go :
-          (f : ℕ) (k : Role) → RoleOf f k → f ≢ 3 → f ≢ 11 → f ≢ 12
+          (f : ℕ) (k : Role) → RoleOf f k → f ≢ oneTag → f ≢ invTag → f ≢ mulTag
           → pourAt k (pours m ts l) (pours (not m) ts l) (enter (app f ts) (sign m) l) ≡ enter (app f ts) (sign m) l
       go f k is-one a b c = absurd (a refl)
       go f k is-exp a b c = refl

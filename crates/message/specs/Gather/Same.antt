@@ -4,6 +4,7 @@ use Prim.Native.Nat.{zero, suc}
 use mathlib.Core.Path.{_≡_, refl, sym, _∙_, ap, ap₂}
 use mathlib.Core.Bool.{Bool, true, false, not}
 use lib.IntN.{ℤ, pos, negsuc, _+ℤ_, negℤ, +ℤ-idl, +ℤ-idr, +ℤ-assoc, +ℤ-comm, negℤ-+ℤ, negℤ-negℤ}
+use Rattle.term.specs.Tags.{expTag}
 use Rattle.lists.specs.Choice.{pick, pick-same}
 use Rattle.octets.specs.Compare.{compareBytes}
 use Rattle.octets.specs.Compare.Laws.{compare-same}
@@ -236,5 +237,5 @@ module _ (σ : Theory) where
   raised-is y x o (isTwo b z) w v =
       same-power b (z & y & nil) (w .1 .1 .0, (v, tt)) ∙ ap (λ (l : Exps). raise b (add (parts z) l)) (add-empty (parts y) (parts-asc y))
 
-  pub same-exp : (x y : Term) → WF σ x → WF σ y → raised (as2 10 x) x y ≡ mkExp x y
-  same-exp x y w v = raised-is y x (as2 10 x) (as2-view 10 x) w v
+  pub same-exp : (x y : Term) → WF σ x → WF σ y → raised (as2 expTag x) x y ≡ mkExp x y
+  same-exp x y w v = raised-is y x (as2 expTag x) (as2-view expTag x) w v

@@ -7,6 +7,7 @@ use mathlib.Core.Bool.{Bool}
 use mathlib.Core.Option.{Option, some}
 use native.Mathlib.Omega.{arith}
 use borrow.Author.Tests.{ne-eqb}
+use Rattle.term.specs.Tags.{oneTag, decTag, fstTag, sndTag, expTag, invTag, mulTag}
 use Rattle.lists.specs.Choice.{pick, cut-eq, clash}
 use Rattle.term.specs.Term.{Term, app, nil, _&_}
 use Rattle.message.specs.Functions.{enc, pair}
@@ -40,11 +41,11 @@ absent f end a = refl
 absent f (row g ts u rows) a =
     ap (λ (b : Bool). pick b (some (record { args = ts; result = u })) (lookup rows f)) (ne-eqb f g (a .0)) ∙ absent f rows (a .1)
 
-pub no-rule : (f : ℕ) → f ≢ 5 → f ≢ 8 → f ≢ 9 → rules f ≡ Option.none
+pub no-rule : (f : ℕ) → f ≢ decTag → f ≢ fstTag → f ≢ sndTag → rules f ≡ Option.none
 no-rule f a b c = absent f figure (a, (b, (c, tt)))
 
 -- ── the rows are fit ──
-pub ordinary : (f : ℕ) → f ≢ 3 → f ≢ 10 → f ≢ 11 → f ≢ 12 → Ordinary f
+pub ordinary : (f : ℕ) → f ≢ oneTag → f ≢ expTag → f ≢ invTag → f ≢ mulTag → Ordinary f
 ordinary f a b c d = record { no-one = a; no-exp = b; no-inv = c; no-mul = d }
 
 enc-ordinary : Ordinary 4

@@ -10,7 +10,7 @@ use Rattle.lists.specs.Choice.{cut-lt, cut-eq, by-size, clash}
 use Rattle.octets.specs.Head.{head-at, head-of, Bytes, Stands, stands-within}
 use Rattle.octets.specs.Splice.{splice}
 use Rattle.octets.specs.Splice.Laws.{part-splice}
-use Rattle.number.specs.Groups.{groups, mostGroups, numberLimit}
+use Rattle.number.specs.Groups.{groups, mostGroups, numberLimit, base, roomGroups}
 use Rattle.number.specs.Groups.Laws.{groups-one, groups-more, groups-some}
 use Rattle.number.specs.Reading.{Read, got, fault, longer, readIn, readNumber, below}
 use Rattle.number.specs.Reading.Laws.{cut-got, then-got, then-fault}
@@ -158,9 +158,9 @@ module _ (s : List ℕ) (bytes : Bytes s) where
       (λ w r z q. subst (λ (x : ℕ). Written (suc k) s at x e) q (more-form k at w e inside l z (in-form k (at + 1) w e r)))))
       (λ out h. clash (cc))
 
-  -- a value of at most k groups, three or fewer of them
-  pub in-small : (k at v e : ℕ) → k ≤ 3 → readIn k s at ≡ got v e → v < 128 ^ 3
-  in-small k at v e l h = omega (arith, in-form k at v e h .small, pow-le-pow-right {n = 128} (omega arith) {i = k} {j = 3} l)
+  -- a value of fewer groups than the code has room for
+  pub in-small : (k at v e : ℕ) → k ≤ roomGroups - 1 → readIn k s at ≡ got v e → v < base ^ (roomGroups - 1)
+  in-small k at v e l h = omega (arith, in-form k at v e h .small, pow-le-pow-right {n = base} (omega arith) {i = k} {j = roomGroups - 1} l)
 
   pub read-form : (at v e : ℕ) → readNumber s at ≡ got v e → (v < numberLimit) × Stands s at (groups v) e
   unfolding readNumber numberLimit

@@ -7,6 +7,7 @@ use mathlib.Core.Option.{some}
 use native.Mathlib.Omega.{arith}
 use lib.ListN.{length, drop, length-append}
 use borrow.Author.Tests.{eq-eqb, ne-eqb}
+use Rattle.term.specs.Tags.{expTag}
 use Rattle.lists.specs.Choice.{cut-eq, clash}
 use Rattle.number.specs.Groups.{groups}
 use Rattle.number.specs.Groups.Laws.{groups-one}
@@ -22,10 +23,10 @@ use Rattle.factors.specs.Laid.Laws.{first-of, others-of, args-of}
 use Rattle.product.specs.declared.Base.the-variants as base
 use Rattle.product.specs.Base.{baseAt, baseOf}
 
-pub base-exp : (f e : ℕ) → f ≡ 10 → base.Power e ≡ baseAt f e
+pub base-exp : (f e : ℕ) → f ≡ expTag → base.Power e ≡ baseAt f e
 base-exp f e h = simp (eq-eqb f 10 h)
 
-pub base-other : (f e : ℕ) → (f ≡ 10 → ⊥) → base.Plain ≡ baseAt f e
+pub base-other : (f e : ℕ) → (f ≡ expTag → ⊥) → base.Plain ≡ baseAt f e
 base-other f e h = simp (ne-eqb f 10 h)
 
 -- ── the two arguments of an exp ──
@@ -70,7 +71,7 @@ module _ {slots s : List ℕ} {at e : ℕ} (group : FitArities (arity slots)) wh
   base-app : (f : ℕ) (ts : Terms) → OneAt slots s at e (app f ts) → baseOf (symbolAt s slots at) ≡ baseAt f (at + length (groups f))
   base-app f ts O = ap baseOf (symbol-of-app s slots f ts at (drop e s) (O .formed .0) (O .range .0) (O .there .there))
 
-  inner-of : (b : ℕ) (ts : Terms) → OneAt slots s at e (app 10 ts) → count ts ≡ 2 → b ≡ at + 1 → Inner slots s at e b (app 10 ts)
+  inner-of : (b : ℕ) (ts : Terms) → OneAt slots s at e (app expTag ts) → count ts ≡ 2 → b ≡ at + 1 → Inner slots s at e b (app expTag ts)
   inner-of b nil O c h = absurd (omega arith)
   inner-of b (x & nil) O c h = absurd (omega arith)
   inner-of b (x & (y & nil)) O c h = record { x = x; y = y; is = refl; start = h; args = args-two x y O }
@@ -89,7 +90,7 @@ module _ {slots s : List ℕ} {at e : ℕ} (group : FitArities (arity slots)) wh
       (λ q h. clash (cc))
 
   -- it is none
-  pub base-plain : (t : Term) → OneAt slots s at e t → baseOf (symbolAt s slots at) ≡ base.Plain → as2 10 t ≡ Two.not
+  pub base-plain : (t : Term) → OneAt slots s at e t → baseOf (symbolAt s slots at) ≡ base.Plain → as2 expTag t ≡ Two.not
   base-plain (leaf k n) O h = refl
   base-plain (app f ts) O h =
       cut-eq _ _ _ f 10 (sym (base-app f ts O) ∙ h)

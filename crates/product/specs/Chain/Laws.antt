@@ -6,6 +6,7 @@ use mathlib.Core.List.{List, [], _∷_, _++_, append-nil, append-assoc}
 use native.Mathlib.Omega.{arith}
 use native.Mathlib.Numerals.{add-one}
 use lib.ListN.{length, length-append}
+use Rattle.term.specs.Tags.{invTag, mulTag}
 use Rattle.lists.specs.Choice.{pick, clash}
 use Rattle.number.specs.Groups.Laws.{groups-one}
 use Rattle.term.specs.Term.{Term, app, Terms, nil, _&_, encode}
@@ -25,34 +26,34 @@ module _ (f : ℕ) (h : f < 128) (t : Term) where
   encode-two u = ap₂ _++_ (groups-one f h) (ap (λ (x : List ℕ). encode t ++ x) (append-nil (encode u)))
 
 -- ── repeated factors ──
-pub repeated-more : (n : ℕ) (x : List ℕ) → repeated (n + 1) x ≡ repeated n x ++ (12 ∷ x)
+pub repeated-more : (n : ℕ) (x : List ℕ) → repeated (n + 1) x ≡ repeated n x ++ (mulTag ∷ x)
 unfolding repeated
-repeated-more zero x = append-nil (12 ∷ x)
+repeated-more zero x = append-nil (mulTag ∷ x)
 repeated-more (suc n) x =
     rw add-one
-    (ap (λ (z : List ℕ). (12 ∷ x) ++ z) (rw add-one at (repeated-more n x)) ∙ sym (append-assoc (12 ∷ x) (repeated n x) (12 ∷ x)))
+    (ap (λ (z : List ℕ). (mulTag ∷ x) ++ z) (rw add-one at (repeated-more n x)) ∙ sym (append-assoc (mulTag ∷ x) (repeated n x) (mulTag ∷ x)))
 
 pub repeated-room : (i m : ℕ) (x : List ℕ) → i < m → length (repeated i x) + suc (length x) ≤ length (repeated m x)
 unfolding repeated
 repeated-room i zero x h = absurd (omega arith)
-repeated-room zero (suc m) x h = omega (arith, length-append (12 ∷ x) (repeated m x))
+repeated-room zero (suc m) x h = omega (arith, length-append (mulTag ∷ x) (repeated m x))
 repeated-room (suc i) (suc m) x h =
-    omega (arith, repeated-room i m x (omega arith), length-append (12 ∷ x) (repeated m x), length-append (12 ∷ x) (repeated i x))
+    omega (arith, repeated-room i m x (omega arith), length-append (mulTag ∷ x) (repeated m x), length-append (mulTag ∷ x) (repeated i x))
 
 row-times-more : (n : ℕ) (t u : Term) (us : Terms) → row (times n t (u & us)) ≡ repeated n (encode t) ++ row (u & us)
 unfolding row repeated
 row-times-more zero t u us = refl
-row-times-more (suc zero) t u us = sym (ap (λ (z : List ℕ). z ++ row (u & us)) (append-nil (12 ∷ encode t)))
+row-times-more (suc zero) t u us = sym (ap (λ (z : List ℕ). z ++ row (u & us)) (append-nil (mulTag ∷ encode t)))
 row-times-more (suc (suc n)) t u us =
-    ap (λ (z : List ℕ). (12 ∷ encode t) ++ z) (row-times-more (suc n) t u us)
-    ∙ sym (append-assoc (12 ∷ encode t) (repeated (suc n) (encode t)) (row (u & us)))
+    ap (λ (z : List ℕ). (mulTag ∷ encode t) ++ z) (row-times-more (suc n) t u us)
+    ∙ sym (append-assoc (mulTag ∷ encode t) (repeated (suc n) (encode t)) (row (u & us)))
 
 row-times-last : (n : ℕ) (t : Term) → row (times (suc n) t nil) ≡ repeated n (encode t) ++ encode t
 unfolding row repeated
 row-times-last zero t = refl
 row-times-last (suc n) t =
-    ap (λ (z : List ℕ). (12 ∷ encode t) ++ z) (row-times-last n t)
-    ∙ sym (append-assoc (12 ∷ encode t) (repeated n (encode t)) (encode t))
+    ap (λ (z : List ℕ). (mulTag ∷ encode t) ++ z) (row-times-last n t)
+    ∙ sym (append-assoc (mulTag ∷ encode t) (repeated n (encode t)) (encode t))
 
 -- one factor, repeated, and then the others
 pub row-times : (c : ℕ) (t : Term) (us : Terms) → 0 < c → row (times c t us) ≡ copies c (encode t) (any us) ++ row us
@@ -76,7 +77,7 @@ sides-down nil nil g h = clash (cc)
 sides-down nil (n & ns) g h = refl
 sides-down (p & ps) ns g h = clash (cc)
 
-pub sides-both : (ps ns : Terms) → any ps ≡ true → any ns ≡ true → sides ps ns ≡ (12 ∷ row ps) ++ (11 ∷ row ns)
+pub sides-both : (ps ns : Terms) → any ps ≡ true → any ns ≡ true → sides ps ns ≡ (mulTag ∷ row ps) ++ (invTag ∷ row ns)
 unfolding sides
 sides-both nil ns g h = clash (cc)
 sides-both (p & ps) nil g h = clash (cc)

@@ -1,7 +1,10 @@
 -- For a caller: a term that it wrote may be handed over, and what becomes of it counts as written in its place.
-use Prim.Native.Nat.{ℕ, _^_, _≤_}
+use Prim.Native.Nat.{ℕ, _≤_}
 use mathlib.Core.List.{List}
 use lib.ListN.{length}
+use Rattle.octets.specs.Limits.{longest}
+use Rattle.term.specs.Sizes.{mostSymbols, termRoom}
+use Rattle.term.specs.Tags.{expTag}
 use Rattle.lists.specs.Asks.{Promises, Promises₂}
 use Rattle.octets.specs.Splice.Prefix.{Wrote, wrote-there}
 use Rattle.term.specs.Term.{Term, nil, _&_, encode, symbols, Formed, InRange}
@@ -10,12 +13,11 @@ use Rattle.message.specs.Functions.{exp}
 use Rattle.message.specs.Rules.{FitArities}
 use Rattle.message.specs.Canon.{as2}
 use Rattle.message.specs.Gather.{multiplied, raised}
-use Rattle.factors.specs.Contracts.{most}
 use Rattle.product.specs.Writing.{wrote-over}
-use Rattle.product.specs.Contracts.{scratch, Whole, WholePower}
+use Rattle.product.specs.Contracts.{Whole, WholePower}
 
-module _ {slots out out₁ : List ℕ} {w o e : ℕ} (group : FitArities (arity slots)) (inside : o ≤ length out) (short : length out₁ ≤ 2 ^ 32) (room : e ≤ w) where
-  module _ (t : Term) (formed : Formed (arity slots) t) (range : InRange t) (few : symbols t ≤ most) (small : length (encode t) ≤ scratch)
+module _ {slots out out₁ : List ℕ} {w o e : ℕ} (group : FitArities (arity slots)) (inside : o ≤ length out) (short : length out₁ ≤ longest) (room : e ≤ w) where
+  module _ (t : Term) (formed : Formed (arity slots) t) (range : InRange t) (few : symbols t ≤ mostSymbols) (small : length (encode t) ≤ termRoom)
       (wrote : Wrote w out o out₁ e (encode t)) where
     pub wrote-whole : Whole slots out₁ o e t
     wrote-whole = record {
@@ -33,9 +35,9 @@ module _ {slots out out₁ : List ℕ} {w o e : ℕ} (group : FitArities (arity 
     then-multiplied out₂ r D = wrote-over inside room wrote (D t wrote-whole)
 
   pub then-raised :
-      (x y : Term) → Formed (arity slots) (exp x y) → InRange (exp x y) → symbols (exp x y) ≤ most → length (encode (exp x y)) ≤ scratch
+      (x y : Term) → Formed (arity slots) (exp x y) → InRange (exp x y) → symbols (exp x y) ≤ mostSymbols → length (encode (exp x y)) ≤ termRoom
       → Wrote w out o out₁ e (encode (exp x y)) → (out₂ : List ℕ) (r : ℕ) → Promises₂ (WholePower slots out₁ o e)
-      (λ (x y : Term). Wrote e out₁ o out₂ r (encode (raised (as2 10 x) x y)))
-      → Wrote w out o out₂ r (encode (raised (as2 10 x) x y))
+      (λ (x y : Term). Wrote e out₁ o out₂ r (encode (raised (as2 expTag x) x y)))
+      → Wrote w out o out₂ r (encode (raised (as2 expTag x) x y))
   then-raised x y formed range few small wrote out₂ r D =
       wrote-over inside room wrote (D x y (wrote-whole (exp x y) formed range few small wrote))

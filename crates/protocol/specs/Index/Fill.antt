@@ -7,6 +7,7 @@ use native.Mathlib.Numerals.{add-one}
 use borrow.Author.Count.{below-more}
 use lib.ListN.{length, getD, take, set, drop-of-length-le}
 use lib.Seq.{take-suc-set, getD-set-same, getD-set-other}
+use Rattle.protocol.specs.Figures.{flagCount, arityLimit, factArityLimit}
 use Rattle.octets.specs.Head.{Bytes}
 use Rattle.octets.specs.Splice.{splice}
 use Rattle.octets.specs.Splice.Laws.{take-past}
@@ -72,7 +73,7 @@ slots-none = refl
 -- j functions are read, and have their slots
 pub record Slotting (s : List ℕ) (at j i : ℕ) (arities : List ℕ) : Type 0 where
   pub items : List ℕ
-  pub there : many (below s 5) j at ≡ got items i
+  pub there : many (below s arityLimit) j at ≡ got items i
   pub slotted : arities ≡ slots items
 
 module _ (s : List ℕ) (at : ℕ) where
@@ -81,15 +82,15 @@ module _ (s : List ℕ) (at : ℕ) where
   slots-begin arities h = record { items = []; there = refl; slotted = h }
 
   pub slots-next :
-      (j i e v : ℕ) (arities : List ℕ) → Slotting s at j i arities → below s 5 i ≡ got v e → j < 16
+      (j i e v : ℕ) (arities : List ℕ) → Slotting s at j i arities → below s arityLimit i ≡ got v e → j < 16
       → Slotting s at (j + 1) e (set arities (13 + j) v)
   slots-next j i e v arities o h l =
       record {
         items = o .items ++ (v ∷ []);
-        there = rw add-one (many-snoc (below s 5) j at i e (o .items) v (o .there) h);
+        there = rw add-one (many-snoc (below s arityLimit) j at i e (o .items) v (o .there) h);
         slotted =
             ap (λ (r : List ℕ). set r (13 + j) v) (o .slotted)
-            ∙ slots-more (o .items) j v (many-length (below s 5) j at i (o .items) (o .there)) l;
+            ∙ slots-more (o .items) j v (many-length (below s arityLimit) j at i (o .items) (o .there)) l;
       }
 
 -- ── the fact symbols ──
@@ -98,17 +99,17 @@ asOwn (ow.Got a l e) = got (own-of a l) e
 asOwn ow.Fault = fault
 
 module _ (s : List ℕ) (at : ℕ) where
-  pub own-got : {a e l f : ℕ} → below s 9 at ≡ got a e → below s 2 e ≡ got l f → own s at ≡ got (own-of a l) f
+  pub own-got : {a e l f : ℕ} → below s factArityLimit at ≡ got a e → below s flagCount e ≡ got l f → own s at ≡ got (own-of a l) f
   unfolding own
-  own-got {a} {e} {l} {f} h k = then-got (below s 9 at) _ h ∙ then-got (below s 2 e) _ k
+  own-got {a} {e} {l} {f} h k = then-got (below s factArityLimit at) _ h ∙ then-got (below s flagCount e) _ k
 
-  pub own-first : below s 9 at ≡ fault → own s at ≡ fault
+  pub own-first : below s factArityLimit at ≡ fault → own s at ≡ fault
   unfolding own
-  own-first h = then-fault (below s 9 at) _ h
+  own-first h = then-fault (below s factArityLimit at) _ h
 
-  pub own-second : {a e : ℕ} → below s 9 at ≡ got a e → below s 2 e ≡ fault → own s at ≡ fault
+  pub own-second : {a e : ℕ} → below s factArityLimit at ≡ got a e → below s flagCount e ≡ fault → own s at ≡ fault
   unfolding own
-  own-second {a} {e} h k = then-got (below s 9 at) _ h ∙ then-fault (below s 2 e) _ k
+  own-second {a} {e} h k = then-got (below s factArityLimit at) _ h ∙ then-fault (below s flagCount e) _ k
 
   pub own-small : Bytes s → {a l e : ℕ} → own s at ≡ got (own-of a l) e → OwnWithin (own-of a l)
   own-small bytes {a} {l} {e} h = own-exact s bytes .form (own-of a l) at e h .0

@@ -6,6 +6,8 @@ use native.Mathlib.Omega.{arith}
 use lib.ListN.{length, take}
 use lib.Dec.{eqb}
 use borrow.Author.Tests.{eq-eqb, ne-eqb}
+use Rattle.term.specs.Tags.{mostFunctions}
+use Rattle.protocol.specs.Figures.{mostOwn, mostRules, arityLimit}
 use Rattle.lists.specs.Choice.{pick}
 use Rattle.octets.specs.Head.{Bytes}
 use Rattle.number.specs.Reading.{Read, got, fault, andThen, below, counted}
@@ -14,35 +16,35 @@ use Rattle.protocol.specs.Protocol.{Rule, Protocol, protocol-of, noRule,
 use Rattle.protocol.specs.Protocol.Exact.{protocol-form}
 use Rattle.protocol.specs.Index.{ToldOf, Slotted, Tabled, Placed, Entries}
 
-pub no-functions : (s : List ℕ) → counted s 16 (below s 5) 0 ≡ fault → protocol s ≡ fault
+pub no-functions : (s : List ℕ) → counted s mostFunctions (below s arityLimit) 0 ≡ fault → protocol s ≡ fault
 unfolding protocol
-no-functions s h = then-fault (counted s 16 (below s 5) 0) _ h
+no-functions s h = then-fault (counted s mostFunctions (below s arityLimit) 0) _ h
 
-module _ (s arities : List ℕ) (nf e : ℕ) (F : ToldOf (counted s 16 (below s 5) 0) (Slotted arities) nf e) where
-  pub no-symbols : counted s 32 (own s) e ≡ fault → protocol s ≡ fault
+module _ (s arities : List ℕ) (nf e : ℕ) (F : ToldOf (counted s mostFunctions (below s arityLimit) 0) (Slotted arities) nf e) where
+  pub no-symbols : counted s mostOwn (own s) e ≡ fault → protocol s ≡ fault
   unfolding protocol
-  no-symbols h = then-got (counted s 16 (below s 5) 0) _ (F .there) ∙ then-fault (counted s 32 (own s) e) _ h
+  no-symbols h = then-got (counted s mostFunctions (below s arityLimit) 0) _ (F .there) ∙ then-fault (counted s mostOwn (own s) e) _ h
 
-  module _ (ars flags : List ℕ) (m f : ℕ) (S : ToldOf (counted s 32 (own s) e) (Tabled ars flags) m f) where
+  module _ (ars flags : List ℕ) (m f : ℕ) (S : ToldOf (counted s mostOwn (own s) e) (Tabled ars flags) m f) where
     abbrev its-rule : ℕ → Read Rule
     its-rule = rule s arities (take (m + 4) ars)
 
     abbrev its-end : List Rule → ℕ → Read Protocol
     its-end rs g = pick (eqb g (length s)) (got (protocol-of (F .item) (S .item) rs) g) fault
 
-    behind-tables : protocol s ≡ andThen (counted s 64 its-rule f) its-end
+    behind-tables : protocol s ≡ andThen (counted s mostRules its-rule f) its-end
     unfolding protocol
     behind-tables =
-        then-got (counted s 16 (below s 5) 0) _ (F .there)
-        ∙ then-got (counted s 32 (own s) e) _ (S .there)
-        ∙ ap₂ (λ (a b : List ℕ). andThen (counted s 64 (rule s a b) f) its-end) (sym (F .says)) (sym (S .says .arities))
+        then-got (counted s mostFunctions (below s arityLimit) 0) _ (F .there)
+        ∙ then-got (counted s mostOwn (own s) e) _ (S .there)
+        ∙ ap₂ (λ (a b : List ℕ). andThen (counted s mostRules (rule s a b) f) its-end) (sym (F .says)) (sym (S .says .arities))
 
-    pub no-rules : counted s 64 its-rule f ≡ fault → protocol s ≡ fault
-    no-rules h = behind-tables ∙ then-fault (counted s 64 its-rule f) _ h
+    pub no-rules : counted s mostRules its-rule f ≡ fault → protocol s ≡ fault
+    no-rules h = behind-tables ∙ then-fault (counted s mostRules its-rule f) _ h
 
-    module _ (places : List ℕ) (n g : ℕ) (R : ToldOf (counted s 64 its-rule f) (Placed its-rule noRule places) n g) where
+    module _ (places : List ℕ) (n g : ℕ) (R : ToldOf (counted s mostRules its-rule f) (Placed its-rule noRule places) n g) where
       pub leftover : (g ≡ length s → ⊥) → protocol s ≡ fault
-      leftover h = behind-tables ∙ then-got (counted s 64 its-rule f) _ (R .there) ∙ simp (ne-eqb g (length s) h)
+      leftover h = behind-tables ∙ then-got (counted s mostRules its-rule f) _ (R .there) ∙ simp (ne-eqb g (length s) h)
 
       abbrev its-protocol : Protocol
       its-protocol = protocol-of (F .item) (S .item) (R .item)
@@ -50,7 +52,7 @@ module _ (s arities : List ℕ) (nf e : ℕ) (F : ToldOf (counted s 16 (below s 
       its-reading : g ≡ length s → protocol s ≡ got its-protocol (length s)
       its-reading z =
           behind-tables
-          ∙ then-got (counted s 64 its-rule f) _ (R .there)
+          ∙ then-got (counted s mostRules its-rule f) _ (R .there)
           ∙ ap (λ (k : ℕ). its-end (R .item) k) z
           ∙ simp (eq-eqb (length s) (length s) refl)
 

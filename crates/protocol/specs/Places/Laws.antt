@@ -4,6 +4,7 @@ use mathlib.Core.List.{List, [], _∷_, _++_}
 use mathlib.Core.Path.{_≡_, refl, ap, ap₂, sym, _∙_}
 use native.Mathlib.Omega.{arith}
 use lib.ListN.{length, getD}
+use Rattle.protocol.specs.Figures.{mostVariables, sortCount, listCount, factLimit, variableLimit}
 use Rattle.lists.specs.Choice.{cut, clash}
 use Rattle.number.specs.Reading.{Read, got, andThen, below, many, counted}
 use Rattle.number.specs.Reading.Laws.{cut-got, then-got}
@@ -45,13 +46,14 @@ module _ (s slots ars : List ℕ) where
   module _ (at : ℕ) (r : Rule) (stands : Here (layout s slots ars) r at) where
     pub record Parts : Type 0 where
       pub behind : ℕ
-      pub sorts : counted s 16 (below s 3) at ≡ got (r .sorts) behind
-      pub parts : many (facts s slots ars) 3 behind ≡ got (r .parts) (stands .next)
+      pub sorts : counted s mostVariables (below s sortCount) at ≡ got (r .sorts) behind
+      pub parts : many (facts s slots ars) listCount behind ≡ got (r .parts) (stands .next)
 
     pub rule-parts : Parts
     unfolding layout
     rule-parts =
-        cut-got (counted s 16 (below s 3) at) _ (stands .reads) (λ vs d hv h. cut-got (many (facts s slots ars) 3 d) _ h (λ ps f hp h.
+        cut-got (counted s mostVariables (below s sortCount) at) _ (stands .reads)
+        (λ vs d hv h. cut-got (many (facts s slots ars) listCount d) _ h (λ ps f hp h.
         let o : rule-of vs ps ≡ r = cc in
         let a : f ≡ stands .next = cc in
         record {
@@ -62,7 +64,7 @@ module _ (s slots ars : List ℕ) where
 
     sorts-are : sortsAt s at ≡ got (length (r .sorts)) (rule-parts .behind)
     unfolding sortsAt
-    sorts-are = then-got (counted s 16 (below s 3) at) _ (rule-parts .sorts)
+    sorts-are = then-got (counted s mostVariables (below s sortCount) at) _ (rule-parts .sorts)
 
     -- how many variables it has
     pub vars-law : valueOf (sortsAt s at) ≡ length (r .sorts)
@@ -72,17 +74,17 @@ module _ (s slots ars : List ℕ) where
     pub sort-law : (v : ℕ) → v < length (r .sorts) → valueOf (sortOf s at v) ≡ getD (r .sorts) v 0
     unfolding sortOf counted
     sort-law v l =
-        cut-got (below s 17 at) _ (rule-parts .sorts) (λ n c hn hm.
-        let len = many-length (below s 3) n c (rule-parts .behind) (r .sorts) hm in
+        cut-got (below s variableLimit at) _ (rule-parts .sorts) (λ n c hn hm.
+        let len = many-length (below s sortCount) n c (rule-parts .behind) (r .sorts) hm in
         let b : v < n = omega arith in
-        let z = nth-here (below s 3) 0 n c (rule-parts .behind) v (r .sorts) hm b in
-        let y = many-nth (below s 3) n c (rule-parts .behind) v (r .sorts) hm b in
+        let z = nth-here (below s sortCount) 0 n c (rule-parts .behind) v (r .sorts) hm b in
+        let y = many-nth (below s sortCount) n c (rule-parts .behind) v (r .sorts) hm b in
         ap valueOf
-        (then-got (below s 17 at) _ hn ∙ then-got (many (below s 3) v c) _ (y .before)
-        ∙ ap (below s 3) (sym (ap placeOf (y .before))) ∙ z .reads))
+        (then-got (below s variableLimit at) _ hn ∙ then-got (many (below s sortCount) v c) _ (y .before)
+        ∙ ap (below s sortCount) (sym (ap placeOf (y .before))) ∙ z .reads))
 
     -- list w stands at its place
-    pub list-law : (w : ℕ) → w < 3 → Here (facts s slots ars) (part w r) (listPlace s slots ars at w)
+    pub list-law : (w : ℕ) → w < listCount → Here (facts s slots ars) (part w r) (listPlace s slots ars at w)
     unfolding listPlace
     list-law w l =
         let h = nth-here (facts s slots ars) [] 3 (rule-parts .behind) (stands .next) w (r .parts) (rule-parts .parts) l in
@@ -94,15 +96,16 @@ module _ (s slots ars : List ℕ) where
   -- ── what stands in a list ──
   module _ (at : ℕ) (fs : List Fact) (stands : Here (facts s slots ars) fs at) where
     -- how many facts it has
-    pub count-law : valueOf (below s 9 at) ≡ length fs
+    pub count-law : valueOf (below s factLimit at) ≡ length fs
     unfolding facts counted
-    count-law = cut-got (below s 9 at) _ (stands .reads) (λ n d hn hm. ap valueOf hn ∙ sym (many-length (fact s slots ars) n d (stands .next) fs hm))
+    count-law = cut-got (below s factLimit at) _ (stands .reads) (λ n d hn hm. ap valueOf hn ∙ sym
+        (many-length (fact s slots ars) n d (stands .next) fs hm))
 
     -- fact i stands at its place
     pub fact-law : (i : ℕ) → i < length fs → Here (fact s slots ars) (getD fs i noFact) (factPlace s slots ars at i)
     unfolding facts counted factPlace
     fact-law i l =
-        cut-got (below s 9 at) _ (stands .reads) (λ n d hn hm.
+        cut-got (below s factLimit at) _ (stands .reads) (λ n d hn hm.
         let len = many-length (fact s slots ars) n d (stands .next) fs hm in
         let b : i < n = omega arith in
         let z = nth-here (fact s slots ars) noFact n d (stands .next) i fs hm b in

@@ -4,6 +4,7 @@ use mathlib.Core.List.{List}
 use mathlib.Core.Bool.{Bool}
 use mathlib.Core.Path.{_≡_, refl, ap, _∙_}
 use lib.ListN.{length}
+use Rattle.protocol.specs.Figures.{sortCount, factLimit, variableLimit}
 use Rattle.number.specs.Reading.{Read, got, fault, andThen, below, many, seen}
 use Rattle.number.specs.declared.Seen.{Seen}
 use Rattle.number.specs.declared.Seen.the-variants as sn
@@ -36,11 +37,11 @@ module _ (s slots ars : List ℕ) (at i : ℕ) where
   unfolding listPlace
   list-none h = place-then _ h
 
-  pub fact-got : {n e : ℕ} → below s 9 at ≡ got n e → factPlace s slots ars at i ≡ placeOf (many (fact s slots ars) i e)
+  pub fact-got : {n e : ℕ} → below s factLimit at ≡ got n e → factPlace s slots ars at i ≡ placeOf (many (fact s slots ars) i e)
   unfolding factPlace
   fact-got h = place-then _ h
 
-  pub fact-none : below s 9 at ≡ fault → factPlace s slots ars at i ≡ 0
+  pub fact-none : below s factLimit at ≡ fault → factPlace s slots ars at i ≡ 0
   unfolding factPlace
   fact-none h = place-then _ h
 
@@ -54,27 +55,28 @@ module _ (s slots ars : List ℕ) (at i : ℕ) where
 
 -- the sort of a variable
 unfoldable pub sortFrom : List ℕ → ℕ → ℕ → Read ℕ
-sortFrom s v at = andThen (many (below s 3) v at) (λ vs f. below s 3 f)
+sortFrom s v at = andThen (many (below s sortCount) v at) (λ vs f. below s sortCount f)
 
 module _ (s : List ℕ) (v : ℕ) where
-  from-any : (r : Read (List ℕ)) {o : Read ℕ} → andThen r (λ vs e. got v e) ≡ o → andThen r (λ vs f. below s 3 f) ≡ andThen o (λ n f. below s 3 f)
-  from-any (got vs f) h = ap (λ (x : Read ℕ). andThen x (λ n f. below s 3 f)) h
-  from-any fault h = ap (λ (x : Read ℕ). andThen x (λ n f. below s 3 f)) h
+  from-any : (r : Read (List ℕ)) {o : Read ℕ} → andThen r (λ vs e. got v e) ≡ o → andThen r (λ vs f. below s sortCount f) ≡ andThen o
+      (λ n f. below s sortCount f)
+  from-any (got vs f) h = ap (λ (x : Read ℕ). andThen x (λ n f. below s sortCount f)) h
+  from-any fault h = ap (λ (x : Read ℕ). andThen x (λ n f. below s sortCount f)) h
 
   module _ (at : ℕ) where
-    pub sort-got : {n e : ℕ} → below s 17 at ≡ got n e → sortOf s at v ≡ sortFrom s v e
+    pub sort-got : {n e : ℕ} → below s variableLimit at ≡ got n e → sortOf s at v ≡ sortFrom s v e
     unfolding sortOf sortFrom
-    sort-got h = ap (λ (o : Read ℕ). andThen o (λ n e. andThen (many (below s 3) v e) (λ vs f. below s 3 f))) h
+    sort-got h = ap (λ (o : Read ℕ). andThen o (λ n e. andThen (many (below s sortCount) v e) (λ vs f. below s sortCount f))) h
 
-    pub sort-none : below s 17 at ≡ fault → sortOf s at v ≡ fault
+    pub sort-none : below s variableLimit at ≡ fault → sortOf s at v ≡ fault
     unfolding sortOf
-    sort-none h = ap (λ (o : Read ℕ). andThen o (λ n e. andThen (many (below s 3) v e) (λ vs f. below s 3 f))) h
+    sort-none h = ap (λ (o : Read ℕ). andThen o (λ n e. andThen (many (below s sortCount) v e) (λ vs f. below s sortCount f))) h
 
     -- behind the sorts before it
-    pub from-got : {n e : ℕ} → sortsFrom s v at ≡ got n e → sortFrom s v at ≡ below s 3 e
+    pub from-got : {n e : ℕ} → sortsFrom s v at ≡ got n e → sortFrom s v at ≡ below s sortCount e
     unfolding sortsFrom sortFrom
-    from-got h = from-any (many (below s 3) v at) h
+    from-got h = from-any (many (below s sortCount) v at) h
 
     pub from-none : sortsFrom s v at ≡ fault → sortFrom s v at ≡ fault
     unfolding sortsFrom sortFrom
-    from-none h = from-any (many (below s 3) v at) h
+    from-none h = from-any (many (below s sortCount) v at) h

@@ -8,6 +8,8 @@ use native.Mathlib.Omega.{arith}
 use lib.ListN.{length, getD, drop, length-append, length-map, drop-of-length-le}
 use lib.Dec.{ltb}
 use borrow.Author.Tests.{ltb-true, lt-ltb, eq-eqb}
+use Rattle.term.specs.Tags.{mostFunctions}
+use Rattle.protocol.specs.Figures.{mostOwn, flagCount, mostRules, mostVariables, sortCount, listCount, arityLimit, factLimit}
 use Rattle.lists.specs.Choice.{pick, cut-eq, clash}
 use Rattle.octets.specs.Head.{Bytes, stands-join, stands-within, behind}
 use Rattle.number.specs.Groups.{groups, numberLimit}
@@ -87,9 +89,9 @@ module _ (s : List ℕ) (bytes : Bytes s) where
       unfolding layout
       layout-exact =
           exact-as s (layout s slots ars) _ (LayoutWithin slots ars) encodeRule
-          (then-exact s (counted s 16 (below s 3)) (λ vs. (length vs ≤ 16) × All (λ v. v < 3) vs) (listed groups)
-          (list-exact (below s 3) (λ v. v < 3) groups (small-exact 3 (omega arith)) 16 (omega arith))
-          (λ vs. many (facts s slots ars) 3) (λ vs ps. (length ps ≡ 3) × All (FactsWithin slots ars) ps) (flat (listed encodeFact))
+          (then-exact s (counted s mostVariables (below s sortCount)) (λ vs. (length vs ≤ 16) × All (λ v. v < 3) vs) (listed groups)
+          (list-exact (below s sortCount) (λ v. v < 3) groups (small-exact 3 (omega arith)) 16 (omega arith))
+          (λ vs. many (facts s slots ars) listCount) (λ vs ps. (length ps ≡ 3) × All (FactsWithin slots ars) ps) (flat (listed encodeFact))
           (λ vs g. many-exact s (facts s slots ars) (FactsWithin slots ars) (listed encodeFact) facts-exact 3)
           rule-of (λ r. r .sorts) (λ r. r .parts) (λ r. refl) (λ vs ps. refl) (λ vs ps. refl))
           (λ r w. ((w .few, w .sorted), (w .three, w .each)))
@@ -117,8 +119,8 @@ module _ (s : List ℕ) (bytes : Bytes s) where
   unfolding own
   own-exact =
       exact-as s (own s) _ OwnWithin encodeOwn
-      (then-exact s (below s 9) (λ a. a < 9) groups (small-exact 9 (omega arith))
-      (λ a. below s 2) (λ a l. l < 2) groups (λ a g. small-exact 2 (omega arith))
+      (then-exact s (below s factLimit) (λ a. a < 9) groups (small-exact 9 (omega arith))
+      (λ a. below s flagCount) (λ a l. l < 2) groups (λ a g. small-exact 2 (omega arith))
       own-of (λ o. o .arity) (λ o. o .flag) (λ o. refl) (λ a l. refl) (λ a l. refl))
       (λ o w. (w .small, w .either))
       (λ o g. record { small = g .0; either = g .1 })
@@ -128,15 +130,15 @@ pub few-arities : (os : List Own) → length os ≤ 32 → length (factArities o
 few-arities os h = omega (arith, length-map os (λ (o : Own). o .arity))
 
 module _ (s : List ℕ) (bytes : Bytes s) where
-  functions-exact : Exact s (counted s 16 (below s 5)) (λ fs. (length fs ≤ 16) × All (λ a. a < 5) fs) (listed groups)
-  functions-exact = list-exact s bytes (below s 5) (λ a. a < 5) groups (small-exact s bytes 5 (omega arith)) 16 (omega arith)
+  functions-exact : Exact s (counted s mostFunctions (below s arityLimit)) (λ fs. (length fs ≤ 16) × All (λ a. a < 5) fs) (listed groups)
+  functions-exact = list-exact s bytes (below s arityLimit) (λ a. a < 5) groups (small-exact s bytes 5 (omega arith)) 16 (omega arith)
 
-  symbols-exact : Exact s (counted s 32 (own s)) (λ os. (length os ≤ 32) × All OwnWithin os) (listed encodeOwn)
+  symbols-exact : Exact s (counted s mostOwn (own s)) (λ os. (length os ≤ 32) × All OwnWithin os) (listed encodeOwn)
   symbols-exact = list-exact s bytes (own s) OwnWithin encodeOwn (own-exact s bytes) 32 (omega arith)
 
   module _ (fs : List ℕ) (os : List Own) (few : length os ≤ 32) where
     rules-exact :
-        Exact s (counted s 64 (rule s (slots fs) (factArities os)))
+        Exact s (counted s mostRules (rule s (slots fs) (factArities os)))
         (λ rs. (length rs ≤ 64) × All (RuleWithin (slots fs) (factArities os)) rs) (listed encodeRule)
     rules-exact =
         list-exact s bytes (rule s (slots fs) (factArities os)) (RuleWithin (slots fs) (factArities os)) encodeRule
@@ -153,10 +155,10 @@ module _ (s : List ℕ) (bytes : Bytes s) where
       let b : drop (0 + length F) s ≡ O ++ R = behind s 0 F (O ++ R) a in
       let c : drop (0 + length F + length O) s ≡ R ++ [] = behind s (0 + length F) O R b ∙ sym (append-nil R) in
       let e : 0 + length F + length O + length R ≡ length s = omega (arith, ap length h, length-append F (O ++ R), length-append O R) in
-      then-got (counted s 16 (below s 5) 0) _ (functions-exact .back (p .functions) 0 (O ++ R) (w .few-functions, w .arities) a)
-      ∙ then-got (counted s 32 (own s) (0 + length F)) _
+      then-got (counted s mostFunctions (below s arityLimit) 0) _ (functions-exact .back (p .functions) 0 (O ++ R) (w .few-functions, w .arities) a)
+      ∙ then-got (counted s mostOwn (own s) (0 + length F)) _
       (symbols-exact .back (p .symbols) (0 + length F) R (w .few-symbols, w .symbols) b)
-      ∙ then-got (counted s 64 (rule s (slots (p .functions)) (factArities (p .symbols))) (0 + length F + length O)) _
+      ∙ then-got (counted s mostRules (rule s (slots (p .functions)) (factArities (p .symbols))) (0 + length F + length O)) _
       (rules-exact (p .functions) (p .symbols) (w .few-symbols) .back (p .rules) (0 + length F + length O) [] (w .few-rules, w .rules) c)
       ∙ pick-true _ _ (eq-eqb (0 + length F + length O + length R) (length s) e)
       ∙ ap (got p) e
@@ -170,9 +172,9 @@ module _ (s : List ℕ) (bytes : Bytes s) where
   pub protocol-form : (p : Protocol) (e : ℕ) → protocol s ≡ got p e → Form p e
   unfolding protocol
   protocol-form p e h =
-      cut-got (counted s 16 (below s 5) 0) _ h (λ fs c hf h.
-      cut-got (counted s 32 (own s) c) _ h (λ os d ho h.
-      cut-got (counted s 64 (rule s (slots fs) (factArities os)) d) _ h (λ rs f hr h.
+      cut-got (counted s mostFunctions (below s arityLimit) 0) _ h (λ fs c hf h.
+      cut-got (counted s mostOwn (own s) c) _ h (λ os d ho h.
+      cut-got (counted s mostRules (rule s (slots fs) (factArities os)) d) _ h (λ rs f hr h.
       cut-eq _ _ _ f (length s) h
       (λ z h.
       let a = functions-exact .form fs 0 c hf in

@@ -4,6 +4,9 @@ use mathlib.Core.List.{List}
 use mathlib.Core.Bool.{true}
 use mathlib.Core.Path.{_≡_}
 use lib.ListN.{length, getD}
+use Rattle.term.specs.Tags.{mostFunctions}
+use Rattle.protocol.specs.Figures.{mostOwn, flagCount, mostRules, arityLimit, factArityLimit}
+use Rattle.protocol.specs.Figures.{mostVariables, sortCount, listCount, mostFacts, mostRuleSymbols}
 use Rattle.lists.specs.All.{All}
 use Rattle.term.specs.Term.{Term, symbols, Formed, InRange}
 use Rattle.term.specs.Arity.{arity, slots}
@@ -15,7 +18,7 @@ module _ (slots : List ℕ) where
   pub record TermWithin (t : Term) : Type 0 where
     pub formed : Formed (arity slots) t
     pub range : InRange t
-    pub short : symbols t ≤ 64
+    pub short : symbols t ≤ mostRuleSymbols
 
   module _ (ars : List ℕ) where
     pub record FactWithin (f : Fact) : Type 0 where
@@ -25,14 +28,14 @@ module _ (slots : List ℕ) where
 
     -- "each a count (8) and facts"
     pub record FactsWithin (fs : List Fact) : Type 0 where
-      pub few : length fs ≤ 8
+      pub few : length fs ≤ mostFacts
       pub each : All FactWithin fs
 
     -- the layout of a rule: "count of variables (16), each sort (0 message, 1 fresh, 2 public)", and three lists
     pub record LayoutWithin (r : Rule) : Type 0 where
-      pub few : length (r .sorts) ≤ 16
-      pub sorted : All (λ v. v < 3) (r .sorts)
-      pub three : length (r .parts) ≡ 3
+      pub few : length (r .sorts) ≤ mostVariables
+      pub sorted : All (λ v. v < sortCount) (r .sorts)
+      pub three : length (r .parts) ≡ listCount
       pub each : All FactsWithin (r .parts)
 
     pub record RuleWithin (r : Rule) : Type 0 where
@@ -41,16 +44,16 @@ module _ (slots : List ℕ) where
 
 -- "each arity (0 to 8) and 0 linear or 1 persistent"
 pub record OwnWithin (o : Own) : Type 0 where
-  pub small : o .arity < 9
-  pub either : o .flag < 2
+  pub small : o .arity < factArityLimit
+  pub either : o .flag < flagCount
 
 pub record Within (p : Protocol) : Type 0 where
   -- "count of free functions (16), each arity (0 to 4)"
-  pub few-functions : length (p .functions) ≤ 16
-  pub arities : All (λ a. a < 5) (p .functions)
+  pub few-functions : length (p .functions) ≤ mostFunctions
+  pub arities : All (λ a. a < arityLimit) (p .functions)
   -- "count of own fact symbols (32)"
-  pub few-symbols : length (p .symbols) ≤ 32
+  pub few-symbols : length (p .symbols) ≤ mostOwn
   pub symbols : All OwnWithin (p .symbols)
   -- "count of rules (64)"
-  pub few-rules : length (p .rules) ≤ 64
+  pub few-rules : length (p .rules) ≤ mostRules
   pub rules : All (RuleWithin (slots (p .functions)) (factArities (p .symbols))) (p .rules)

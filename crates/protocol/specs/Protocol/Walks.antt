@@ -6,6 +6,7 @@ use mathlib.Core.Path.{_≡_, refl, ap, ap₂, sym, _∙_}
 use lib.ListN.{length, getD}
 use lib.Dec.{ltb}
 use borrow.Author.Tests.{lt-ltb, le-ltb}
+use Rattle.protocol.specs.Figures.{mostVariables, sortCount, listCount, symbolKind, factLimit, variableLimit, ruleSymbolLimit}
 use Rattle.lists.specs.Choice.{pick, clash}
 use Rattle.number.specs.Groups.{numberLimit}
 use Rattle.number.specs.Reading.{Read, got, fault, andThen, below, many, counted, seen}
@@ -32,7 +33,7 @@ symbolIn lo hi f = not (ltb (f .symbol) lo) && ltb (f .symbol) hi
 
 -- kinds 0, 1, 2 are leaves in the fact's terms, 3 is its symbol
 abbrev pub asks : ℕ → ℕ → ℕ → Fact → Bool
-asks kind lo hi f = pick (ltb kind 3) (leafIn kind lo hi f) (symbolIn lo hi f)
+asks kind lo hi f = pick (ltb kind symbolKind) (leafIn kind lo hi f) (symbolIn lo hi f)
 
 -- in one of the three lists of a rule
 abbrev pub ruleAsks : ℕ → ℕ → ℕ → Rule → Bool
@@ -40,7 +41,7 @@ ruleAsks kind lo hi r = anyBy (anyBy (asks kind lo hi)) (r .parts)
 
 -- ── a term of a rule ──
 abbrev cutWalk : Walk → Seen
-cutWalk (wk.End e n b) = pick (ltb n 65) (sn.End e b) sn.Fault
+cutWalk (wk.End e n b) = pick (ltb n ruleSymbolLimit) (sn.End e b) sn.Fault
 cutWalk wk.Fault = sn.Fault
 
 pick-seen : {A : Type 0} (q : A → Bool) (b : Bool) (x : A) (e : ℕ) → seen q (pick b (got x e) fault) ≡ pick b (sn.End e (q x)) sn.Fault
@@ -50,8 +51,8 @@ pick-seen q false x e = refl
 module _ (kind lo hi : ℕ) where
   sized-seen :
       (r : Read Term)
-      → seen (leafAt kind lo hi) (andThen r (λ t e. pick (ltb (symbols t) 65) (got t e) fault)) ≡ cutWalk (walked kind lo hi r)
-  sized-seen (got t e) = pick-seen (leafAt kind lo hi) (ltb (symbols t) 65) t e
+      → seen (leafAt kind lo hi) (andThen r (λ t e. pick (ltb (symbols t) ruleSymbolLimit) (got t e) fault)) ≡ cutWalk (walked kind lo hi r)
+  sized-seen (got t e) = pick-seen (leafAt kind lo hi) (ltb (symbols t) ruleSymbolLimit) t e
   sized-seen fault = refl
 
   module _ (s slots : List ℕ) (at : ℕ) where
@@ -62,11 +63,11 @@ module _ (kind lo hi : ℕ) where
     unfolding ruleTerm
     rule-term-seen h = ap cutWalk h ∙ sym (sized-seen (term s slots at))
 
-    pub rule-term-end : {e n : ℕ} {b : Bool} → wk.End e n b ≡ walked kind lo hi (term s slots at) → n < 65 → Term-seen (sn.End e b)
-    rule-term-end {e} {n} {b} h l = simp (lt-ltb n 65 l) at (rule-term-seen h)
+    pub rule-term-end : {e n : ℕ} {b : Bool} → wk.End e n b ≡ walked kind lo hi (term s slots at) → n < ruleSymbolLimit → Term-seen (sn.End e b)
+    rule-term-end {e} {n} {b} h l = simp (lt-ltb n ruleSymbolLimit l) at (rule-term-seen h)
 
-    pub rule-term-long : {e n : ℕ} {b : Bool} → wk.End e n b ≡ walked kind lo hi (term s slots at) → 65 ≤ n → Term-seen sn.Fault
-    rule-term-long {e} {n} {b} h l = simp (le-ltb n 65 l) at (rule-term-seen h)
+    pub rule-term-long : {e n : ℕ} {b : Bool} → wk.End e n b ≡ walked kind lo hi (term s slots at) → ruleSymbolLimit ≤ n → Term-seen sn.Fault
+    rule-term-long {e} {n} {b} h l = simp (le-ltb n ruleSymbolLimit l) at (rule-term-seen h)
 
 -- ── a fact, from behind its symbol ──
 unfoldable pub factFrom : List ℕ → List ℕ → List ℕ → ℕ → ℕ → Read Fact
@@ -76,14 +77,14 @@ module _ (kind lo hi y : ℕ) where
   abbrev as-fact : Read (List Term) → Seen
   as-fact r = seen (asks kind lo hi) (andThen r (λ ts f. got (fact-of y ts) f))
 
-  fact-leaves : kind < 3 → (r : Read (List Term)) → as-fact r ≡ seen (anyBy (leafAt kind lo hi)) r
-  fact-leaves l (got ts f) = simp (lt-ltb kind 3 l)
+  fact-leaves : kind < symbolKind → (r : Read (List Term)) → as-fact r ≡ seen (anyBy (leafAt kind lo hi)) r
+  fact-leaves l (got ts f) = simp (lt-ltb kind symbolKind l)
   fact-leaves l fault = refl
 
   fact-symbol :
-      3 ≤ kind → (r : Read (List Term)) {e : ℕ} {b : Bool} → sn.End e b ≡ seen (anyBy (leafAt kind lo hi)) r
+      symbolKind ≤ kind → (r : Read (List Term)) {e : ℕ} {b : Bool} → sn.End e b ≡ seen (anyBy (leafAt kind lo hi)) r
       → as-fact r ≡ sn.End e (not (ltb y lo) && ltb y hi)
-  fact-symbol l (got ts f) {e} {b} h = let a : f ≡ e = cc in simp (le-ltb kind 3 l, a)
+  fact-symbol l (got ts f) {e} {b} h = let a : f ≡ e = cc in simp (le-ltb kind symbolKind l, a)
   fact-symbol l fault h = clash (cc)
 
   fact-none : (r : Read (List Term)) → sn.Fault ≡ seen (anyBy (leafAt kind lo hi)) r → as-fact r ≡ sn.Fault
@@ -95,12 +96,12 @@ module _ (kind lo hi y : ℕ) where
     its-terms = many (ruleTerm s slots) (getD ars y 0) at
 
     pub from-leaves :
-        kind < 3 → {r : Seen} → r ≡ seen (anyBy (leafAt kind lo hi)) its-terms → r ≡ seen (asks kind lo hi) (factFrom s slots ars y at)
+        kind < symbolKind → {r : Seen} → r ≡ seen (anyBy (leafAt kind lo hi)) its-terms → r ≡ seen (asks kind lo hi) (factFrom s slots ars y at)
     unfolding factFrom
     from-leaves l h = h ∙ sym (fact-leaves l its-terms)
 
     pub from-symbol :
-        3 ≤ kind → {e : ℕ} {b : Bool} → sn.End e b ≡ seen (anyBy (leafAt kind lo hi)) its-terms
+        symbolKind ≤ kind → {e : ℕ} {b : Bool} → sn.End e b ≡ seen (anyBy (leafAt kind lo hi)) its-terms
         → sn.End e (not (ltb y lo) && ltb y hi) ≡ seen (asks kind lo hi) (factFrom s slots ars y at)
     unfolding factFrom
     from-symbol l h = sym (fact-symbol l its-terms h)
@@ -119,42 +120,42 @@ module _ (s slots ars : List ℕ) (at : ℕ) where
   fact-fault h = then-fault (below s (length ars) at) _ h
 
   -- ── a count and that many facts ──
-  pub facts-got : {n e : ℕ} → below s 9 at ≡ got n e → facts s slots ars at ≡ many (fact s slots ars) n e
+  pub facts-got : {n e : ℕ} → below s factLimit at ≡ got n e → facts s slots ars at ≡ many (fact s slots ars) n e
   unfolding facts
   facts-got {n} {e} h = counted-got s (fact s slots ars) 8 at n e h
 
-  pub facts-fault : below s 9 at ≡ fault → facts s slots ars at ≡ fault
+  pub facts-fault : below s factLimit at ≡ fault → facts s slots ars at ≡ fault
   unfolding facts
   facts-fault h = counted-fault s (fact s slots ars) 8 at h
 
 -- ── the sorts of the variables ──
 -- the number of variables of the rule at a place, and the place of its premises
 unfoldable pub sortsAt : List ℕ → ℕ → Read ℕ
-sortsAt s at = andThen (counted s 16 (below s 3) at) (λ vs e. got (length vs) e)
+sortsAt s at = andThen (counted s mostVariables (below s sortCount) at) (λ vs e. got (length vs) e)
 
 -- the sorts of n variables
 unfoldable pub sortsFrom : List ℕ → ℕ → ℕ → Read ℕ
-sortsFrom s n at = andThen (many (below s 3) n at) (λ vs e. got n e)
+sortsFrom s n at = andThen (many (below s sortCount) n at) (λ vs e. got n e)
 
 module _ (s : List ℕ) (n at : ℕ) where
-  pub sorts-came : {i : ℕ} → Came (below s 3) at n i → sortsFrom s n at ≡ got n i
+  pub sorts-came : {i : ℕ} → Came (below s sortCount) at n i → sortsFrom s n at ≡ got n i
   unfolding sortsFrom
-  sorts-came c = then-got (many (below s 3) n at) _ (c .there)
+  sorts-came c = then-got (many (below s sortCount) n at) _ (c .there)
 
-  pub sorts-stop : many (below s 3) n at ≡ fault → sortsFrom s n at ≡ fault
+  pub sorts-stop : many (below s sortCount) n at ≡ fault → sortsFrom s n at ≡ fault
   unfolding sortsFrom
-  sorts-stop h = then-fault (many (below s 3) n at) _ h
+  sorts-stop h = then-fault (many (below s sortCount) n at) _ h
 
 module _ (s : List ℕ) (at : ℕ) where
-  pub sorts-got : {n e : ℕ} → below s 17 at ≡ got n e → sortsAt s at ≡ sortsFrom s n e
+  pub sorts-got : {n e : ℕ} → below s variableLimit at ≡ got n e → sortsAt s at ≡ sortsFrom s n e
   unfolding sortsAt sortsFrom
   sorts-got {n} {e} h =
-      ap (λ (r : Read (List ℕ)). andThen r (λ vs e. got (length vs) e)) (counted-got s (below s 3) 16 at n e h)
-      ∙ then-same-at (many (below s 3) n e) _ _ (λ vs f k. ap (λ (m : ℕ). got m f) (many-length (below s 3) n e f vs k))
+      ap (λ (r : Read (List ℕ)). andThen r (λ vs e. got (length vs) e)) (counted-got s (below s sortCount) 16 at n e h)
+      ∙ then-same-at (many (below s sortCount) n e) _ _ (λ vs f k. ap (λ (m : ℕ). got m f) (many-length (below s sortCount) n e f vs k))
 
-  pub sorts-fault : below s 17 at ≡ fault → sortsAt s at ≡ fault
+  pub sorts-fault : below s variableLimit at ≡ fault → sortsAt s at ≡ fault
   unfolding sortsAt
-  sorts-fault h = ap (λ (r : Read (List ℕ)). andThen r (λ vs e. got (length vs) e)) (counted-fault s (below s 3) 16 at h)
+  sorts-fault h = ap (λ (r : Read (List ℕ)). andThen r (λ vs e. got (length vs) e)) (counted-fault s (below s sortCount) 16 at h)
 
 -- ── a rule ──
 pub limit-is : 2097152 ≡ numberLimit
@@ -180,7 +181,7 @@ module _ (n : ℕ) (o : Read (List (List Fact))) {w : Seen} (asked : w ≡ seen 
 
 module _ (s slots ars : List ℕ) (at : ℕ) where
   abbrev lists-from : List ℕ → ℕ → Read Rule
-  lists-from vs e = andThen (many (facts s slots ars) 3 e) (λ ps f. got (rule-of vs ps) f)
+  lists-from vs e = andThen (many (facts s slots ars) listCount e) (λ ps f. got (rule-of vs ps) f)
 
   module _ (kind lo hi : ℕ) where
     parts-seen :
@@ -191,18 +192,18 @@ module _ (s slots ars : List ℕ) (at : ℕ) where
 
     layout-from :
         (r : Read (List ℕ)) {n e : ℕ} → andThen r (λ vs e. got (length vs) e) ≡ got n e
-        → seen (ruleAsks kind lo hi) (andThen r lists-from) ≡ seen (anyBy (anyBy (asks kind lo hi))) (many (facts s slots ars) 3 e)
+        → seen (ruleAsks kind lo hi) (andThen r lists-from) ≡ seen (anyBy (anyBy (asks kind lo hi))) (many (facts s slots ars) listCount e)
     layout-from (got vs d) {n} {e} h =
         let b : d ≡ e = cc in
-        parts-seen vs (many (facts s slots ars) 3 d)
-        ∙ ap (λ (i : ℕ). seen (anyBy (anyBy (asks kind lo hi))) (many (facts s slots ars) 3 i)) b
+        parts-seen vs (many (facts s slots ars) listCount d)
+        ∙ ap (λ (i : ℕ). seen (anyBy (anyBy (asks kind lo hi))) (many (facts s slots ars) listCount i)) b
     layout-from fault h = clash (cc)
 
     pub layout-got :
         {n e : ℕ} → sortsAt s at ≡ got n e
-        → seen (ruleAsks kind lo hi) (layout s slots ars at) ≡ seen (anyBy (anyBy (asks kind lo hi))) (many (facts s slots ars) 3 e)
+        → seen (ruleAsks kind lo hi) (layout s slots ars at) ≡ seen (anyBy (anyBy (asks kind lo hi))) (many (facts s slots ars) listCount e)
     unfolding sortsAt layout
-    layout-got h = layout-from (counted s 16 (below s 3) at) h
+    layout-got h = layout-from (counted s mostVariables (below s sortCount) at) h
 
   no-sorts : (r : Read (List ℕ)) → andThen r (λ vs e. got (length vs) e) ≡ fault → r ≡ fault
   no-sorts (got vs d) h = clash (cc)
@@ -210,7 +211,7 @@ module _ (s slots ars : List ℕ) (at : ℕ) where
 
   pub layout-fault : sortsAt s at ≡ fault → layout s slots ars at ≡ fault
   unfolding sortsAt layout
-  layout-fault h = then-fault (counted s 16 (below s 3) at) _ (no-sorts (counted s 16 (below s 3) at) h)
+  layout-fault h = then-fault (counted s mostVariables (below s sortCount) at) _ (no-sorts (counted s mostVariables (below s sortCount) at) h)
 
   -- ── its variables are declared: no leaf of kind 0 from their count on ──
   by-hit : (t : Bool) (x : Rule) (d : ℕ) → ended (pick (not t) (got x d) fault) ≡ pick t sn.Fault (sn.End d false)
@@ -227,19 +228,19 @@ module _ (s slots ars : List ℕ) (at : ℕ) where
   closed-from :
       (r : Read (List ℕ)) {n e : ℕ} → andThen r (λ vs e. got (length vs) e) ≡ got n e
       → ended (andThen (andThen r lists-from) (λ x f. pick (declared x) (got x f) fault))
-      ≡ closed (seen (anyBy (anyBy (asks 0 n numberLimit))) (many (facts s slots ars) 3 e))
+      ≡ closed (seen (anyBy (anyBy (asks 0 n numberLimit))) (many (facts s slots ars) listCount e))
   closed-from (got vs c) {n} {e} h =
       let a : length vs ≡ n = cc in
       let k : c ≡ e = cc in
-      lists-closed vs (many (facts s slots ars) 3 c)
-      ∙ ap₂ (λ (m i : ℕ). closed (seen (anyBy (anyBy (asks 0 m numberLimit))) (many (facts s slots ars) 3 i))) a k
+      lists-closed vs (many (facts s slots ars) listCount c)
+      ∙ ap₂ (λ (m i : ℕ). closed (seen (anyBy (anyBy (asks 0 m numberLimit))) (many (facts s slots ars) listCount i))) a k
   closed-from fault h = clash (cc)
 
   pub rule-got :
       {n e : ℕ} → sortsAt s at ≡ got n e
-      → ended (rule s slots ars at) ≡ closed (seen (anyBy (anyBy (asks 0 n numberLimit))) (many (facts s slots ars) 3 e))
+      → ended (rule s slots ars at) ≡ closed (seen (anyBy (anyBy (asks 0 n numberLimit))) (many (facts s slots ars) listCount e))
   unfolding sortsAt rule layout
-  rule-got h = closed-from (counted s 16 (below s 3) at) h
+  rule-got h = closed-from (counted s mostVariables (below s sortCount) at) h
 
   pub rule-fault : layout s slots ars at ≡ fault → rule s slots ars at ≡ fault
   unfolding rule

@@ -7,6 +7,7 @@ use native.Mathlib.Omega.{arith}
 use lib.ListN.{length, getD, take}
 use lib.Dec.{eqb}
 use borrow.Author.Tests.{ne-eqb}
+use Rattle.protocol.specs.Figures.{listCount}
 use Rattle.lists.specs.Choice.{clash}
 use Rattle.number.specs.Reading.{Read, got, fault, seen}
 use Rattle.lists.specs.Lists.{anyBy}
@@ -39,7 +40,7 @@ OfRule s slots ars at P = (r : Rule) → Here (layout s slots ars) r at → P r
 module _ (s slots ars : List ℕ) (at : ℕ) where
   -- the answer on list w of the rule
   pub list-asked :
-      (w kind lo hi l : ℕ) {o : Seen} {b : Bool} → w < 3 → b ≡ hitOf o → l ≡ listPlace s slots ars at w
+      (w kind lo hi l : ℕ) {o : Seen} {b : Bool} → w < listCount → b ≡ hitOf o → l ≡ listPlace s slots ars at w
       → o ≡ seen (anyBy (asks kind lo hi)) (facts s slots ars l) → OfRule s slots ars at (λ r. b ≡ anyBy (asks kind lo hi) (part w r))
   list-asked w kind lo hi l {o} {b} small hb hl ho r h =
       hb ∙ hit-is (anyBy (asks kind lo hi)) (facts s slots ars l) ho

@@ -1,4 +1,5 @@
 use borrow.Author.Needs.{needs}
+use Rattle.protocol.specs.Figures.{sortCount}
 use Rattle.protocol.specs.Protocol.Walks.{sorts-came, sorts-stop}
 use Rattle.number.specs.Reading.Many.{Came, came-none, came-more, came-stop}
 use Rattle.number.specs.Reading.{below, asRead}
@@ -11,7 +12,7 @@ use Rattle.protocol.proofs.walks.sorts_end.Tie as tie
 
 abbrev Inv-loop : tie.InvT-loop
 Inv-loop s at n i₀ j₀ i j =
-    (j ≤ n) × Came (below s 3) at j i
+    (j ≤ n) × Came (below s sortCount) at j i
 
 abbrev μ-loop : tie.MeasureT-loop
 μ-loop s at n i₀ j₀ i j =
@@ -53,7 +54,7 @@ returns-2 : tie.Need-returns-2 Inv-loop μ-loop
 returns-2 c =
     let c3 = c .before .before .before in
     let m : c .before .loop .j ≡ c3 .args .n = omega arith in
-    sym (sorts-came _ _ _ (subst (λ (k : ℕ). Came (below (now (c3 .args .s)) 3) (c3 .args .at) k (c .before .loop .i)) m (c .before .loop .inv .1)))
+    sym (sorts-came _ _ _ (subst (λ (k : ℕ). Came (below (now (c3 .args .s)) sortCount) (c3 .args .at) k (c .before .loop .i)) m (c .before .loop .inv .1)))
 
 pub sorts-end-spec : {M : Type 1} → statement M
 sorts-end-spec =

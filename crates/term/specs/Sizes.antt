@@ -1,0 +1,13 @@
+-- How large the terms are that canonical forms are made of.
+use Prim.Native.Nat.{ℕ, _*_}
+
+-- "at most 256 symbols"
+abbrev pub mostSymbols : ℕ
+mostSymbols = 256
+
+-- the bytes that are kept free for a symbol: a tag and a number of four groups
+abbrev pub symbolRoom : ℕ
+symbolRoom = 5
+
+abbrev pub termRoom : ℕ
+termRoom = symbolRoom * mostSymbols
