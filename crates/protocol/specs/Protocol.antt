@@ -5,8 +5,8 @@ use mathlib.Core.Bool.{Bool, not}
 use lib.ListN.{length, getD}
 use lib.Dec.{ltb, eqb}
 use Rattle.term.specs.Tags.{mostFunctions, variableTag}
-use Rattle.protocol.specs.Figures.{mostOwn, flagCount, mostRules, mostVariables, sortCount, arityLimit, factArityLimit, ruleSymbolLimit}
-use Rattle.protocol.specs.Figures.{premiseList, actionList, conclusionList, listCount, mostFacts}
+use Rattle.protocol.specs.Figures.{mostOwn, flagCount, mostRules, mostVariables, sortCount, arityLimit, factArityLimit}
+use Rattle.protocol.specs.Figures.{ruleSymbolLimit, premiseList, actionList, conclusionList, listCount, mostFacts}
 use Rattle.lists.specs.Choice.{pick}
 use Rattle.number.specs.Groups.{groups, numberLimit}
 use Rattle.number.specs.Reading.{Read, got, fault, andThen, below, many, counted}

@@ -1,5 +1,5 @@
 -- "Rules and runs": the built-in rules, and the rule of each number.
-use Prim.Native.Nat.{ℕ, zero, suc, _-_}
+use Prim.Native.Nat.{ℕ, zero, suc, _+_, _-_, _*_}
 use mathlib.Core.List.{List, [], _∷_, map}
 use mathlib.Core.Option.{Option, some, none}
 use lib.ListN.{replicate}
@@ -11,8 +11,9 @@ use Rattle.term.specs.Reader.{terms}
 use Rattle.protocol.specs.Protocol.{Fact, Rule, Protocol, fact-of, rule-of, frSymbol, inSymbol, outSymbol, kSymbol}
 -- they keep to the limits
 pub mod Limits
--- their bytes as the code writes them
+-- their bytes, and how the code writes them
 pub mod Bytes
+pub mod Writing
 -- what the code finds, and the bytes at the start of which it stands
 pub mod Found
 pub mod Part
@@ -58,6 +59,10 @@ known t = fact-of kSymbol (t ∷ [])
 abbrev pub applies : ℕ → ℕ → Rule
 applies t k =
     rule-of (replicate k 0) (map known (variables 0 k) ∷ [] ∷ (known (app t (terms (variables 0 k))) ∷ []) ∷ [])
+
+-- the bytes of the longest built-in rule, which applies a function of arity 4
+abbrev pub ruleRoom : ℕ
+ruleRoom = 6 + 6 * 4
 
 abbrev pub applied : ℕ → Option ℕ → Option Rule
 applied t (some k) = some (applies t k)

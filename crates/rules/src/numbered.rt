@@ -1,16 +1,16 @@
 // The rule of each number: a built-in rule is written out in the layout of a protocol file's rules.
 ghost use mathlib.Core.Path.{_≡_};
 ghost use mathlib.Core.List.{List};
-ghost use Prim.Native.Nat.{ℕ, _≤_, _<_, _+_};
+ghost use Prim.Native.Nat.{ℕ, _≤_, _<_, _+_, _*_};
 ghost use lib.ListN.{length, take};
-ghost use Rattle.octets.specs.Splice.{splice};
 ghost use Rattle.lists.specs.All.{All};
 ghost use Rattle.term.specs.Arity.{slots};
 ghost use Rattle.protocol.specs.Protocol.{encodeRule};
 ghost use Rattle.protocol.specs.Index.{Entries};
-ghost use Rattle.rules.specs.Numbered.{fixed, applies};
-ghost use Rattle.rules.specs.Numbered.Bytes.{piece-2};
-ghost use Rattle.rules.specs.Numbered.Found.{Put, Applies, placeFound, Finds};
+ghost use Rattle.rules.specs.Numbered.{fixed, applies, ruleRoom};
+ghost use Rattle.rules.specs.Numbered.Bytes.{variableBytes, premiseBytes};
+ghost use Rattle.rules.specs.Numbered.Writing.{Put};
+ghost use Rattle.rules.specs.Numbered.Found.{Applies, placeFound, Finds};
 ghost use Rattle.rules.specs.Numbered.Part.{Fits, partOf};
 
 // So many bytes of the lent array; a place in the protocol file; no rule.
@@ -22,8 +22,8 @@ pub enum Found {
 
 // Rules 0 to 4.
 fn put_fixed(out: &mut [u8], n: usize) -> usize
-    requires { ⌜ (n < 5) × (30 ≤ length (now out)) ⌝ }
-    ensures { λ e. ⌜ Put (now (out .entry)) (now (out .exit)) e (encodeRule (fixed n)) ⌝ }
+    requires { ⌜ (n < 5) × (ruleRoom ≤ length (now out)) ⌝ }
+    ensures { λ e. ⌜ Put (now (out .entry)) 0 (now (out .exit)) e (encodeRule (fixed n)) ⌝ }
 {
     match n {
         0 => octets::copy_into(out, 0, b"\x01\x01\x00\x00\x01\x00\x00\x00"),
@@ -38,47 +38,48 @@ fn put_fixed(out: &mut [u8], n: usize) -> usize
     }
 }
 
-// Copies the first n bytes of a slice to a place of another.
-fn put_prefix(out: &mut [u8], at: usize, src: &[u8], n: usize) -> usize
-    requires { ⌜ (n ≤ length (now src)) × (at + n ≤ length (now out)) ⌝ }
-    ensures next { λ e. ⌜ e ≡ at + n ⌝ }
-    ensures wrote { λ e. ⌜ now (out .exit) ≡ splice (now (out .entry)) at (take n (now (src .entry))) ⌝ }
+// Writes the variables below k in order, each behind the same bytes, and gives the place behind them.
+fn put_variables(out: &mut [u8], at: usize, lead: &[u8], k: u8) -> usize
+    requires { ⌜ at + k * (length (now lead) + 1) ≤ length (now out) ⌝ }
+    ensures { λ e. ⌜ Put (now (out .entry)) at (now (out .exit)) e (variableBytes (now (lead .entry)) 0 k) ⌝ }
 {
-    octets::copy_into(out, at, &src[..n])
+    let mut end = at;
+    let mut i: u8 = 0;
+    while i < k {
+        end = octets::copy_into(out, end, lead);
+        out[end] = i;
+        end += 1;
+        i += 1;
+    }
+    end
 }
 
 // The sorts of k message variables, and the premises K of each.
-fn put_premises(out: &mut [u8], k: u8)
-    requires { ⌜ (k ≤ 4) × (30 ≤ length (now out)) ⌝ }
-    ensures { λ e. ⌜ now (out .exit) ≡ splice (now (out .entry)) 0 (piece-2 k) ⌝ }
+fn put_premises(out: &mut [u8], k: u8) -> usize
+    requires { ⌜ 2 + 4 * k ≤ length (now out) ⌝ }
+    ensures { λ e. ⌜ Put (now (out .entry)) 0 (now (out .exit)) e (premiseBytes k) ⌝ }
 {
-    let n = k as usize;
+    let end = 1 + k as usize;
     out[0] = k;
-    put_prefix(out, 1, b"\x00\x00\x00\x00", n);
-    out[1 + n] = k;
-    put_prefix(
-        out,
-        2 + n,
-        b"\x03\x00\x00\x03\x00\x01\x03\x00\x02\x03\x00\x03",
-        3 * n,
-    );
+    octets::clear(&mut out[1..end]);
+    out[end] = k;
+    put_variables(out, end + 1, b"\x03\x00", k)
 }
 
 // The rule that applies the function of tag t, of arity k: K of k message variables, no action, K of the function applied to them.
 fn put_apply(out: &mut [u8], t: u8, k: u8) -> usize
-    requires { ⌜ (t < 128) × (k ≤ 4) × (30 ≤ length (now out)) ⌝ }
-    ensures { λ e. ⌜ Put (now (out .entry)) (now (out .exit)) e (encodeRule (applies t k)) ⌝ }
+    requires { ⌜ (t < 128) × (k < 128) × (length (encodeRule (applies t k)) ≤ length (now out)) ⌝ }
+    ensures { λ e. ⌜ Put (now (out .entry)) 0 (now (out .exit)) e (encodeRule (applies t k)) ⌝ }
 {
-    let n = k as usize;
-    put_premises(out, k);
-    octets::copy_into(out, 2 + 4 * n, b"\x00\x01\x03");
-    out[5 + 4 * n] = t;
-    put_prefix(out, 6 + 4 * n, b"\x00\x00\x00\x01\x00\x02\x00\x03", 2 * n)
+    let conclusions = put_premises(out, k);
+    let tag = octets::copy_into(out, conclusions, b"\x00\x01\x03");
+    out[tag] = t;
+    put_variables(out, tag + 1, b"\x00", k)
 }
 
 // The rule that applies the function of a tag, if there is one. No arity is above 4, so a slot above it is an undeclared tag's.
 fn apply_rule(arities: &[u8], t: usize, out: &mut [u8]) -> Found
-    requires { ⌜ (3 ≤ t) × (t < 29) × (length (now arities) ≡ 29) × (30 ≤ length (now out)) ⌝ }
+    requires { ⌜ (3 ≤ t) × (t < 29) × (length (now arities) ≡ 29) × (ruleRoom ≤ length (now out)) ⌝ }
     ensures { λ r. ⌜ ((fs : List ℕ) → All (λ (a : ℕ). a < 5) fs → now (arities .entry) ≡ slots fs → Applies (slots fs) t r (now (out .exit))) ⌝ }
 {
     let k = arities[t];
@@ -107,7 +108,7 @@ pub fn find_rule(
     number: usize,
     out: &mut [u8],
 ) -> Found
-    requires { ⌜ (length (now arities) ≡ 29) × (nr ≤ length (now places)) × (30 ≤ length (now out)) ⌝ }
+    requires { ⌜ (length (now arities) ≡ 29) × (nr ≤ length (now places)) × (ruleRoom ≤ length (now out)) ⌝ }
     ensures { λ r. ⌜ ((s : List ℕ) (ns : ℕ) (ars flags : List ℕ) (i : Entries s ns nr (now (arities .entry)) ars flags (now (places .entry))) → Finds (i .is) s (now (arities .entry)) (take ns ars) number r (now (out .exit))) ⌝ }
 {
     match number {

@@ -9,8 +9,6 @@ use lib.Dec.{ltb}
 use borrow.Author.Tests.{lt-ltb, le-ltb}
 use Rattle.lists.specs.Choice.{pick, by-size}
 use Rattle.octets.specs.Head.{Bytes}
-use Rattle.octets.specs.Splice.{splice}
-use Rattle.octets.specs.Splice.Laws.{take-past, length-splice}
 use Rattle.lists.specs.All.{All}
 use Rattle.term.specs.Arity.{arity, slots, undeclared}
 use Rattle.term.specs.Arity.Laws.{slot-inside, arity-none, arity-some}
@@ -23,28 +21,7 @@ use Rattle.rules.specs.declared.numbered.Found.{Found}
 use Rattle.rules.specs.declared.numbered.Found.the-variants as fd
 use Rattle.rules.specs.Numbered.{fixed, applies, applied, nth, ruleOf}
 use Rattle.rules.specs.Numbered.Limits.{Slot, takes, empty, slot-at, rule-within}
-
--- ── a write from the start ──
--- q was written to the start of l, which left o, and ends at e
-pub record Put (l o : List ℕ) (e : ℕ) (q : List ℕ) : Type 0 where
-  pub next : e ≡ length q
-  pub wrote : o ≡ splice l 0 q
-
-pub put-as : {l o : List ℕ} {e : ℕ} (q r : List ℕ) → q ≡ r → Put l o e q → Put l o e r
-put-as {l} {o} {e} q r h p = subst (Put l o e) h p
-
--- the first `len` elements are these
-pub record Holds (out : List ℕ) (len : ℕ) (q : List ℕ) : Type 0 where
-  pub bytes : take len out ≡ q
-  pub short : len ≤ length out
-
-pub put-holds : {l o : List ℕ} {e : ℕ} {q : List ℕ} → Put l o e q → 0 + length q ≤ length l → Holds o e q
-put-holds {l} {o} {e} {q} p room =
-    let n : e ≡ 0 + length q = omega (arith, p .next) in
-    record {
-      bytes = ap (λ (i : ℕ). take i o) n ∙ ap (take (0 + length q)) (p .wrote) ∙ take-past l 0 q room;
-      short = omega (arith, p .next, ap length (p .wrote), length-splice l 0 q room);
-    }
+use Rattle.rules.specs.Numbered.Writing.{Holds}
 
 -- ── an apply-rule ──
 pub record AppliedAs (slots : List ℕ) (t len : ℕ) (out : List ℕ) : Type 0 where

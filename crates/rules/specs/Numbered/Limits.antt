@@ -10,10 +10,13 @@ use lib.Dec.{eqb}
 use Rattle.lists.specs.Choice.{pick, cut-lt, cut-eq, clash}
 use Rattle.number.specs.Groups.{numberLimit}
 use Rattle.lists.specs.All.{All}
+use borrow.Author.Tests.{lt-ltb}
+use Rattle.lists.specs.Lists.{anyBy}
 use Rattle.term.specs.Term.{Term, leaf, app, variable, count, symbolss, Formeds, InRanges}
 use Rattle.term.specs.Arity.{arity, slots, builtin, padded, undeclared}
 use Rattle.term.specs.Reader.{terms}
-use Rattle.protocol.specs.Protocol.{Fact, Rule, Own, Protocol, fact-of, rule-of, factArities, declared}
+use Rattle.term.specs.Walk.{holds, holdss}
+use Rattle.protocol.specs.Protocol.{Fact, Rule, Own, Protocol, fact-of, rule-of, factArities, leafIn, declared}
 use Rattle.protocol.specs.Protocol.Limits.{TermWithin, FactWithin, FactsWithin, RuleWithin, Within}
 use Rattle.rules.specs.Numbered.{first, fixed, variables, known, applies, applied, nth, ruleOf}
 
@@ -79,15 +82,6 @@ arity-small fs h t k e =
     (λ z e. clash (cc))
     (λ z e. small-slot (getD (slots fs) t undeclared) k (slot-at fs h t) z e))
 
--- each arity up to 4
-pub by-arity : (P : ℕ → Type 0) → P 0 → P 1 → P 2 → P 3 → P 4 → (k : ℕ) → k ≤ 4 → P k
-by-arity P a b c d e zero h = a
-by-arity P a b c d e (suc zero) h = b
-by-arity P a b c d e (suc (suc zero)) h = c
-by-arity P a b c d e (suc (suc (suc zero))) h = d
-by-arity P a b c d e (suc (suc (suc (suc zero)))) h = e
-by-arity P a b c d e (suc (suc (suc (suc (suc k))))) h = absurd (omega arith)
-
 -- ── variables ──
 small-range : (n : ℕ) → n < 256 → n < numberLimit
 unfolding numberLimit
@@ -109,9 +103,28 @@ replicate-all : (P : ℕ → Type 0) (k : ℕ) → P 0 → All P (replicate k 0)
 replicate-all P zero h = tt
 replicate-all P (suc k) h = (h, replicate-all P k h)
 
-variables-length : (i n : ℕ) → length (variables i n) ≡ n
+pub variables-length : (i n : ℕ) → length (variables i n) ≡ n
 variables-length i zero = refl
 variables-length i (suc n) = ap suc (variables-length (suc i) n)
+
+-- in variables below lo there is none from lo on
+module _ (lo hi : ℕ) where
+  variable-below : (v : ℕ) → v < lo → holds (leaf variable v) 0 lo hi ≡ false
+  variable-below v h = simp (lt-ltb v lo h)
+
+  variables-below : (i n : ℕ) → i + n ≤ lo → holdss (terms (variables i n)) 0 lo hi ≡ false
+  variables-below i zero h = refl
+  variables-below i (suc n) h = simp (variable-below i (omega arith), variables-below (suc i) n (omega arith))
+
+  known-below : (i n : ℕ) → i + n ≤ lo → anyBy (leafIn 0 lo hi) (map known (variables i n)) ≡ false
+  known-below i zero h = refl
+  known-below i (suc n) h = simp (variable-below i (omega arith), known-below (suc i) n (omega arith))
+
+applies-declared : (t k : ℕ) → declared (applies t k) ≡ true
+applies-declared t k =
+    let n : ℕ = length {A = ℕ} (replicate k 0) in
+    let all : 0 + k ≤ n = omega (arith, length-replicate {A = ℕ} k 0) in
+    simp (known-below n numberLimit 0 k all, variables-below n numberLimit 0 k all)
 
 module _ (slots : List ℕ) where
   variables-formed : (i n : ℕ) → Formeds (arity slots) (terms (variables i n))
@@ -121,7 +134,7 @@ module _ (slots : List ℕ) where
   variable-within : (v : ℕ) → v < 256 → TermWithin slots (leaf variable v)
   variable-within v h = record { formed = tt; range = small-range v h; short = omega arith }
 
-  applied-within : (t k : ℕ) → arity slots t ≡ some k → t < 256 → k ≤ 4 → TermWithin slots (app t (terms (variables 0 k)))
+  applied-within : (t k : ℕ) → arity slots t ≡ some k → t < 256 → k ≤ 8 → TermWithin slots (app t (terms (variables 0 k)))
   applied-within t k h l m =
       record {
         formed = (h ∙ ap some (sym (variables-count 0 k)), variables-formed 0 k);
@@ -178,7 +191,8 @@ module _ (slots : List ℕ) where
             (pick b x y)
         by-test b {x} {y} p q = elim b [ true ↦ p | false ↦ q ]
 
-    pub applies-within : (t k : ℕ) → arity slots t ≡ some k → t < 256 → k ≤ 4 → RuleWithin slots (factArities os) (applies t k)
+    -- of anyBy arity that leaves no more premises than a list may have
+    pub applies-within : (t k : ℕ) → arity slots t ≡ some k → t < 256 → k ≤ 8 → RuleWithin slots (factArities os) (applies t k)
     applies-within t k h l m =
         record {
           laid = record {
@@ -193,7 +207,7 @@ module _ (slots : List ℕ) where
               ),
             );
           };
-          bound = by-arity (λ j. declared (applies t j) ≡ true) refl refl refl refl refl k m;
+          bound = applies-declared t k;
         }
 
 -- ── the rule of every number ──
@@ -209,7 +223,8 @@ module _ (p : Protocol) (w : Within p) where
   from-arity : (t : ℕ) (r : Rule) (o : Option ℕ) → t < 256 → arity (slots (p .functions)) t ≡ o → applied t o ≡ some r → Good r
   from-arity t r (some k) l h e =
       let z : applies t k ≡ r = cc in
-      subst Good z (applies-within (slots (p .functions)) (p .symbols) t k h l (arity-small (p .functions) (w .arities) t k h))
+      let m = arity-small (p .functions) (w .arities) t k h in
+      subst Good z (applies-within (slots (p .functions)) (p .symbols) t k h l (omega arith))
   from-arity t r none l h e = clash (cc)
 
   pub rule-within : (n : ℕ) (r : Rule) → ruleOf p n ≡ some r → Good r

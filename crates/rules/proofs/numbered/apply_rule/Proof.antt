@@ -1,7 +1,8 @@
-use Rattle.rules.specs.Numbered.Found.{slot-taken, slot-left, put-holds}
+use Rattle.rules.specs.Numbered.Found.{slot-taken, slot-left}
 use Rattle.rules.specs.Numbered.Bytes.{applies-room}
+use Rattle.rules.specs.Numbered.Writing.{put-holds}
 use lib.ListN.{getD}
-use Prim.Native.Nat.{_≤_}
+use Prim.Native.Nat.{ℕ, _≤_}
 use denote.Ref.{now}
 use native.Mathlib.Omega.{arith}
 use borrow.Author.Needs.{needs}
@@ -20,7 +21,10 @@ cast-put-apply : tie.Need-cast-put-apply
 cast-put-apply c = search needs
 
 put-apply-requires : tie.Need-put-apply-requires
-put-apply-requires c κs = search needs
+put-apply-requires c κs =
+    let c5 = c .before .before .before .before .before in
+    let k : ℕ = getD (now (c5 .args .arities)) (c5 .args .t) 0 in
+    (omega arith, omega arith, omega (arith, applies-room (c5 .args .t) k (omega arith) (omega arith)))
 
 same-length : tie.Need-same-length
 same-length c = search needs
@@ -31,12 +35,11 @@ returns-2 c =
     let c8 = c4 .before .before .before .before in
     λ fs small same.
     let l : getD (now (c8 .args .arities)) (c8 .args .t) 0 ≤ 4 = c4 .if1 .left in
-    let room = applies-room (c8 .args .t) (getD (now (c8 .args .arities)) (c8 .args .t) 0) (omega arith) l in
     record {
       arguments = getD (now (c8 .args .arities)) (c8 .args .t) 0;
       declared = slot-taken fs (now (c8 .args .arities)) small same (c8 .args .t)
           (omega arith) (c8 .pre .0) l;
-      holds = put-holds (c .before .before .put-apply .ensures) (omega arith);
+      holds = put-holds (c .before .before .put-apply .ensures);
     }
 
 pub apply-rule-spec : {M : Type 1} → statement M

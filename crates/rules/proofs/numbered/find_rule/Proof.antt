@@ -1,5 +1,5 @@
-use Rattle.rules.specs.Numbered.Found.{put-holds, of-fixed, finds-applied, finds-own}
-use Rattle.rules.specs.Numbered.Bytes.{fixed-room}
+use Rattle.rules.specs.Numbered.Found.{of-fixed, finds-applied, finds-own}
+use Rattle.rules.specs.Numbered.Writing.{put-holds}
 use Rattle.rules.specs.Numbered.{fixed}
 use lib.ListN.{take}
 use Prim.Native.Nat.{_+_, _-_, _<_}
@@ -35,12 +35,10 @@ returns c =
     let c8 = c .before .before .before .before .before .before .before .before in
     λ s ns ars flags i.
     let l : c8 .args .number < 5 = omega arith in
-    let room = fixed-room (c8 .args .number) l in
     record {
       its = fixed (c8 .args .number);
       is = of-fixed (i .is) (c8 .args .number) l;
-      holds = put-holds (c .before .before .put-fixed .ensures)
-          (omega arith);
+      holds = put-holds (c .before .before .put-fixed .ensures);
     }
 
 same-length-2 : tie.Need-same-length-2

@@ -1,4 +1,4 @@
-use Rattle.rules.specs.Numbered.Found.{put-as}
+use Rattle.rules.specs.Numbered.Writing.{put-as, put-copied}
 use Rattle.rules.specs.Numbered.Bytes.{bytes-0, bytes-1, bytes-2, bytes-3, bytes-4}
 use mathlib.Core.Path.{_≡_, sym}
 use native.Mathlib.Omega.{arith}
@@ -43,7 +43,8 @@ returns : tie.Need-returns
 returns c =
     let c7 = c .before .before .before .before .before .before .before in
     let k : c7 .args .n ≡ 0 = omega arith in
-    put-as _ _ (sym (bytes-0 (c7 .args .n) k)) record { next = c .before .before .copy-into .ensures .0; wrote = c .before .before .copy-into .ensures .1 }
+    put-as _ _ (sym (bytes-0 (c7 .args .n) k))
+    (put-copied _ _ 0 _ _ (omega arith) (c .before .before .copy-into .ensures .0) (c .before .before .copy-into .ensures .1))
 
 same-length-2 : tie.Need-same-length-2
 same-length-2 c = search needs
@@ -52,7 +53,8 @@ returns-2 : tie.Need-returns-2
 returns-2 c =
     let c7 = c .before .before .before .before .before .before .before in
     let k : c7 .args .n ≡ 1 = omega arith in
-    put-as _ _ (sym (bytes-1 (c7 .args .n) k)) record { next = c .before .before .copy-into2 .ensures .0; wrote = c .before .before .copy-into2 .ensures .1 }
+    put-as _ _ (sym (bytes-1 (c7 .args .n) k))
+    (put-copied _ _ 0 _ _ (omega arith) (c .before .before .copy-into2 .ensures .0) (c .before .before .copy-into2 .ensures .1))
 
 same-length-3 : tie.Need-same-length-3
 same-length-3 c = search needs
@@ -61,7 +63,8 @@ returns-3 : tie.Need-returns-3
 returns-3 c =
     let c7 = c .before .before .before .before .before .before .before in
     let k : c7 .args .n ≡ 2 = omega arith in
-    put-as _ _ (sym (bytes-2 (c7 .args .n) k)) record { next = c .before .before .copy-into3 .ensures .0; wrote = c .before .before .copy-into3 .ensures .1 }
+    put-as _ _ (sym (bytes-2 (c7 .args .n) k))
+    (put-copied _ _ 0 _ _ (omega arith) (c .before .before .copy-into3 .ensures .0) (c .before .before .copy-into3 .ensures .1))
 
 same-length-4 : tie.Need-same-length-4
 same-length-4 c = search needs
@@ -70,7 +73,8 @@ returns-4 : tie.Need-returns-4
 returns-4 c =
     let c7 = c .before .before .before .before .before .before .before in
     let k : c7 .args .n ≡ 3 = omega arith in
-    put-as _ _ (sym (bytes-3 (c7 .args .n) k)) record { next = c .before .before .copy-into4 .ensures .0; wrote = c .before .before .copy-into4 .ensures .1 }
+    put-as _ _ (sym (bytes-3 (c7 .args .n) k))
+    (put-copied _ _ 0 _ _ (omega arith) (c .before .before .copy-into4 .ensures .0) (c .before .before .copy-into4 .ensures .1))
 
 same-length-5 : tie.Need-same-length-5
 same-length-5 c = search needs
@@ -79,7 +83,8 @@ returns-5 : tie.Need-returns-5
 returns-5 c =
     let c7 = c .before .before .before .before .before .before .before in
     let k : c7 .args .n ≡ 4 = omega arith in
-    put-as _ _ (sym (bytes-4 (c7 .args .n) k)) record { next = c .before .before .copy-into5 .ensures .0; wrote = c .before .before .copy-into5 .ensures .1 }
+    put-as _ _ (sym (bytes-4 (c7 .args .n) k))
+    (put-copied _ _ 0 _ _ (omega arith) (c .before .before .copy-into5 .ensures .0) (c .before .before .copy-into5 .ensures .1))
 
 pub put-fixed-spec : {M : Type 1} → statement M
 put-fixed-spec =

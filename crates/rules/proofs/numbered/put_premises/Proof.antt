@@ -1,4 +1,4 @@
-use Rattle.rules.specs.Numbered.Bytes.{first-pieces}
+use Rattle.rules.specs.Numbered.Writing.{withSorts, sorts-length, premises-put}
 use lib.ListN.{length-set}
 use Prim.Native.Nat.{_+_}
 use denote.Ref.{now}
@@ -7,70 +7,72 @@ use borrow.Author.Needs.{needs}
 use Rattle.rules.proofs.numbered.put_premises.Statement.{statement}
 use Rattle.rules.proofs.numbered.put_premises.Tie as tie
 
+add-end : tie.Need-add-end
+add-end c = search needs
+
 slice-write-out : tie.Need-slice-write-out
 slice-write-out c = search needs
 
-slice-aggregate-put-prefix : tie.Need-slice-aggregate-put-prefix
-slice-aggregate-put-prefix c = search needs
+sub-clear : tie.Need-sub-clear
+sub-clear c = search needs
 
-put-prefix-requires : tie.Need-put-prefix-requires
-put-prefix-requires c κs =
-    (omega arith, simp length-set (omega arith))
+part-clear-start : tie.Need-part-clear-start
+part-clear-start c = search needs
 
-add-out : tie.Need-add-out
-add-out c = search needs
+part-clear-end : tie.Need-part-clear-end
+part-clear-end c =
+    simp length-set (omega arith)
+
+clear-requires : tie.Need-clear-requires
+clear-requires c κs = search needs
 
 slice-write-out-2 : tie.Need-slice-write-out-2
 slice-write-out-2 c =
-    let c6 = c .before .before .before .before .before .before in
-    omega (arith, c .before .before .put-prefix .kept, length-set (now (c6 .args .out)) 0 (c6 .args .k))
+    let c5 = c .before .before .before .before .before in
+    omega (arith, sorts-length (now (c5 .args .out)) (c5 .args .k) (c .before .before .clear .last .0) (omega arith) (c .before .before .clear .ensures))
 
-add-put-prefix : tie.Need-add-put-prefix
-add-put-prefix c = search needs
+add-put-variables : tie.Need-add-put-variables
+add-put-variables c = search needs
 
-slice-aggregate-put-prefix-2 : tie.Need-slice-aggregate-put-prefix-2
-slice-aggregate-put-prefix-2 c = search needs
+slice-aggregate-put-variables : tie.Need-slice-aggregate-put-variables
+slice-aggregate-put-variables c = search needs
 
-mul-put-prefix : tie.Need-mul-put-prefix
-mul-put-prefix c = search needs
-
-put-prefix-requires-2 : tie.Need-put-prefix-requires-2
-put-prefix-requires-2 c κs =
+put-variables-requires : tie.Need-put-variables-requires
+put-variables-requires c κs =
     let c4 = c .before .before .before .before in
-    let c8 = c4 .before .before .before .before in
-    (omega arith, simp length-set (omega (arith, c4 .put-prefix .kept, length-set (now (c8 .args .out)) 0 (c8 .args .k))))
+    let c7 = c4 .before .before .before in
+    simp length-set (omega (arith, sorts-length (now (c7 .args .out)) (c7 .args .k) (c4 .clear .last .0) (omega arith) (c4 .clear .ensures)))
 
 same-length : tie.Need-same-length
 same-length c =
     let c7 = c .before .before .before .before .before .before .before in
-    let c11 = c7 .before .before .before .before in
+    let c10 = c7 .before .before .before in
     omega (
       arith,
-      c .before .before .put-prefix2 .kept,
-      length-set (c7 .put-prefix .last .0) (1 + c11 .args .k) (c11 .args .k),
-      c7 .put-prefix .kept,
-      length-set (now (c11 .args .out)) 0 (c11 .args .k),
+      length-set (withSorts (now (c10 .args .out)) (c10 .args .k) (c7 .clear .last .0)) (1 + c10 .args .k)
+          (c10 .args .k),
+      sorts-length (now (c10 .args .out)) (c10 .args .k) (c7 .clear .last .0) (omega arith) (c7 .clear .ensures),
     )
 
 returns : tie.Need-returns
 returns c =
     let c7 = c .before .before .before .before .before .before .before in
-    let c11 = c7 .before .before .before .before in
-    first-pieces (now (c11 .args .out)) 0 (c11 .args .k) (c11 .pre .0) (c11 .pre .1) _ _ (c7 .put-prefix .ensures .1)
-    (c .before .before .put-prefix2 .ensures .1)
+    let c10 = c7 .before .before .before in
+    premises-put (now (c10 .args .out)) (c10 .args .k) (c7 .clear .last .0) (omega arith) (c7 .clear .ensures) _ _ (c .before .before .put-variables .ensures)
 
 pub put-premises-spec : {M : Type 1} → statement M
 put-premises-spec =
     tie.close
     (tie.spec
+    add-end
     slice-write-out
-    slice-aggregate-put-prefix
-    put-prefix-requires
-    add-out
+    sub-clear
+    part-clear-start
+    part-clear-end
+    clear-requires
     slice-write-out-2
-    add-put-prefix
-    slice-aggregate-put-prefix-2
-    mul-put-prefix
-    put-prefix-requires-2
+    add-put-variables
+    slice-aggregate-put-variables
+    put-variables-requires
     same-length
     returns)
