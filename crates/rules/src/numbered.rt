@@ -3,15 +3,39 @@ ghost use mathlib.Core.Path.{_≡_};
 ghost use mathlib.Core.List.{List};
 ghost use Prim.Native.Nat.{ℕ, _≤_, _<_, _+_, _*_};
 ghost use lib.ListN.{length, take};
+ghost use Rattle.number.specs.Groups.{base};
+ghost use Rattle.term.specs.Tags.{firstFunction, tagCount};
+ghost use Rattle.protocol.specs.Figures.{arityLimit};
 ghost use Rattle.lists.specs.All.{All};
 ghost use Rattle.term.specs.Arity.{slots};
 ghost use Rattle.protocol.specs.Protocol.{encodeRule};
 ghost use Rattle.protocol.specs.Index.{Entries};
-ghost use Rattle.rules.specs.Numbered.{fixed, applies, ruleRoom};
+ghost use Rattle.rules.specs.Numbered.{fixed, applies, ruleRoom, firstApply};
 ghost use Rattle.rules.specs.Numbered.Bytes.{variableBytes, premiseBytes};
 ghost use Rattle.rules.specs.Numbered.Writing.{Put};
 ghost use Rattle.rules.specs.Numbered.Found.{Applies, placeFound, Finds};
 ghost use Rattle.rules.specs.Numbered.Part.{Fits, partOf};
+use protocol::figures;
+
+// The rules 0 to 4; "Rule t+2 applies the function of tag t": the built-in functions', then the free functions'; "a protocol rule r (from 0) is 31+r".
+const LAST_FIXED: usize = 4;
+
+const TAG_SHIFT: usize = 2;
+
+const FIRST_APPLY: usize = term::FIRST_FUNCTION + TAG_SHIFT;
+
+const LAST_BUILTIN: usize = term::MUL + TAG_SHIFT;
+
+const FIRST_FREE: usize = term::FIRST_FREE + TAG_SHIFT;
+
+const LAST_FREE: usize = FIRST_OWN - 1;
+
+const FIRST_OWN: usize = term::TAGS + TAG_SHIFT;
+
+const MOST_ARITY: u8 = figures::MOST_ARITY as u8;
+
+// The bytes of the longest built-in rule, which applies a function of the most arguments.
+pub const RULE_ROOM: usize = 6 + 6 * figures::MOST_ARITY;
 
 // So many bytes of the lent array; a place in the protocol file; no rule.
 pub enum Found {
@@ -22,7 +46,7 @@ pub enum Found {
 
 // Rules 0 to 4.
 fn put_fixed(out: &mut [u8], n: usize) -> usize
-    requires { ⌜ (n < 5) × (ruleRoom ≤ length (now out)) ⌝ }
+    requires { ⌜ (n < firstApply) × (ruleRoom ≤ length (now out)) ⌝ }
     ensures { λ e. ⌜ Put (now (out .entry)) 0 (now (out .exit)) e (encodeRule (fixed n)) ⌝ }
 {
     match n {
@@ -68,7 +92,7 @@ fn put_premises(out: &mut [u8], k: u8) -> usize
 
 // The rule that applies the function of tag t, of arity k: K of k message variables, no action, K of the function applied to them.
 fn put_apply(out: &mut [u8], t: u8, k: u8) -> usize
-    requires { ⌜ (t < 128) × (k < 128) × (length (encodeRule (applies t k)) ≤ length (now out)) ⌝ }
+    requires { ⌜ (t < base) × (k < base) × (length (encodeRule (applies t k)) ≤ length (now out)) ⌝ }
     ensures { λ e. ⌜ Put (now (out .entry)) 0 (now (out .exit)) e (encodeRule (applies t k)) ⌝ }
 {
     let conclusions = put_premises(out, k);
@@ -77,13 +101,13 @@ fn put_apply(out: &mut [u8], t: u8, k: u8) -> usize
     put_variables(out, tag + 1, b"\x00", k)
 }
 
-// The rule that applies the function of a tag, if there is one. No arity is above 4, so a slot above it is an undeclared tag's.
+// The rule that applies the function of a tag, if there is one. No arity is above the most, so a slot above it is an undeclared tag's.
 fn apply_rule(arities: &[u8], t: usize, out: &mut [u8]) -> Found
-    requires { ⌜ (3 ≤ t) × (t < 29) × (length (now arities) ≡ 29) × (ruleRoom ≤ length (now out)) ⌝ }
-    ensures { λ r. ⌜ ((fs : List ℕ) → All (λ (a : ℕ). a < 5) fs → now (arities .entry) ≡ slots fs → Applies (slots fs) t r (now (out .exit))) ⌝ }
+    requires { ⌜ (firstFunction ≤ t) × (t < tagCount) × (length (now arities) ≡ tagCount) × (ruleRoom ≤ length (now out)) ⌝ }
+    ensures { λ r. ⌜ ((fs : List ℕ) → All (λ (a : ℕ). a < arityLimit) fs → now (arities .entry) ≡ slots fs → Applies (slots fs) t r (now (out .exit))) ⌝ }
 {
     let k = arities[t];
-    if 4 < k {
+    if MOST_ARITY < k {
         return Found::Nothing;
     }
     Found::Written(put_apply(out, t as u8, k))
@@ -108,14 +132,14 @@ pub fn find_rule(
     number: usize,
     out: &mut [u8],
 ) -> Found
-    requires { ⌜ (length (now arities) ≡ 29) × (nr ≤ length (now places)) × (ruleRoom ≤ length (now out)) ⌝ }
+    requires { ⌜ (length (now arities) ≡ tagCount) × (nr ≤ length (now places)) × (ruleRoom ≤ length (now out)) ⌝ }
     ensures { λ r. ⌜ ((s : List ℕ) (ns : ℕ) (ars flags : List ℕ) (i : Entries s ns nr (now (arities .entry)) ars flags (now (places .entry))) → Finds (i .is) s (now (arities .entry)) (take ns ars) number r (now (out .exit))) ⌝ }
 {
     match number {
-        0..=4 => Found::Written(put_fixed(out, number)),
-        5..=14 => apply_rule(arities, number - 2, out),
-        15..=30 => apply_rule(arities, 13 + (number - 15), out),
-        _ => own_rule(places, nr, number - 31),
+        0..=LAST_FIXED => Found::Written(put_fixed(out, number)),
+        FIRST_APPLY..=LAST_BUILTIN => apply_rule(arities, number - TAG_SHIFT, out),
+        FIRST_FREE..=LAST_FREE => apply_rule(arities, number - TAG_SHIFT, out),
+        _ => own_rule(places, nr, number - FIRST_OWN),
     }
 }
 

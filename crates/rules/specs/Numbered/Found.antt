@@ -4,7 +4,7 @@ use mathlib.Core.List.{List, [], _∷_, append-nil}
 use mathlib.Core.Option.{some, none}
 use mathlib.Core.Path.{_≡_, refl, ap, ap₂, sym, _∙_, subst}
 use native.Mathlib.Omega.{arith}
-use lib.ListN.{length, getD, take}
+use lib.ListN.{length, getD, take, getElem?}
 use lib.Dec.{ltb}
 use borrow.Author.Tests.{lt-ltb, le-ltb}
 use Rattle.lists.specs.Choice.{pick, by-size}
@@ -19,7 +19,7 @@ use Rattle.protocol.specs.Places.{Here}
 use Rattle.protocol.specs.Index.{Entries, Placed}
 use Rattle.rules.specs.declared.numbered.Found.{Found}
 use Rattle.rules.specs.declared.numbered.Found.the-variants as fd
-use Rattle.rules.specs.Numbered.{fixed, applies, applied, nth, ruleOf}
+use Rattle.rules.specs.Numbered.{fixed, applies, applied, ruleOf}
 use Rattle.rules.specs.Numbered.Limits.{Slot, takes, empty, slot-at, rule-within}
 use Rattle.rules.specs.Numbered.Writing.{Holds}
 
@@ -64,12 +64,12 @@ module _ (places : List ℕ) (n k : ℕ) where
   place-none h = simp (le-ltb k n h)
 
 module _ {A : Type 0} (d : A) where
-  nth-some : (xs : List A) (k : ℕ) → k < length xs → nth xs k ≡ some (getD xs k d)
+  nth-some : (xs : List A) (k : ℕ) → k < length xs → getElem? xs k ≡ some (getD xs k d)
   nth-some [] k h = absurd (omega arith)
   nth-some (x ∷ xs) zero h = refl
   nth-some (x ∷ xs) (suc k) h = nth-some xs k (omega arith)
 
-  nth-none : (xs : List A) (k : ℕ) → length xs ≤ k → nth xs k ≡ none
+  nth-none : (xs : List A) (k : ℕ) → length xs ≤ k → getElem? xs k ≡ none
   nth-none [] k h = refl
   nth-none (x ∷ xs) zero h = absurd (omega arith)
   nth-none (x ∷ xs) (suc k) h = nth-none xs k (omega arith)
@@ -101,7 +101,7 @@ module _ (p : Protocol) (n : ℕ) where
       let z : n - 2 ≡ t = omega arith in
       simp (le-ltb n 5 h, lt-ltb n 31 k, z)
 
-  pub of-own : 31 ≤ n → ruleOf p n ≡ nth (p .rules) (n - 31)
+  pub of-own : 31 ≤ n → ruleOf p n ≡ getElem? (p .rules) (n - 31)
   unfolding ruleOf
   of-own h = simp (le-ltb n 5 (omega arith), le-ltb n 31 h)
 

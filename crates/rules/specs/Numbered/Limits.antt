@@ -5,7 +5,7 @@ use mathlib.Core.Bool.{Bool, true, false}
 use mathlib.Core.Option.{Option, some, none}
 use mathlib.Core.Path.{_≡_, refl, ap, sym, _∙_, subst}
 use native.Mathlib.Omega.{arith}
-use lib.ListN.{length, getD, replicate, length-map, length-replicate}
+use lib.ListN.{length, getD, replicate, length-map, length-replicate, getElem?}
 use lib.Dec.{eqb}
 use Rattle.lists.specs.Choice.{pick, cut-lt, cut-eq, clash}
 use Rattle.number.specs.Groups.{numberLimit}
@@ -18,7 +18,7 @@ use Rattle.term.specs.Reader.{terms}
 use Rattle.term.specs.Walk.{holds, holdss}
 use Rattle.protocol.specs.Protocol.{Fact, Rule, Own, Protocol, fact-of, rule-of, factArities, leafIn, declared}
 use Rattle.protocol.specs.Protocol.Limits.{TermWithin, FactWithin, FactsWithin, RuleWithin, Within}
-use Rattle.rules.specs.Numbered.{first, fixed, variables, known, applies, applied, nth, ruleOf}
+use Rattle.rules.specs.Numbered.{first, fixed, variables, known, applies, applied, ruleOf}
 
 -- ── arities are at most 4 ──
 -- what a slot holds
@@ -211,7 +211,7 @@ module _ (slots : List ℕ) where
         }
 
 -- ── the rule of every number ──
-nth-all : {A : Type 0} (P : A → Type 0) (xs : List A) (k : ℕ) (x : A) → All P xs → nth xs k ≡ some x → P x
+nth-all : {A : Type 0} (P : A → Type 0) (xs : List A) (k : ℕ) (x : A) → All P xs → getElem? xs k ≡ some x → P x
 nth-all P [] k x a h = clash (cc)
 nth-all P (y ∷ xs) zero x a h = let e : y ≡ x = cc in subst P e (a .0)
 nth-all P (y ∷ xs) (suc k) x a h = nth-all P xs k x (a .1) h

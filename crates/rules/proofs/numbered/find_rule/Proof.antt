@@ -18,8 +18,8 @@ sub-apply-rule c = search needs
 apply-rule-requires : tie.Need-apply-rule-requires
 apply-rule-requires c κs = search needs
 
-add-apply-rule : tie.Need-add-apply-rule
-add-apply-rule c = search needs
+sub-apply-rule-2 : tie.Need-sub-apply-rule-2
+sub-apply-rule-2 c = search needs
 
 apply-rule-requires-2 : tie.Need-apply-rule-requires-2
 apply-rule-requires-2 c κs = search needs
@@ -58,7 +58,7 @@ returns-3 : tie.Need-returns-3
 returns-3 c =
     let c10 = c .before .before .before .before .before .before .before .before .before .before in
     λ s ns ars flags i. finds-applied (i .is) (c10 .args .number) s (now (c10 .args .arities)) (take ns ars) (c .before .before .apply-rule2 .last .1 .1 .0)
-    (13 + (c10 .args .number - 15)) (omega arith) (omega arith) (omega arith) (c .before .before .apply-rule2 .result)
+    (c10 .args .number - 2) (omega arith) (omega arith) (omega arith) (c .before .before .apply-rule2 .result)
     (c .before .before .apply-rule2 .ensures (i .is .functions) (i .within .arities) (i .slotted))
 
 returns-4 : tie.Need-returns-4
@@ -74,7 +74,7 @@ find-rule-spec =
     put-fixed-requires
     sub-apply-rule
     apply-rule-requires
-    add-apply-rule
+    sub-apply-rule-2
     apply-rule-requires-2
     own-rule-requires
     same-length
