@@ -10,10 +10,10 @@ use Rattle.canonical.specs.First.{FirstAt}
 use Rattle.lists.specs.Asks.{Asks, Asks₂, Promises, Promises₂}
 use Rattle.octets.specs.Splice.Prefix.{Wrote, widen, wrote-then, wrote-there}
 use Rattle.number.specs.Groups.{groups, numberLimit}
-use Rattle.term.specs.Term.{Term, app, Terms, _&_, count, encode, encodes}
+use Rattle.term.specs.Term.{variable, Term, app, Terms, _&_, count, encode, encodes, Occurss}
 use Rattle.term.specs.Term.Laws.{encode-some}
 use Rattle.term.specs.Arity.{arity}
-use Rattle.message.specs.Substitution.{sub, subs, Occurss}
+use Rattle.message.specs.Substitution.{sub, subs}
 use Rattle.message.specs.Substitution.Laws.{sub-formed}
 use Rattle.message.specs.Canon.{canon}
 use Rattle.product.specs.Writing.{wrote-over}
@@ -73,7 +73,7 @@ module _ (slots vals starts src : List ℕ) (at k : ℕ) (out : List ℕ) (o : �
           wrote-then (widen w (omega (arith, A .ends, l, h)) A) (widen w (omega (arith, A .ends, l, h)) (m .wrote)) in
           let formed = sub-formed (arity slots) θ (app tag args) (J .formed .0) (λ v i. J .values v (inl i) .formed) in
           let range = sub-range θ (app tag args) (J .range .0) (λ v i. J .values v (inl i) .range) in
-          let own : (v : ℕ) → Occurss v args → canon (θ v) ≡ θ v = λ v i. J .values v (inl i) .own in
+          let own : (v : ℕ) → Occurss variable v args → canon (θ v) ≡ θ v = λ v i. J .values v (inl i) .own in
           let g = group slots (J .table) in
           let z = app-size (arity slots) tag vs (subs θ args) (sounds (arity slots) g θ args (isProduct tag) (formed .1) own .sizes) in
           let s = J .small .0 in

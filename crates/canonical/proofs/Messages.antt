@@ -1,7 +1,7 @@
 -- One message: its canonical form in a buffer, and what the comparisons decide.
 use Prim.Native.Nat.{ℕ, _+_, _-_, _≤_}
 use mathlib.Core.List.{List, _++_, append-nil}
-use mathlib.Core.Path.{_≡_, refl, ap, ap₂, sym, _∙_}
+use mathlib.Core.Path.{_≡_, refl, ap, sym, _∙_}
 use mathlib.Core.Logic.{_↔_, ⊎-elim}
 use mathlib.Core.Bool.{Bool, true}
 use native.Mathlib.Omega.{arith}
@@ -13,11 +13,12 @@ use Rattle.octets.specs.Compare.{compareBytes, isEqual}
 use Rattle.octets.specs.Compare.Laws.{compare-refl}
 use Rattle.octets.specs.Head.{stands-at, stands-within, stands-part, Stands}
 use Rattle.octets.specs.Splice.Prefix.{wrote-there}
-use Rattle.term.specs.Term.{variable, public, fresh, Term, leaf, app, Terms, nil, _&_, encode, encodes, Formed}
+use Rattle.term.specs.Term.{variable, Term, leaf, nil, _&_, encode, encodes, Formed}
 use Rattle.term.specs.Term.Laws.{encode-some}
 use Rattle.term.specs.Arity.{arity}
 use Rattle.message.specs.Equations.{Same}
-use Rattle.message.specs.Substitution.{sub, subs, Occurs, Occurss, Ground, Grounds}
+use Rattle.message.specs.Substitution.{Ground}
+use Rattle.message.specs.Substitution.Laws.{sub-same}
 use Rattle.message.specs.Canon.{canon}
 use Rattle.message.specs.Theorems.{same-canon, canon-is-formed}
 use Rattle.message.specs.Filled.{filled, filleds}
@@ -29,30 +30,8 @@ use Rattle.canonical.specs.Inner.{Here}
 use Rattle.canonical.proofs.Parts.{same-term}
 
 -- ── no variable stands in a message ──
-mutual
-  none-occurs : (t : Term) (v : ℕ) → Ground t → Occurs v t → ⊥
-  none-occurs (leaf variable n) v g o = g
-  none-occurs (leaf public n) v g o = o
-  none-occurs (leaf fresh n) v g o = o
-  none-occurs (app f ts) v g o = none-occurss ts v g o
-
-  none-occurss : (ts : Terms) (v : ℕ) → Grounds ts → Occurss v ts → ⊥
-  none-occurss nil v g o = o
-  none-occurss (t & ts) v g o = ⊎-elim (λ a. none-occurs t v (g .0) a) (λ a. none-occurss ts v (g .1) a) o
-
-mutual
-  sub-same : (t : Term) → sub (leaf variable) t ≡ t
-  sub-same (leaf variable n) = refl
-  sub-same (leaf public n) = refl
-  sub-same (leaf fresh n) = refl
-  sub-same (app f ts) = ap (app f) (subs-same ts)
-
-  subs-same : (ts : Terms) → subs (leaf variable) ts ≡ ts
-  subs-same nil = refl
-  subs-same (t & ts) = ap₂ _&_ (sub-same t) (subs-same ts)
-
 filled-message : (t : Term) → Ground t → filled (leaf variable) t ≡ canon t
-filled-message t g = filled-canon (leaf variable) t (λ v o. absurd (none-occurs t v g o)) ∙ ap canon (sub-same t)
+filled-message t g = filled-canon (leaf variable) t (λ v o. absurd (g v o)) ∙ ap canon (sub-same t)
 
 -- ── its canonical form ──
 module _ (slots s starts : List ℕ) (at : ℕ) where
@@ -64,7 +43,7 @@ module _ (slots s starts : List ℕ) (at : ℕ) where
     range = (m .range, tt);
     rest = m .rest;
     there = m .there ∙ ap (λ (z : List ℕ). z ++ m .rest) (sym (append-nil (encode t)));
-    values = λ v o. absurd (⊎-elim (λ a. none-occurs t v (m .ground) a) (λ a. a) o);
+    values = λ v o. absurd (⊎-elim (m .ground v) (λ a. a) o);
     small = (rw (sub-same t) (m .small), tt);
     room = let k = m .small in rw (sub-same t, append-nil (encode t)) (omega (arith, bytes-few t (m .range), k));
     short = omega arith;

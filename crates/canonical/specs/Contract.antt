@@ -6,9 +6,9 @@ use lib.ListN.{length, drop, getD}
 use Rattle.octets.specs.Limits.{longest}
 use Rattle.term.specs.Sizes.{mostSymbols}
 use Rattle.octets.specs.Splice.Prefix.{Wrote}
-use Rattle.term.specs.Term.{Term, Terms, count, encode, encodes, symbols, Formed, Formeds, InRange, InRanges}
+use Rattle.term.specs.Term.{variable, Term, Terms, count, encode, encodes, symbols, Formed, Formeds, InRange, InRanges, Occurss}
 use Rattle.term.specs.Arity.{arity}
-use Rattle.message.specs.Substitution.{sub, subs, Occurss, Ground}
+use Rattle.message.specs.Substitution.{sub, subs, Ground}
 use Rattle.message.specs.Parts.Entries.{Each}
 use Rattle.message.specs.Canon.{canon}
 use Rattle.canonical.specs.Builtins.{Builtins}
@@ -34,7 +34,7 @@ pub record Job (slots vals starts src : List ℕ) (at k n o : ℕ) (θ : ℕ →
   pub range : InRanges ts
   pub rest : List ℕ
   pub there : drop at src ≡ encodes ts ++ rest
-  pub values : (v : ℕ) → Occurss v ts → Value slots vals starts v (θ v)
+  pub values : (v : ℕ) → Occurss variable v ts → Value slots vals starts v (θ v)
   pub small : Each (λ t. symbols (sub θ t) ≤ mostSymbols) ts
   pub room : o + length (encodes (subs θ ts)) ≤ n
   pub short : n ≤ longest

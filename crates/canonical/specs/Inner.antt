@@ -7,9 +7,9 @@ use Rattle.octets.specs.Limits.{longest}
 use Rattle.term.specs.Sizes.{mostSymbols}
 use Rattle.octets.specs.Head.{Stands}
 use Rattle.number.specs.Groups.{numberLimit}
-use Rattle.term.specs.Term.{Kind, Term, leaf, app, Terms, tagOf, encode, symbols, Formed, InRange}
+use Rattle.term.specs.Term.{Kind, Term, leaf, app, Terms, tagOf, encode, symbols, Formed, InRange, variable, Occurs}
 use Rattle.term.specs.Arity.{arity}
-use Rattle.message.specs.Substitution.{sub, Occurs}
+use Rattle.message.specs.Substitution.{sub}
 use Rattle.canonical.specs.Builtins.{Builtins}
 use Rattle.canonical.specs.Contract.{Value}
 
@@ -18,7 +18,7 @@ use Rattle.canonical.specs.Contract.{Value}
 pub record LeafJob (slots vals starts : List ℕ) (n o tag number : ℕ) (θ : ℕ → Term) (k : Kind) : Type 0 where
   pub kind : tag ≡ tagOf k
   pub range : number < numberLimit
-  pub values : (v : ℕ) → Occurs v (leaf k number) → Value slots vals starts v (θ v)
+  pub values : (v : ℕ) → Occurs variable v (leaf k number) → Value slots vals starts v (θ v)
   pub room : o + length (encode (sub θ (leaf k number))) ≤ n
   pub values-short : length vals ≤ longest
 

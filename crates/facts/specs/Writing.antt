@@ -7,9 +7,9 @@ use Rattle.term.specs.Sizes.{mostSymbols}
 use Rattle.octets.specs.Splice.Prefix.{Wrote}
 use Rattle.number.specs.Layout.{flat}
 use Rattle.lists.specs.All.{All}
-use Rattle.term.specs.Term.{Term, encode, symbols}
+use Rattle.term.specs.Term.{Term, encode, symbols, variable, Occurss}
 use Rattle.term.specs.Reader.{terms}
-use Rattle.message.specs.Substitution.{sub, Occurss}
+use Rattle.message.specs.Substitution.{sub}
 use Rattle.message.specs.Canon.{canon}
 use Rattle.canonical.specs.Builtins.{Builtins}
 use Rattle.canonical.specs.Contract.{Value}
@@ -58,7 +58,7 @@ factRoom = 8192
 pub record FactJob (slots ars vals starts src : List ℕ) (place n o : ℕ) (vs : List Term) (f : Fact) : Type 0 where
   pub table : Builtins slots
   pub here : Here (fact src slots ars) f place
-  pub values : (v : ℕ) → Occurss v (terms (f .terms)) → Value slots vals starts v (valueAt vs v)
+  pub values : (v : ℕ) → Occurss variable v (terms (f .terms)) → Value slots vals starts v (valueAt vs v)
   pub small : All (λ t. symbols (sub (valueAt vs) t) ≤ mostSymbols) (f .terms)
   pub few : length (plainBytes (filledFact vs f)) ≤ factRoom
   pub room : o + factRoom ≤ n

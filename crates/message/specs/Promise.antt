@@ -2,7 +2,7 @@
 -- its other files.
 use Prim.Native.Nat.{ℕ, suc}
 use mathlib.Core.Path.{_≡_, refl, sym, _∙_, ap}
-use mathlib.Core.Logic.{_↔_}
+use mathlib.Core.Logic.{_↔_, ⊎-elim}
 use mathlib.Core.Bool.{Bool, true}
 use mathlib.Core.List.{List, [], _∷_}
 use mathlib.Core.Option.{Option, some}
@@ -16,6 +16,7 @@ use Rattle.term.specs.Term.{public, fresh, Term, leaf, app, Terms, nil, _&_, co
 use Rattle.term.specs.Arity.{arity, slots}
 use Rattle.message.specs.Equations.{Figure2, Same, Congruences, reflexive, symmetric, transitive, congruent, same-none, same-more}
 use Rattle.message.specs.Substitution.{Ground, Grounds}
+use Rattle.message.specs.Substitution.Laws.{public-ground, fresh-ground}
 use Rattle.message.specs.Rules.{FitArities}
 use Rattle.message.specs.Canon.{canon}
 use Rattle.message.specs.Theorems.{same-canon, same-bytes, declared}
@@ -41,10 +42,10 @@ module _ (ar : ℕ → Option ℕ) where
 
   -- "Fresh and public names are two incomparable sets, each numbered from 0."
   abbrev pub publicName : ℕ → Message ar
-  publicName n = record { term = leaf public n; formed = tt; ground = tt }
+  publicName n = record { term = leaf public n; formed = tt; ground = public-ground n }
 
   abbrev pub freshName : ℕ → Message ar
-  freshName n = record { term = leaf fresh n; formed = tt; ground = tt }
+  freshName n = record { term = leaf fresh n; formed = tt; ground = fresh-ground n }
 
   -- the term of a function's tag and messages
   abbrev pub terms : List (Message ar) → Terms
@@ -60,8 +61,8 @@ module _ (ar : ℕ → Option ℕ) where
   terms-formed (m ∷ ms) = (m .formed, terms-formed ms)
 
   pub terms-ground : (ms : List (Message ar)) → Grounds (terms ms)
-  terms-ground [] = tt
-  terms-ground (m ∷ ms) = (m .ground, terms-ground ms)
+  terms-ground [] = λ v o. o
+  terms-ground (m ∷ ms) = λ v. ⊎-elim (m .ground v) (terms-ground ms v)
 
   -- the function of tag f applied to as many messages as it takes
   abbrev pub apply : (f : ℕ) (ms : List (Message ar)) → ar f ≡ some (length ms) → Message ar

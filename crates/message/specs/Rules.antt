@@ -5,10 +5,10 @@ use mathlib.Core.Path.{_≡_}
 use mathlib.Core.Logic.{_≢_}
 use mathlib.Core.Option.{Option, some}
 use Rattle.term.specs.Tags.{oneTag, expTag, invTag, mulTag}
-use Rattle.term.specs.Term.{variable, Term, leaf, app, Terms, nil, _&_, Formed, Formeds}
+use Rattle.term.specs.Term.{variable, Term, leaf, app, Terms, nil, _&_, Formed, Formeds, Occurs, Occurss}
 use Rattle.message.specs.Functions.{one, exp, inv, mul}
 use Rattle.message.specs.Equations.{Congruence, Congruences}
-use Rattle.message.specs.Substitution.{sub, Occurs, Occurss}
+use Rattle.message.specs.Substitution.{sub}
 
 -- ── a subterm rule ──
 -- f(args) = result, over the variables of args
@@ -43,7 +43,7 @@ pub record FitRule (ar : ℕ → Option ℕ) (rule : ℕ → Option Rule) (f : �
   pub head : Ordinary f
   pub args : Constructorss rule (r .args)
   pub result : Result ar rule (r .result)
-  pub bound : (v : ℕ) → Occurs v (r .result) → Occurss v (r .args)
+  pub bound : (v : ℕ) → Occurs variable v (r .result) → Occurss variable v (r .args)
 
 -- ── what the proofs ask of the arities ──
 -- a function is no leaf, and the functions that the proofs know by their tags have their arities

@@ -1,12 +1,8 @@
--- Values in place of the variables, and which variables stand in a term.
+-- Values in place of the variables, and terms without variables.
 use Prim.Native.Nat.{ℕ}
-use mathlib.Core.Path.{_≡_}
-use mathlib.Core.Logic.{_⊎_}
-use Rattle.term.specs.Term.{variable, public, fresh, Term, leaf, app, Terms, nil, _&_}
+use Rattle.term.specs.Term.{variable, public, fresh, Term, leaf, app, Terms, nil, _&_, Occurs, Occurss}
 -- their laws
 pub mod Laws
--- the test for variables decides
-pub mod Decided
 -- equality is closed under it
 pub mod Same
 
@@ -22,26 +18,9 @@ abbrev mutual
   subs θ nil = nil
   subs θ (t & ts) = sub θ t & subs θ ts
 
--- variable v stands in the term
-abbrev mutual
-  pub Occurs : ℕ → Term → Type 0
-  Occurs v (leaf variable n) = n ≡ v
-  Occurs v (leaf public n) = ⊥
-  Occurs v (leaf fresh n) = ⊥
-  Occurs v (app f ts) = Occurss v ts
-
-  pub Occurss : ℕ → Terms → Type 0
-  Occurss v nil = ⊥
-  Occurss v (t & ts) = Occurs v t ⊎ Occurss v ts
-
 -- no variable stands in the term
-abbrev mutual
-  pub Ground : Term → Type 0
-  Ground (leaf variable n) = ⊥
-  Ground (leaf public n) = Unit {0}
-  Ground (leaf fresh n) = Unit {0}
-  Ground (app f ts) = Grounds ts
+abbrev pub Ground : Term → Type 0
+Ground t = (v : ℕ) → Occurs variable v t → ⊥
 
-  pub Grounds : Terms → Type 0
-  Grounds nil = Unit {0}
-  Grounds (t & ts) = Ground t × Grounds ts
+abbrev pub Grounds : Terms → Type 0
+Grounds ts = (v : ℕ) → Occurss variable v ts → ⊥

@@ -1,6 +1,7 @@
 -- "A term is written in prefix order, tag first": terms as trees, their bytes, their symbols.
 use Prim.Native.Nat.{ℕ, suc, _+_, _<_}
 use mathlib.Core.List.{List, [], _++_}
+use mathlib.Core.Logic.{_⊎_}
 use mathlib.Core.Option.{Option, some}
 use mathlib.Core.Path.{_≡_}
 use Rattle.number.specs.Groups.{groups, numberLimit}
@@ -71,3 +72,13 @@ abbrev mutual
   pub InRanges : Terms → Type 0
   InRanges nil = Unit {0}
   InRanges (t & ts) = InRange t × InRanges ts
+
+-- the leaf of a kind and a number stands in a term: "plain occurrence, below dec or inv too"
+abbrev mutual
+  pub Occurs : Kind → ℕ → Term → Type 0
+  Occurs k n (leaf j m) = leaf j m ≡ leaf k n
+  Occurs k n (app f ts) = Occurss k n ts
+
+  pub Occurss : Kind → ℕ → Terms → Type 0
+  Occurss k n nil = ⊥
+  Occurss k n (t & ts) = Occurs k n t ⊎ Occurss k n ts

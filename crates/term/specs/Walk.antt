@@ -14,6 +14,8 @@ use Rattle.term.specs.Term.{Term, leaf, app, Terms, nil, _&_, tagOf, enc
 pub mod Laws
 -- what the answers say of trees
 pub mod Exact
+-- the test for a leaf decides
+pub mod Holds
 
 -- a leaf of the kind with this tag, its number from lo on and below hi
 abbrev pub hits : ℕ → ℕ → ℕ → ℕ → ℕ → Bool

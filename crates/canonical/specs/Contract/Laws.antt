@@ -5,10 +5,10 @@ use mathlib.Core.List.{List}
 use mathlib.Core.Logic.{_↔_, inl, inr}
 use native.Mathlib.Omega.{arith}
 use Rattle.term.specs.Sizes.{mostSymbols}
-use Rattle.term.specs.Term.{Term, Terms, nil, _&_, encodes, symbols, Formed, Formeds, InRange, InRanges}
+use Rattle.term.specs.Term.{Term, Terms, nil, _&_, encodes, symbols, Formed, Formeds, InRange, InRanges, variable, Occurs, Occurss}
 use Rattle.term.specs.Arity.{arity}
 use Rattle.message.specs.Canonical.{Canonical}
-use Rattle.message.specs.Substitution.{sub, subs, Occurs, Occurss, Ground}
+use Rattle.message.specs.Substitution.{sub, subs, Ground}
 use Rattle.message.specs.Substitution.Laws.{sub-formed, sub-ground}
 use Rattle.message.specs.Parts.Entries.{Each}
 use Rattle.message.specs.Canon.{canon, canons}
@@ -35,7 +35,7 @@ pub record Fit (slots : List ℕ) (t : Term) : Type 0 where
 
 module _ (slots vals starts : List ℕ) (b : Builtins slots) (θ : ℕ → Term) where
   fit : (t : Term) → Formed (arity slots) t → InRange t → symbols (sub θ t) ≤ mostSymbols
-      → ((v : ℕ) → Occurs v t → Value slots vals starts v (θ v)) → Fit slots (filled θ t)
+      → ((v : ℕ) → Occurs variable v t → Value slots vals starts v (θ v)) → Fit slots (filled θ t)
   fit t w r s h =
       let g = group slots b in
       let u : Term = sub θ t in
@@ -49,7 +49,7 @@ module _ (slots vals starts : List ℕ) (b : Builtins slots) (θ : ℕ → Term)
       })
 
   fits : (ts : Terms) → Formeds (arity slots) ts → InRanges ts → Each (λ t. symbols (sub θ t) ≤ mostSymbols) ts
-      → ((v : ℕ) → Occurss v ts → Value slots vals starts v (θ v)) → Each (Fit slots) (filleds θ ts)
+      → ((v : ℕ) → Occurss variable v ts → Value slots vals starts v (θ v)) → Each (Fit slots) (filleds θ ts)
   fits nil w r s h = tt
   fits (t & ts) w r s h = (fit t (w .0) (r .0) (s .0) (λ v i. h v (inl i)), fits ts (w .1) (r .1) (s .1) (λ v i. h v (inr i)))
 
@@ -63,7 +63,7 @@ written-fit slots vals starts src at k n o θ ts J =
 -- filled in with ground values it is ground
 pub written-ground :
     (slots vals starts : List ℕ) (b : Builtins slots) (θ : ℕ → Term) (t : Term)
-    → ((v : ℕ) → Occurs v t → Value slots vals starts v (θ v)) → ((v : ℕ) → Occurs v t → Ground (θ v)) → Ground (filled θ t)
+    → ((v : ℕ) → Occurs variable v t → Value slots vals starts v (θ v)) → ((v : ℕ) → Occurs variable v t → Ground (θ v)) → Ground (filled θ t)
 written-ground slots vals starts b θ t h g =
     rw (filled-canon θ t (λ v i. h v i .own)) (canon-is-ground (arity slots) (group slots b) (sub θ t) (sub-ground θ t g))
 

@@ -11,10 +11,10 @@ use borrow.Author.Tests.{ne-eqb}
 use Rattle.term.specs.Tags.{expTag}
 use Rattle.lists.specs.Choice.{clash}
 use Rattle.number.specs.Groups.{groups}
-use Rattle.term.specs.Term.{variable, public, fresh, Term, leaf, app, Terms, nil, _&_}
-use Rattle.term.specs.Term.{count, encode, encodes, symbols, symbolss, Formed, Formeds, InRange, InRanges}
+use Rattle.term.specs.Term.{variable, public, fresh, Term, leaf, app, Terms, nil, _&_, Occurs}
+use Rattle.term.specs.Term.{Occurss, count, encode, encodes, symbols, symbolss, Formed, Formeds, InRange, InRanges}
 use Rattle.message.specs.Product.{Exps, build}
-use Rattle.message.specs.Substitution.{sub, subs, Occurs, Occurss}
+use Rattle.message.specs.Substitution.{sub, subs}
 use Rattle.message.specs.Rules.{Ordinary, FitArities, Theory}
 use Rattle.message.specs.Table.{rules}
 use Rattle.message.specs.Table.Laws.{theory}
@@ -52,13 +52,13 @@ module _ (inside : Bool) (f : ℕ) (us : Terms) where
 -- ── a term in range filled in with values in range is in range ──
 module _ (θ : ℕ → Term) where
   mutual
-    pub sub-range : (t : Term) → InRange t → ((v : ℕ) → Occurs v t → InRange (θ v)) → InRange (sub θ t)
+    pub sub-range : (t : Term) → InRange t → ((v : ℕ) → Occurs variable v t → InRange (θ v)) → InRange (sub θ t)
     sub-range (leaf variable n) r h = h n refl
     sub-range (leaf public n) r h = r
     sub-range (leaf fresh n) r h = r
     sub-range (app f ts) r h = (r .0, subs-range ts (r .1) h)
 
-    pub subs-range : (ts : Terms) → InRanges ts → ((v : ℕ) → Occurss v ts → InRange (θ v)) → InRanges (subs θ ts)
+    pub subs-range : (ts : Terms) → InRanges ts → ((v : ℕ) → Occurss variable v ts → InRange (θ v)) → InRanges (subs θ ts)
     subs-range nil r h = tt
     subs-range (t & ts) r h = (sub-range t (r .0) (λ v o. h v (inl o)), subs-range ts (r .1) (λ v o. h v (inr o)))
 
@@ -172,10 +172,10 @@ module _ (ar : ℕ → Option ℕ) (g : FitArities ar) (θ : ℕ → Term) where
 
   -- the values are their own canonical form
   abbrev Own : Term → Type 0
-  Own t = (v : ℕ) → Occurs v t → canon (θ v) ≡ θ v
+  Own t = (v : ℕ) → Occurs variable v t → canon (θ v) ≡ θ v
 
   abbrev Owns : Terms → Type 0
-  Owns ts = (v : ℕ) → Occurss v ts → canon (θ v) ≡ θ v
+  Owns ts = (v : ℕ) → Occurss variable v ts → canon (θ v) ≡ θ v
 
   mutual
     pub sound : (t : Term) (inside : Bool) → Formed ar (sub θ t) → Own t → Sound inside t

@@ -20,7 +20,7 @@ use Rattle.term.specs.Reader.Exact.{term-back, term-form}
 use Rattle.term.specs.Walk.{holds}
 use Rattle.lists.specs.Tests.{not-split, and-split}
 use Rattle.message.specs.Substitution.{Ground}
-use Rattle.message.specs.Substitution.Decided.{none-ground, ground-none}
+use Rattle.message.specs.Substitution.Laws.{none-ground, ground-none}
 use Rattle.checker.specs.Files.{termFile}
 
 -- s is the encoding of t, a formed term in range without variables

@@ -9,11 +9,11 @@ use Rattle.term.specs.Sizes.{mostSymbols}
 use Rattle.octets.specs.Head.{Bytes}
 use Rattle.octets.specs.Splice.Prefix.{Wrote, widen}
 use Rattle.number.specs.Layout.{flat}
-use Rattle.term.specs.Term.{Term, nil, _&_, encode, encodes, symbols, Formed}
+use Rattle.term.specs.Term.{variable, Term, nil, _&_, encode, encodes, symbols, Formed, Occurs, Occurss}
 use Rattle.term.specs.Arity.{arity}
 use Rattle.term.specs.Reader.{terms}
 use Rattle.term.specs.Reader.Exact.{term-form}
-use Rattle.message.specs.Substitution.{sub, subs, Occurs, Occurss}
+use Rattle.message.specs.Substitution.{sub, subs}
 use Rattle.message.specs.Theorems.{fewer-bytes}
 use Rattle.message.specs.Canon.{canon}
 use Rattle.canonical.specs.Builtins.{group}
@@ -28,7 +28,7 @@ use Rattle.facts.specs.Writing.{factRoom, FactJob, ArgumentReady, Argume
 use Rattle.facts.specs.Writing.Whole.{job-formed}
 
 -- ── a term of a list ──
-occurs-at : (v j : ℕ) (ts : List Term) → j < length ts → Occurs v (getD ts j noTerm) → Occurss v (terms ts)
+occurs-at : (v j : ℕ) (ts : List Term) → j < length ts → Occurs variable v (getD ts j noTerm) → Occurss variable v (terms ts)
 occurs-at v j [] l o = absurd (omega arith)
 occurs-at v zero (t ∷ ts) l o = inl o
 occurs-at v (suc j) (t ∷ ts) l o = inr (occurs-at v j ts (omega arith) o)

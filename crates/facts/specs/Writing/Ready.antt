@@ -12,10 +12,11 @@ use Rattle.octets.specs.Head.{Bytes}
 use Rattle.number.specs.Groups.{numberLimit}
 use Rattle.number.specs.Layout.{flat}
 use Rattle.lists.specs.All.{All}
-use Rattle.term.specs.Term.{variable, Term, leaf, encode, symbols, InRange}
+use Rattle.term.specs.Term.{variable, Term, leaf, encode, symbols, InRange, Occurss}
 use Rattle.term.specs.Reader.{terms, term}
 use Rattle.term.specs.Walk.{holds}
-use Rattle.message.specs.Substitution.{sub, Occurss}
+use Rattle.term.specs.Walk.Holds.{occurs-below}
+use Rattle.message.specs.Substitution.{sub}
 use Rattle.message.specs.Canon.{canon}
 use Rattle.canonical.specs.Builtins.{Builtins}
 use Rattle.canonical.specs.Size.{bytes-few}
@@ -27,7 +28,6 @@ use Rattle.protocol.specs.Places.{Here}
 use Rattle.protocol.specs.Index.{Placed}
 use Rattle.lists.specs.All.Laws.{all-at, none-all}
 use Rattle.steps.specs.Facts.{valueAt}
-use Rattle.steps.specs.Facts.Formed.{occurs-below}
 use Rattle.facts.specs.Writing.Places.{placed-value}
 use Rattle.facts.specs.Writing.{FactJob, factRoom}
 use Rattle.facts.specs.Writing.Whole.{fact-terms}
@@ -36,14 +36,14 @@ use Rattle.steps.specs.Values.Parts.{noTerm}
 -- ── the variables of a fact's terms ──
 all-below :
     (slots : List ℕ) (k v : ℕ) (ts : List Term) → All (TermWithin slots) ts → All (λ t. holds t 0 k numberLimit ≡ false) ts
-    → Occurss v (terms ts) → v < k
+    → Occurss variable v (terms ts) → v < k
 all-below slots k v [] a b o = absurd o
 all-below slots k v (t ∷ ts) a b o =
-    ⊎-elim (λ q. occurs-below t v k (a .0 .range) (b .0) q) (λ q. all-below slots k v ts (a .1) (b .1) q) o
+    ⊎-elim (λ q. occurs-below variable t v k (a .0 .range) (b .0) q) (λ q. all-below slots k v ts (a .1) (b .1) q) o
 
 -- ── the room that the terms take ──
 filled-few :
-    (slots : List ℕ) (θ : ℕ → Term) (ts : List Term) → All (TermWithin slots) ts → ((v : ℕ) → Occurss v (terms ts) → InRange (θ v))
+    (slots : List ℕ) (θ : ℕ → Term) (ts : List Term) → All (TermWithin slots) ts → ((v : ℕ) → Occurss variable v (terms ts) → InRange (θ v))
     → All (λ t. symbols (sub θ t) ≤ mostSymbols) ts → length (flat encode (map (sub θ) ts)) ≤ 1024 * length ts
 filled-few slots θ [] a h s = omega arith
 filled-few slots θ (t ∷ ts) a h s =
@@ -74,7 +74,7 @@ module _ (slots ars s starts src : List ℕ) (place : ℕ) (vs : List Term) (k :
   within : All (TermWithin slots) (f .terms)
   within = fact-terms src slots ars place (fits .bytes) f (fits .here) .0
 
-  value-of : (v : ℕ) → Occurss v (terms (f .terms)) → Value slots s starts v (valueAt vs v)
+  value-of : (v : ℕ) → Occurss variable v (terms (f .terms)) → Value slots s starts v (valueAt vs v)
   value-of v o =
       placed-value s slots starts vs k (has .bytes) (has .placed) (has .many) v
       (all-below slots k v (f .terms) within (none-all (λ t. holds t 0 k numberLimit) (f .terms) (fits .bound)) o)

@@ -12,11 +12,11 @@ use Rattle.number.specs.Reading.{Read, andThen, below, many}
 use Rattle.number.specs.Layout.{flat}
 use Rattle.lists.specs.All.{All}
 use Rattle.number.specs.Layout.Laws.{many-form}
-use Rattle.term.specs.Term.{Term, encode, encodes, symbols, Formed, Formeds, InRanges}
+use Rattle.term.specs.Term.{variable, Term, encode, encodes, symbols, Formed, Formeds, InRanges, Occurss}
 use Rattle.term.specs.Arity.{arity}
 use Rattle.term.specs.Reader.{terms}
 use Rattle.term.specs.Reader.Exact.{encodes-terms, count-terms}
-use Rattle.message.specs.Substitution.{sub, subs, Occurss}
+use Rattle.message.specs.Substitution.{sub, subs}
 use Rattle.message.specs.Substitution.Laws.{sub-formed}
 use Rattle.message.specs.Theorems.{fewer-bytes}
 use Rattle.message.specs.Parts.Entries.{Each}
@@ -63,7 +63,7 @@ fact-terms src slots ars place bytes f h =
 
 -- ── canonical forms take no more room ──
 pub filled-formed :
-    (slots : List ℕ) (θ : ℕ → Term) (ts : List Term) → All (TermWithin slots) ts → ((v : ℕ) → Occurss v (terms ts) → Formed (arity slots) (θ v))
+    (slots : List ℕ) (θ : ℕ → Term) (ts : List Term) → All (TermWithin slots) ts → ((v : ℕ) → Occurss variable v (terms ts) → Formed (arity slots) (θ v))
     → All (Formed (arity slots)) (map (sub θ) ts)
 filled-formed slots θ [] a h = tt
 filled-formed slots θ (t ∷ ts) a h =

@@ -6,10 +6,10 @@ use mathlib.Core.Option.{Option, some}
 use native.Mathlib.Omega.{arith}
 use Rattle.term.specs.Tags.{expTag}
 use Rattle.lists.specs.Choice.{clash}
-use Rattle.term.specs.Term.{variable, public, fresh, Term, leaf, app, Terms, nil, _&_, count}
+use Rattle.term.specs.Term.{variable, Term, leaf, app, Terms, nil, _&_, count, Occurs, Occurss}
 use Rattle.message.specs.Functions.{one, exp}
 use Rattle.message.specs.Product.{Exps, empty, part, Ascending, build}
-use Rattle.message.specs.Substitution.{sub, subs, Occurs, Occurss}
+use Rattle.message.specs.Substitution.{sub, subs}
 use Rattle.message.specs.Canonical.{CanonicalBy, Factor, name, node, Canonicals, noArg, arg}
 use Rattle.message.specs.Canonical.Laws.{entries-atoms, canonical-build, factor-canonical, factor-args, two-args}
 use Rattle.message.specs.Canonical.Laws.{canonical-is, canonical-entries, sums-entries, canonical-factor}
@@ -71,24 +71,22 @@ module _ (σ : Theory) where
   -- the values of a pattern's variables are canonical
   mutual
     canonical-occurs :
-        (θ : ℕ → Term) (v : ℕ) (p : Term) → Constructors (σ .rule) p → WF σ (sub θ p) → CanonicalBy S (sub θ p) → Occurs v p
+        (θ : ℕ → Term) (v : ℕ) (p : Term) → Constructors (σ .rule) p → WF σ (sub θ p) → CanonicalBy S (sub θ p) → Occurs variable v p
         → CanonicalBy S (θ v)
-    canonical-occurs θ v (leaf variable n) k w c o = subst (λ (i : ℕ). CanonicalBy S (θ i)) o c
-    canonical-occurs θ v (leaf public n) k w c o = absurd o
-    canonical-occurs θ v (leaf fresh n) k w c o = absurd o
+    canonical-occurs θ v (leaf j n) k w c o = subst (λ (t : Term). CanonicalBy S (sub θ t)) o c
     canonical-occurs θ v (app f ps) k w c o =
         canonicals-occurs θ v ps (k .2) (w .1)
         (factor-args S (canonical-factor σ S (app f (subs θ ps)) w c (rw (ordinary-role f (k .0)))) .0) o
 
     canonicals-occurs :
-        (θ : ℕ → Term) (v : ℕ) (ps : Terms) → Constructorss (σ .rule) ps → WFs σ (subs θ ps) → Canonicals S (subs θ ps) → Occurss v ps
+        (θ : ℕ → Term) (v : ℕ) (ps : Terms) → Constructorss (σ .rule) ps → WFs σ (subs θ ps) → Canonicals S (subs θ ps) → Occurss variable v ps
         → CanonicalBy S (θ v)
     canonicals-occurs θ v nil k w c o = absurd o
     canonicals-occurs θ v (p & ps) k w (arg c cs) o =
         ⊎-elim (λ a. canonical-occurs θ v p (k .0) (w .0) c a) (λ a. canonicals-occurs θ v ps (k .1) (w .1) cs a) o
 
   result-canonical :
-      (θ : ℕ → Term) (u : Term) → Result (σ .arity) (σ .rule) u → ((v : ℕ) → Occurs v u → CanonicalBy S (θ v)) → CanonicalBy S (sub θ u)
+      (θ : ℕ → Term) (u : Term) → Result (σ .arity) (σ .rule) u → ((v : ℕ) → Occurs variable v u → CanonicalBy S (θ v)) → CanonicalBy S (sub θ u)
   result-canonical θ u (aVariable {n = n}) h = h n refl
   result-canonical θ u (aConstant {f = f} q o e a) h = factor-canonical S (constructor-factor f nil o e noArg)
 

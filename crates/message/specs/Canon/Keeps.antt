@@ -2,15 +2,15 @@
 -- well formed, ground, and in range if the term is.
 use Prim.Native.Nat.{ℕ, suc, _≤_, _<_}
 use mathlib.Core.Path.{_≡_, refl, sym, _∙_, ap, subst}
-use mathlib.Core.Logic.{⊎-elim}
+use mathlib.Core.Logic.{inl, inr, ⊎-elim}
 use mathlib.Core.Option.{Option, some}
 use native.Mathlib.Omega.{arith}
 use Rattle.term.specs.Tags.{expTag}
 use Rattle.number.specs.Groups.{numberLimit}
-use Rattle.term.specs.Term.{variable, public, fresh, Term, leaf, app, Terms, nil, _&_, count, InRange, InRanges}
+use Rattle.term.specs.Term.{variable, Term, leaf, app, Terms, nil, _&_, count, InRange, InRanges, Occurs, Occurss}
 use Rattle.message.specs.Functions.{exp, inv, mul}
 use Rattle.message.specs.Product.{Exps, empty, part, build}
-use Rattle.message.specs.Substitution.{sub, subs, Occurs, Occurss, Ground, Grounds}
+use Rattle.message.specs.Substitution.{sub, subs, Ground, Grounds}
 use Rattle.message.specs.Rules.{Rule, Result, aVariable, aConstant, Theory, WF, WFs}
 use Rattle.message.specs.Parts.{add, neg, Role, role, parts, sums}
 use Rattle.message.specs.Parts.Entries.{Each, Entries, entries-add, entries-neg, of-build, parts-each, sums-each}
@@ -68,18 +68,16 @@ module _ (σ : Theory) (P : Term → Type 0) (k : Kept σ P) where
 
   -- ── the result of a subterm rule ──
   mutual
-    occurs-in : (θ : ℕ → Term) (v : ℕ) (p : Term) → P (sub θ p) → Occurs v p → P (θ v)
-    occurs-in θ v (leaf variable n) w o = subst (λ (i : ℕ). P (θ i)) o w
-    occurs-in θ v (leaf public n) w o = absurd o
-    occurs-in θ v (leaf fresh n) w o = absurd o
+    occurs-in : (θ : ℕ → Term) (v : ℕ) (p : Term) → P (sub θ p) → Occurs variable v p → P (θ v)
+    occurs-in θ v (leaf j n) w o = subst (λ (t : Term). P (sub θ t)) o w
     occurs-in θ v (app f ps) w o = occurss-in θ v ps (k .args f (subs θ ps) w) o
 
-    occurss-in : (θ : ℕ → Term) (v : ℕ) (ps : Terms) → Each P (subs θ ps) → Occurss v ps → P (θ v)
+    occurss-in : (θ : ℕ → Term) (v : ℕ) (ps : Terms) → Each P (subs θ ps) → Occurss variable v ps → P (θ v)
     occurss-in θ v nil w o = absurd o
     occurss-in θ v (p & ps) w o = ⊎-elim (λ a. occurs-in θ v p (w .0) a) (λ a. occurss-in θ v ps (w .1) a) o
 
   small-in :
-      (θ : ℕ → Term) (ps : Terms) (u : Term) → Result (σ .arity) (σ .rule) u → ((v : ℕ) → Occurs v u → Occurss v ps) → Each P (subs θ ps)
+      (θ : ℕ → Term) (ps : Terms) (u : Term) → Result (σ .arity) (σ .rule) u → ((v : ℕ) → Occurs variable v u → Occurss variable v ps) → Each P (subs θ ps)
       → P (sub θ u)
   small-in θ ps u (aVariable {n = n}) h w = occurss-in θ n ps w (h n refl)
   small-in θ ps u (aConstant {f = f} q o e a) h w = k .constant f q a
@@ -142,20 +140,20 @@ module _ (σ : Theory) where
 -- ── ground ──
 ground-each : (ts : Terms) → Grounds ts → Each Ground ts
 ground-each nil w = tt
-ground-each (t & ts) w = (w .0, ground-each ts (w .1))
+ground-each (t & ts) w = (λ v o. w v (inl o), ground-each ts (λ v o. w v (inr o)))
 
 each-ground : (ts : Terms) → Each Ground ts → Grounds ts
-each-ground nil w = tt
-each-ground (t & ts) w = (w .0, each-ground ts (w .1))
+each-ground nil w = λ v o. o
+each-ground (t & ts) w = λ v. ⊎-elim (w .0 v) (each-ground ts (w .1) v)
 
 pub canon-ground : (σ : Theory) (t : Term) → Ground t → Ground (canonBy (σ .rule) t)
 canon-ground σ t w = canon-keeps σ Ground (record {
   args = λ f ts v. ground-each ts v;
   again = λ f ts us e v u. each-ground us u;
-  constant = λ f q e. tt;
-  of-exp = λ a b u v. (u, (v, tt));
-  of-inv = λ a u. (u, tt);
-  of-mul = λ a b u v. (u, (v, tt));
+  constant = λ f q e v o. o;
+  of-exp = λ a b u v. each-ground (a & b & nil) (u, (v, tt));
+  of-inv = λ a u. each-ground (a & nil) (u, tt);
+  of-mul = λ a b u v. each-ground (a & b & nil) (u, (v, tt));
 }) t w
 
 -- ── in range ──

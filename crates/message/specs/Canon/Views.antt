@@ -8,10 +8,10 @@ use native.Mathlib.Omega.{arith}
 use lib.Dec.{eqb}
 use borrow.Author.Tests.{eqb-true, eqb-false, eq-eqb}
 use Rattle.lists.specs.Choice.{clash}
-use Rattle.term.specs.Term.{variable, public, fresh, Term, leaf, app, Terms, nil, _&_, count, tagOf}
+use Rattle.term.specs.Term.{variable, public, fresh, Term, leaf, app, Terms, nil, _&_, count, tagOf, Occurs, Occurss}
 use Rattle.term.specs.Term.Laws.{tag-same}
 use Rattle.message.specs.Functions.{one}
-use Rattle.message.specs.Substitution.{sub, subs, Occurs, Occurss}
+use Rattle.message.specs.Substitution.{sub, subs}
 use Rattle.message.specs.Substitution.Laws.{sub-agree, subs-agree}
 use Rattle.message.specs.Rules.{Rule, Ordinary}
 use Rattle.message.specs.Parts.{Role, plain, power, inverse, product, role}
@@ -112,32 +112,32 @@ mutual
 
 -- ── matching ──
 mutual
-  find-ok : (v : ℕ) (θ : ℕ → Term) (p : Term) → (find v p (sub θ p) ≡ some (θ v)) ⊎ ((find v p (sub θ p) ≡ Option.none) × (Occurs v p → ⊥))
+  find-ok : (v : ℕ) (θ : ℕ → Term) (p : Term) → (find v p (sub θ p) ≡ some (θ v)) ⊎ ((find v p (sub θ p) ≡ Option.none) × (Occurs variable v p → ⊥))
   find-ok v θ (leaf variable n) = go (eqb n v) refl
     where
       go :
           (b : Bool) → eqb n v ≡ b
-          → (cond b (some (θ n)) Option.none ≡ some (θ v)) ⊎ ((cond b (some (θ n)) Option.none ≡ Option.none) × (n ≡ v → ⊥))
+          → (cond b (some (θ n)) Option.none ≡ some (θ v)) ⊎ ((cond b (some (θ n)) Option.none ≡ Option.none) × (leaf variable n ≡ leaf variable v → ⊥))
       go true e = inl (ap (λ (i : ℕ). some (θ i)) (eqb-true n v e))
-      go false e = inr (refl, eqb-false n v e)
-  find-ok v θ (leaf public n) = inr (refl, λ x. x)
-  find-ok v θ (leaf fresh n) = inr (refl, λ x. x)
+      go false e = inr (refl, λ o. eqb-false n v e (cc))
+  find-ok v θ (leaf public n) = inr (refl, λ o. clash (cc))
+  find-ok v θ (leaf fresh n) = inr (refl, λ o. clash (cc))
   find-ok v θ (app f ps) = finds-ok v θ ps
 
   finds-ok :
-      (v : ℕ) (θ : ℕ → Term) (ps : Terms) → (finds v ps (subs θ ps) ≡ some (θ v)) ⊎ ((finds v ps (subs θ ps) ≡ Option.none) × (Occurss v ps → ⊥))
+      (v : ℕ) (θ : ℕ → Term) (ps : Terms) → (finds v ps (subs θ ps) ≡ some (θ v)) ⊎ ((finds v ps (subs θ ps) ≡ Option.none) × (Occurss variable v ps → ⊥))
   finds-ok v θ nil = inr (refl, λ x. x)
   finds-ok v θ (p & ps) = go (find v p (sub θ p)) (finds v ps (subs θ ps)) (find-ok v θ p) (finds-ok v θ ps)
     where
       go :
-          (a b : Option Term) → (a ≡ some (θ v)) ⊎ ((a ≡ Option.none) × (Occurs v p → ⊥))
-          → (b ≡ some (θ v)) ⊎ ((b ≡ Option.none) × (Occurss v ps → ⊥))
-          → (orElse a b ≡ some (θ v)) ⊎ ((orElse a b ≡ Option.none) × (Occurs v p ⊎ Occurss v ps → ⊥))
+          (a b : Option Term) → (a ≡ some (θ v)) ⊎ ((a ≡ Option.none) × (Occurs variable v p → ⊥))
+          → (b ≡ some (θ v)) ⊎ ((b ≡ Option.none) × (Occurss variable v ps → ⊥))
+          → (orElse a b ≡ some (θ v)) ⊎ ((orElse a b ≡ Option.none) × (Occurs variable v p ⊎ Occurss variable v ps → ⊥))
       go a b (inl x) y = inl (ap (λ (o : Option Term). orElse o b) x)
       go a b (inr x) (inl y) = inl (ap (λ (o : Option Term). orElse o b) (x .0) ∙ y)
       go a b (inr x) (inr y) = inr (ap (λ (o : Option Term). orElse o b) (x .0) ∙ y .0, ⊎-elim (x .1) (y .1))
 
-found-ok : (v : ℕ) (θ : ℕ → Term) (ps : Terms) → Occurss v ps → found ps (subs θ ps) v ≡ θ v
+found-ok : (v : ℕ) (θ : ℕ → Term) (ps : Terms) → Occurss variable v ps → found ps (subs θ ps) v ≡ θ v
 found-ok v θ ps o = ⊎-elim (λ e. ap (λ (x : Option Term). Option·getD x one) e) (λ d. absurd (d .1 o)) (finds-ok v θ ps)
 
 hit-test : (θ : ℕ → Term) (ps : Terms) → eqTs (subs (found ps (subs θ ps)) ps) (subs θ ps) ≡ true
@@ -145,7 +145,7 @@ hit-test θ ps = rw (subs-agree (found ps (subs θ ps)) θ ps (λ v o. found-ok 
 
 -- a rule applies to its instances
 pub reduce-hit :
-    (r : Rule) (f : ℕ) (θ : ℕ → Term) → ((v : ℕ) → Occurs v (r .result) → Occurss v (r .args))
+    (r : Rule) (f : ℕ) (θ : ℕ → Term) → ((v : ℕ) → Occurs variable v (r .result) → Occurss variable v (r .args))
     → reduceAt (some r) f (subs θ (r .args)) ≡ sub θ (r .result)
 reduce-hit r f θ b =
     let ts = subs θ (r .args) in

@@ -8,11 +8,11 @@ use lib.IntN.{ℤ, pos, negsuc, _+ℤ_, natAbs}
 use Rattle.term.specs.Tags.{oneTag, expTag, invTag, mulTag}
 use Rattle.octets.specs.declared.Order.{Order}
 use Rattle.octets.specs.declared.Order.the-variants.{Less, Equal, Greater}
-use Rattle.term.specs.Term.{Kind, variable, public, fresh, Term, leaf, app, Terms, nil, _&_, count}
+use Rattle.term.specs.Term.{Kind, variable, Term, leaf, app, Terms, nil, _&_, count, Occurs, Occurss}
 use Rattle.message.specs.Whole.{below, add-abs, neg-abs}
 use Rattle.message.specs.Functions.{exp}
 use Rattle.message.specs.Product.{Exps, empty, part, order, times, ups, downs, chain, quotient, build}
-use Rattle.message.specs.Substitution.{sub, subs, Occurs, Occurss}
+use Rattle.message.specs.Substitution.{sub, subs}
 use Rattle.message.specs.Rules.{Result, aVariable, aConstant, Theory, WF, WFs}
 use Rattle.message.specs.Parts.{keep, place, insert, add, neg, Role, role, partsAt, parts, sums}
 use Rattle.message.specs.Parts.Entries.{Entries, entries-add}
@@ -168,18 +168,16 @@ module _ (σ : Theory) (wl : Kind → ℕ → ℕ) (wa : ℕ → ℕ) (lpos : (s
 
   -- ── the constructors ──
   mutual
-    occurs-S : (θ : ℕ → Term) (v : ℕ) (p : Term) → Occurs v p → S (θ v) ≤ S (sub θ p)
-    occurs-S θ v (leaf variable n) o = omega (arith, ap (λ (i : ℕ). S (θ i)) o)
-    occurs-S θ v (leaf public n) o = absurd o
-    occurs-S θ v (leaf fresh n) o = absurd o
+    occurs-S : (θ : ℕ → Term) (v : ℕ) (p : Term) → Occurs variable v p → S (θ v) ≤ S (sub θ p)
+    occurs-S θ v (leaf j n) o = omega (arith, ap (λ (t : Term). S (sub θ t)) o)
     occurs-S θ v (app f ps) o = omega (arith, occurss-S θ v ps o)
 
-    occurss-S : (θ : ℕ → Term) (v : ℕ) (ps : Terms) → Occurss v ps → S (θ v) ≤ Ss (subs θ ps)
+    occurss-S : (θ : ℕ → Term) (v : ℕ) (ps : Terms) → Occurss variable v ps → S (θ v) ≤ Ss (subs θ ps)
     occurss-S θ v nil o = absurd o
     occurss-S θ v (p & ps) o = ⊎-elim (λ a. omega (arith, occurs-S θ v p a)) (λ a. omega (arith, occurss-S θ v ps a)) o
 
   small-S :
-      (θ : ℕ → Term) (f : ℕ) (ps : Terms) (u : Term) → Result (σ .arity) (σ .rule) u → ((v : ℕ) → Occurs v u → Occurss v ps)
+      (θ : ℕ → Term) (f : ℕ) (ps : Terms) (u : Term) → Result (σ .arity) (σ .rule) u → ((v : ℕ) → Occurs variable v u → Occurss variable v ps)
       → S (sub θ u) ≤ wa f + Ss (subs θ ps)
   small-S θ f ps u (aVariable {n = n}) h = omega (arith, occurss-S θ n ps (h n refl))
   small-S θ f ps u (aConstant {f = g} q o e a) h = omega (arith, apos f, const1 g q)

@@ -1,12 +1,11 @@
 -- Equality is closed under substitution. So a derivation between messages, whatever variables stand in it, becomes one of messages alone
 -- when a name takes the place of every variable.
 use Prim.Native.Nat.{ℕ}
-use mathlib.Core.Path.{_≡_, refl, ap, ap₂}
 use mathlib.Core.Option.{Option}
-use Rattle.term.specs.Term.{variable, public, fresh, Term, leaf, app, Terms, nil, _&_, Formed}
+use Rattle.term.specs.Term.{Term, app, Terms, Formed}
 use Rattle.message.specs.Equations.{Figure2, dec-enc, fst-pair, snd-pair, mul-assoc, mul-comm, mul-one, mul-inv, inv-inv, exp-exp}
 use Rattle.message.specs.Equations.{exp-one, Congruences, equation, reflexive, symmetric, transitive, congruent, same-none, same-more, Same}
-use Rattle.message.specs.Substitution.{sub, subs, Ground, Grounds}
+use Rattle.message.specs.Substitution.{sub, subs}
 use Rattle.message.specs.Substitution.Laws.{sub-formed}
 
 figure-sub : (θ : ℕ → Term) (t u : Term) → Figure2 t u → Figure2 (sub θ t) (sub θ u)
@@ -36,15 +35,3 @@ module _ (ar : ℕ → Option ℕ) (θ : ℕ → Term) (h : (v : ℕ) → Formed
     sames-sub : {ts us : Terms} → Congruences ar Figure2 ts us → Congruences ar Figure2 (subs θ ts) (subs θ us)
     sames-sub same-none = same-none
     sames-sub (same-more d ds) = same-more (same-sub d) (sames-sub ds)
-
--- a ground term stays
-mutual
-  pub ground-stays : (θ : ℕ → Term) (t : Term) → Ground t → sub θ t ≡ t
-  ground-stays θ (leaf variable n) w = absurd w
-  ground-stays θ (leaf public n) w = refl
-  ground-stays θ (leaf fresh n) w = refl
-  ground-stays θ (app f ts) w = ap (app f) (grounds-stay θ ts w)
-
-  pub grounds-stay : (θ : ℕ → Term) (ts : Terms) → Grounds ts → subs θ ts ≡ ts
-  grounds-stay θ nil w = refl
-  grounds-stay θ (t & ts) w = ap₂ _&_ (ground-stays θ t (w .0)) (grounds-stay θ ts (w .1))

@@ -5,7 +5,8 @@ use mathlib.Core.Logic.{_⊎_}
 use mathlib.Core.Path.{_≡_}
 use lib.ListN.{getD}
 use Rattle.lists.specs.Some.{Some}
-use Rattle.term.specs.Term.{Kind, variable, fresh, Term, leaf, app, Terms, _&_}
+use Rattle.term.specs.Term.{Kind, variable, fresh, Occurs}
+use Rattle.protocol.specs.Figures.{publicSort}
 use Rattle.protocol.specs.Protocol.{Fact, Rule, premises, conclusions, frSymbol, inSymbol, outSymbol, kSymbol}
 -- leaves and symbols, and the tests for them
 pub mod Leaves
@@ -14,20 +15,9 @@ pub mod Laws
 -- what a verdict says of a file's rules
 pub mod Judged
 
--- the variable or name of a kind and number stands in a term: "plain occurrence, below dec or inv too"
-module _ (k : Kind) (n : ℕ) where
-  mutual
-    pub data Occurs : Term → Type 0 where
-      itself : {j : Kind} {m : ℕ} → j ≡ k → m ≡ n → Occurs (leaf j m)
-      under : {f : ℕ} {ts : Terms} → Occurss ts → Occurs (app f ts)
-
-    pub data Occurss : Terms → Type 0 where
-      first : {t : Term} {ts : Terms} → Occurs t → Occurss (t & ts)
-      next : {t : Term} {ts : Terms} → Occurss ts → Occurss (t & ts)
-
-  -- in one of these facts
-  abbrev pub OccursIn : List Fact → Type 0
-  OccursIn = Some (λ f. Some Occurs (f .terms))
+-- the variable or name of a kind and number stands in one of these facts
+abbrev pub OccursIn : Kind → ℕ → List Fact → Type 0
+OccursIn k n = Some (λ f. Some (Occurs k n) (f .terms))
 
 -- a fact of this symbol is among these
 abbrev pub Among : ℕ → List Fact → Type 0
@@ -41,4 +31,4 @@ pub record Fit (r : Rule) : Type 0 where
   -- "no K, In or Fr among conclusions"
   pub p3 : (Among kSymbol (conclusions r) ⊎ (Among inSymbol (conclusions r) ⊎ Among frSymbol (conclusions r))) → ⊥
   -- "each variable of a conclusion is in a premise or is of sort public"
-  pub p4 : (v : ℕ) → OccursIn variable v (conclusions r) → OccursIn variable v (premises r) ⊎ (getD (r .sorts) v 0 ≡ 2)
+  pub p4 : (v : ℕ) → OccursIn variable v (conclusions r) → OccursIn variable v (premises r) ⊎ (getD (r .sorts) v 0 ≡ publicSort)

@@ -2,22 +2,21 @@
 use Prim.Native.Nat.{ℕ, zero, suc, _<_, _≤_}
 use mathlib.Core.List.{List, [], _∷_}
 use mathlib.Core.Bool.{true, false}
-use mathlib.Core.Logic.{⊎-elim, _↔_}
+use mathlib.Core.Logic.{_↔_}
 use mathlib.Core.Option.{Option}
-use mathlib.Core.Path.{_≡_, refl, ap, sym, _∙_, subst}
+use mathlib.Core.Path.{_≡_, sym, _∙_, subst}
 use native.Mathlib.Omega.{arith}
-use borrow.Author.Tests.{lt-ltb, le-ltb}
 use lib.ListN.{length, getD, length-map}
-use Rattle.lists.specs.Choice.{by-size}
 use Rattle.number.specs.Groups.{numberLimit}
 use Rattle.lists.specs.Lists.{anyBy}
 use Rattle.lists.specs.All.{All}
-use Rattle.term.specs.Term.{variable, public, fresh, Term, leaf, app, Terms, nil, _&_, Formed, InRange, InRanges}
+use Rattle.term.specs.Term.{variable, Term, leaf, Formed}
 use Rattle.term.specs.Arity.{arity, slots}
 use Rattle.term.specs.Reader.Exact.{Good}
-use Rattle.term.specs.Walk.{hits, holds, holdss}
-use Rattle.lists.specs.Tests.{true-false, or-split, not-split}
-use Rattle.message.specs.Substitution.{sub, Occurs, Occurss, Ground}
+use Rattle.term.specs.Walk.{holds}
+use Rattle.lists.specs.Tests.{not-split}
+use Rattle.message.specs.Substitution.{sub, Ground}
+use Rattle.term.specs.Walk.Holds.{occurs-below}
 use Rattle.message.specs.Substitution.Laws.{sub-formed, sub-ground}
 use Rattle.message.specs.Theorems.{declared}
 use Rattle.protocol.specs.Protocol.{Fact, Rule, Protocol, part, factArities, leafIn}
@@ -33,40 +32,6 @@ pub record FactFormed (p : Protocol) (f : Fact) : Type 0 where
   pub known : f .symbol < length (factArities (p .symbols))
   pub takes : length (f .terms) ≡ getD (factArities (p .symbols)) (f .symbol) 0
   pub each : All (Formed (arity (slots (p .functions)))) (f .terms)
-
--- ── variables ──
-mutual
-  occurs-range : (t : Term) (v : ℕ) → InRange t → Occurs v t → v < numberLimit
-  occurs-range (leaf variable n) v r o = subst (λ (k : ℕ). k < numberLimit) o r
-  occurs-range (leaf public n) v r o = absurd o
-  occurs-range (leaf fresh n) v r o = absurd o
-  occurs-range (app f ts) v r o = occurss-range ts v (r .1) o
-
-  occurss-range : (ts : Terms) (v : ℕ) → InRanges ts → Occurss v ts → v < numberLimit
-  occurss-range nil v r o = absurd o
-  occurss-range (t & ts) v r o = ⊎-elim (λ h. occurs-range t v (r .0) h) (λ h. occurss-range ts v (r .1) h) o
-
-hit : (n v : ℕ) → n ≤ v → v < numberLimit → hits 0 n numberLimit 0 v ≡ true
-hit n v k l = simp (le-ltb v n k, lt-ltb v numberLimit l)
-
-mutual
-  -- a variable that no test from n on finds is below n
-  none-below : (t : Term) (v n : ℕ) → holds t 0 n numberLimit ≡ false → v < numberLimit → Occurs v t → v < n
-  none-below (leaf variable m) v n h l o =
-      by-size v n (λ k. k)
-      (λ k. true-false true refl (sym (hit n v k l) ∙ ap (hits 0 n numberLimit 0) (sym o) ∙ h))
-  none-below (leaf public m) v n h l o = absurd o
-  none-below (leaf fresh m) v n h l o = absurd o
-  none-below (app f ts) v n h l o = none-belows ts v n h l o
-
-  none-belows : (ts : Terms) (v n : ℕ) → holdss ts 0 n numberLimit ≡ false → v < numberLimit → Occurss v ts → v < n
-  none-belows nil v n h l o = absurd o
-  none-belows (t & ts) v n h l o =
-      let (a, b) = or-split (holds t 0 n numberLimit) (holdss ts 0 n numberLimit) h in
-      ⊎-elim (λ q. none-below t v n a l q) (λ q. none-belows ts v n b l q) o
-
-pub occurs-below : (t : Term) (v n : ℕ) → InRange t → holds t 0 n numberLimit ≡ false → Occurs v t → v < n
-occurs-below t v n r h o = none-below t v n h (occurs-range t v r o) o
 
 value-ground : (vs : List Term) → All Ground vs → (v : ℕ) → v < length vs → Ground (valueAt vs v)
 value-ground vs g v l = go vs g v (leaf variable v) l
@@ -131,6 +96,6 @@ module _ (p : Protocol) (fit : Within p) where
           (filledFact vs f .terms)
       fact-ground vs n g l f h k =
           map-all (λ t. TermWithin (slots (p .functions)) t × (holds t 0 n numberLimit ≡ false)) Ground (sub (valueAt vs))
-          (λ t b. sub-ground (valueAt vs) t (λ v o. value-ground vs g v (omega (arith, occurs-below t v n (b .0 .range) (b .1) o)))) (f .terms)
+          (λ t b. sub-ground (valueAt vs) t (λ v o. value-ground vs g v (omega (arith, occurs-below variable t v n (b .0 .range) (b .1) o)))) (f .terms)
           (all-both (TermWithin (slots (p .functions))) (λ t. holds t 0 n numberLimit ≡ false) (f .terms) (h .each)
           (none-all (λ t. holds t 0 n numberLimit) (f .terms) k))

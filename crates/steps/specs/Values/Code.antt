@@ -34,7 +34,7 @@ use Rattle.steps.specs.declared.values.Name.{Name}
 use Rattle.steps.specs.declared.values.Name.the-variants as nm
 use Rattle.steps.specs.Facts.{freshNumber}
 use Rattle.steps.specs.Values.Tests.{isFresh, isPublic, ofSort, isCanonical, valueOk}
-use Rattle.message.specs.Substitution.Decided.{none-ground}
+use Rattle.message.specs.Substitution.Laws.{none-ground}
 use Rattle.steps.specs.Values.Laws.{canon-decides}
 
 -- a name by its symbol: tag 2 fresh, tag 1 public

@@ -18,7 +18,7 @@ use Rattle.term.specs.Walk.{holds}
 use Rattle.lists.specs.Tests.{by-bool, not-split, and-split, and-both}
 use Rattle.lists.specs.Lists.Laws.{all-fails, fails-all}
 use Rattle.message.specs.Canonical.{Canonical}
-use Rattle.message.specs.Substitution.Decided.{none-ground, ground-none}
+use Rattle.message.specs.Substitution.Laws.{none-ground, ground-none}
 use Rattle.message.specs.Rules.{FitArities}
 use Rattle.message.specs.Canon.{canon}
 use Rattle.message.specs.Theorems.{canonical-canon, canonical-bytes}

@@ -2,7 +2,7 @@ use Rattle.rules.specs.Numbered.Found.{of-fixed, finds-applied, finds-ow
 use Rattle.rules.specs.Numbered.Writing.{put-holds}
 use Rattle.rules.specs.Numbered.{fixed}
 use lib.ListN.{take}
-use Prim.Native.Nat.{_+_, _-_, _<_}
+use Prim.Native.Nat.{_-_, _<_}
 use denote.Ref.{now}
 use native.Mathlib.Omega.{arith}
 use borrow.Author.Needs.{needs}

@@ -12,14 +12,14 @@ use Rattle.lists.specs.Choice.{by-size}
 use Rattle.number.specs.Groups.{numberLimit}
 use Rattle.lists.specs.Lists.{anyBy}
 use Rattle.lists.specs.All.{All}
-use Rattle.term.specs.Term.{variable, fresh, InRange}
+use Rattle.term.specs.Term.{variable, fresh, InRange, Occurs}
+use Rattle.lists.specs.Tests.{or-cases, or-right, not-from, not-both}
 use Rattle.protocol.specs.Protocol.{Rule, premises, conclusions, leafIn}
 use Rattle.protocol.specs.Protocol.Walks.{symbolIn}
 use Rattle.protocol.specs.Protocol.Limits.{TermWithin, FactWithin, FactsWithin, RuleWithin}
 use Rattle.rules.specs.Fit.{p1, p2, p3, p4, bound, fits}
 use Rattle.lists.specs.Some.{Some, some-part}
 use Rattle.rules.specs.Fit.Meaning.{Occurs, OccursIn, Fit}
-use Rattle.lists.specs.Tests.{or-cases, or-right, not-from, not-both}
 use Rattle.lists.specs.All.Laws.{all-map}
 use Rattle.lists.specs.Below.{below-to, below-from}
 use Rattle.rules.specs.Fit.Meaning.Leaves.{lists-asked, asked-lists, variable-occurs, occurs-variable, among-asked, asked-two, asked-one}

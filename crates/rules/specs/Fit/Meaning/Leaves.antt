@@ -1,82 +1,36 @@
--- Leaves in terms and in facts, symbols of facts: what the tests by three numbers say of them.
+-- Leaves in facts, symbols of facts: what the tests by three numbers say of them.
 use Prim.Native.Nat.{ℕ, _+_, _≤_, _<_}
 use mathlib.Core.List.{List}
-use mathlib.Core.Bool.{Bool, true, _||_, _&&_, not, and-eq-true-iff}
+use mathlib.Core.Bool.{Bool, true, _&&_, not, and-eq-true-iff}
 use mathlib.Core.Logic.{_⊎_, inl, inr}
-use mathlib.Core.Path.{_≡_, refl, ap, ap₂, subst}
+use mathlib.Core.Path.{_≡_, ap₂, subst}
 use native.Mathlib.Omega.{arith}
-use lib.Dec.{ltb, eqb}
-use borrow.Author.Tests.{ltb-true, ltb-false, lt-ltb, le-ltb, eqb-true, eq-eqb}
-use Rattle.lists.specs.Choice.{by-size, clash}
+use lib.Dec.{ltb}
+use borrow.Author.Tests.{ltb-true, ltb-false, lt-ltb, le-ltb}
+use Rattle.lists.specs.Choice.{by-size}
 use Rattle.number.specs.Groups.{numberLimit}
 use Rattle.lists.specs.Lists.{anyBy}
 use Rattle.lists.specs.All.{All}
-use Rattle.term.specs.Term.{Kind, variable, Term, leaf, app, Terms, nil, _&_, tagOf, InRange, InRanges}
-use Rattle.term.specs.Term.Laws.{tag-same}
-use Rattle.term.specs.Walk.{holds, holdss}
+use Rattle.term.specs.Term.{Kind, variable, tagOf, InRange, Occurs}
+use Rattle.term.specs.Walk.{holds}
+use Rattle.lists.specs.Some.{Ranged, Some, any-some, some-any, any-ranged, some-with, some-split}
+use Rattle.term.specs.Walk.Holds.{holds-occurs, occurs-holds, occurs-range}
 use Rattle.protocol.specs.Protocol.{Fact, leafIn}
 use Rattle.protocol.specs.Protocol.Walks.{symbolIn}
-use Rattle.lists.specs.Tests.{not-split, or-cases, or-right}
-use Rattle.lists.specs.Some.{Some, Ranged, ranged-as, any-some, some-any, any-ranged, some-with, some-split}
-use Rattle.rules.specs.Fit.Meaning.{Occurs, itself, under, Occurss, first, next, OccursIn, Among}
-
--- ── in a term ──
-module _ (k : Kind) (lo hi : ℕ) where
-  mutual
-    holds-to : (t : Term) → holds t (tagOf k) lo hi ≡ true → Ranged lo hi (λ n. Occurs k n t)
-    holds-to (leaf j m) h =
-        let a = and-eq-true-iff (eqb (tagOf j) (tagOf k)) (not (ltb m lo) && ltb m hi) .0 h in
-        let b = and-eq-true-iff (not (ltb m lo)) (ltb m hi) .0 (a .1) in
-        record {
-          number = m;
-          low = ltb-false m lo (not-split (ltb m lo) (b .0));
-          high = ltb-true m hi (b .1);
-          has = itself (tag-same j k (eqb-true (tagOf j) (tagOf k) (a .0))) refl;
-        }
-    holds-to (app f ts) h = ranged-as (λ n. Occurss k n ts) (λ n. Occurs k n (app f ts)) (λ n s. under s) (holdss-to ts h)
-
-    holdss-to : (ts : Terms) → holdss ts (tagOf k) lo hi ≡ true → Ranged lo hi (λ n. Occurss k n ts)
-    holdss-to nil h = clash (cc)
-    holdss-to (t & ts) h =
-        elim (or-cases (holds t (tagOf k) lo hi) (holdss ts (tagOf k) lo hi) h) [
-          | inl e ↦ ranged-as (λ n. Occurs k n t) (λ n. Occurss k n (t & ts)) (λ n o. first o) (holds-to t e)
-          | inr e ↦ ranged-as (λ n. Occurss k n ts) (λ n. Occurss k n (t & ts)) (λ n s. next s) (holdss-to ts e)
-        ]
-
-  module _ (n : ℕ) (low : lo ≤ n) (high : n < hi) where
-    mutual
-      holds-from : {t : Term} → Occurs k n t → holds t (tagOf k) lo hi ≡ true
-      holds-from (itself {j} {m} e f) =
-          ap₂ _&&_ (eq-eqb (tagOf j) (tagOf k) (ap tagOf e))
-          (ap₂ (λ (a b : Bool). not a && b) (le-ltb m lo (omega arith)) (lt-ltb m hi (omega arith)))
-      holds-from (under s) = holdss-from s
-
-      holdss-from : {ts : Terms} → Occurss k n ts → holdss ts (tagOf k) lo hi ≡ true
-      holdss-from (first {t} {ts} o) = ap (λ (b : Bool). b || holdss ts (tagOf k) lo hi) (holds-from o)
-      holdss-from (next {t} {ts} s) = or-right (holds t (tagOf k) lo hi) (holdss ts (tagOf k) lo hi) (holdss-from s)
-
--- what occurs in a term in range is in range
-module _ (k : Kind) (n : ℕ) where
-  mutual
-    in-range : {t : Term} → Occurs k n t → InRange t → n < numberLimit
-    in-range (itself e f) r = subst (λ (m : ℕ). m < numberLimit) f r
-    in-range (under s) r = in-ranges s (r .1)
-
-    in-ranges : {ts : Terms} → Occurss k n ts → InRanges ts → n < numberLimit
-    in-ranges (first o) r = in-range o (r .0)
-    in-ranges (next s) r = in-ranges s (r .1)
+use Rattle.lists.specs.Tests.{not-split}
+use Rattle.rules.specs.Fit.Meaning.{OccursIn, Among}
 
 -- ── in facts, and in lists of facts ──
 module _ (k : Kind) (lo hi : ℕ) where
   asked-occurs : (fs : List Fact) → anyBy (leafIn (tagOf k) lo hi) fs ≡ true → Ranged lo hi (λ n. OccursIn k n fs)
   asked-occurs =
       any-ranged (leafIn (tagOf k) lo hi) (λ n f. Some (Occurs k n) (f .terms))
-      (λ f. any-ranged (λ t. holds t (tagOf k) lo hi) (Occurs k) (holds-to k lo hi) (f .terms))
+      (λ f. any-ranged (λ t. holds t (tagOf k) lo hi) (Occurs k) (holds-occurs k lo hi) (f .terms))
 
   occurs-asked : (n : ℕ) → lo ≤ n → n < hi → (fs : List Fact) → OccursIn k n fs → anyBy (leafIn (tagOf k) lo hi) fs ≡ true
   occurs-asked n low high fs s =
       some-any (leafIn (tagOf k) lo hi) (λ f. Some (Occurs k n) (f .terms))
-      (λ f s. some-any (λ t. holds t (tagOf k) lo hi) (Occurs k n) (λ t o. holds-from k lo hi n low high o) s) s
+      (λ f s. some-any (λ t. holds t (tagOf k) lo hi) (Occurs k n) (occurs-holds k lo hi n low high) s) s
 
   pub lists-asked : (xss : List (List Fact)) → anyBy (anyBy (leafIn (tagOf k) lo hi)) xss ≡ true → Ranged lo hi (λ n. Some (OccursIn k n) xss)
   lists-asked = any-ranged (anyBy (leafIn (tagOf k) lo hi)) (OccursIn k) asked-occurs
@@ -89,7 +43,7 @@ asked-lists k lo n xss ranges low s =
     let high : n < numberLimit =
     some-with (OccursIn k n) (All (λ f. All InRange (f .terms)))
     (λ fs. some-with (λ f. Some (Occurs k n) (f .terms)) (λ f. All InRange (f .terms))
-    (λ f. some-with (Occurs k n) InRange (λ t o r. in-range k n o r))) s ranges in
+    (λ f. some-with (Occurs k n) InRange (λ t o r. occurs-range k n t r o))) s ranges in
     some-any (anyBy (leafIn (tagOf k) lo numberLimit)) (OccursIn k n) (occurs-asked k lo numberLimit n low high) s
 
 -- one variable
