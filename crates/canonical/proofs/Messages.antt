@@ -13,7 +13,7 @@ use Rattle.octets.specs.Compare.{compareBytes, isEqual}
 use Rattle.octets.specs.Compare.Laws.{compare-refl}
 use Rattle.octets.specs.Head.{stands-at, stands-within, stands-part, Stands}
 use Rattle.octets.specs.Splice.Prefix.{wrote-there}
-use Rattle.term.specs.Term.{variable, Term, leaf, nil, _&_, encode, encodes, Formed}
+use Rattle.term.specs.Term.{variable, Term, leaf, nil, _&_, encode, encodes, Formed, Terms}
 use Rattle.term.specs.Term.Laws.{encode-some}
 use Rattle.term.specs.Arity.{arity}
 use Rattle.message.specs.Equations.{Same}
