@@ -17,7 +17,7 @@ use Rattle.term.specs.Term.{variable, Term, leaf, nil, _&_, encode, encodes, Fo
 use Rattle.term.specs.Term.Laws.{encode-some}
 use Rattle.term.specs.Arity.{arity}
 use Rattle.message.specs.Equations.{Same}
-use Rattle.message.specs.Substitution.{Ground}
+use Rattle.message.specs.Substitution.{Ground, subs}
 use Rattle.message.specs.Substitution.Laws.{sub-same}
 use Rattle.message.specs.Canon.{canon}
 use Rattle.message.specs.Theorems.{same-canon, canon-is-formed}

@@ -28,7 +28,7 @@ markFrom h (b ∷ bs) = markFrom ((h * 257 + b) % markLimit) bs
 abbrev pub markOf : Fact → ℕ
 markOf f = markFrom (f .symbol) (canonBytes (f .terms))
 
--- ── "marks differ → not same" ──
+-- ── facts whose marks differ are not the same ──
 same-marks : (f g : Fact) → sameFact f g ≡ true → markOf f ≡ markOf g
 same-marks f g h =
     let (a, b) = and-split (eqb (f .symbol) (g .symbol)) (sameTerms (f .terms) (g .terms)) h in

@@ -1,5 +1,5 @@
--- Messages: when they are equal, and their canonical form. The first four are what a reader must believe; Theorems says what is proved of
--- them, and Promise is all that the crates graph, property and writer may use.
+-- Messages: when they are equal, and their canonical form. What a reader must believe stands under definitions and in Promise; Theorems
+-- says what is proved of it, and Promise is all that the crates graph, property and writer may use.
 
 -- ── definitions ──
 -- the built-in functions by their names

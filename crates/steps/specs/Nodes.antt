@@ -54,7 +54,7 @@ pub data Reading (A : Type 0) : Type 0 where
   no-rule : ℕ → Reading A
 
 module _ {A B : Type 0} where
-  -- "whichever comes first": what follows is read only behind what was read
+  -- what follows is read only behind what was read, so that the first fault of the file is told
   abbrev pub onward : Reading A → (A → ℕ → Reading B) → Reading B
   onward (read x e) f = f x e
   onward broken f = broken
@@ -74,7 +74,7 @@ absent none = true
 absent (some x) = false
 
 module _ (p : Protocol) where
-  -- a node with a rule of that number, one value per variable of it, "values of any length"
+  -- a node with a rule of that number, one value per variable of it, of any length
   pub record NodeWithin (x : Node) : Type 0 where
     pub is : Rule
     pub known : ruleOf p (x .rule) ≡ some is
@@ -101,8 +101,7 @@ module _ (p : Protocol) where
     unfoldable pub node : ℕ → Read Node
     node at = andThen (readNumber s at) (λ r e. values r (ruleOf p r) e)
 
-    -- "the fault that comes first in the file wins; in one node the rule number is judged before its values are read":
-    -- n nodes, the first of them of number k
+    -- "front to back for 3 and 6", and in one node the rule number before its values: n nodes, the first of them of number k
     unfoldable pub nodesFrom : ℕ → ℕ → ℕ → Reading (List Node)
     nodesFrom k zero at = read [] at
     nodesFrom k (suc n) at =

@@ -73,7 +73,7 @@ abbrev mutual
   InRanges nil = Unit {0}
   InRanges (t & ts) = InRange t × InRanges ts
 
--- the leaf of a kind and a number stands in a term: "plain occurrence, below dec or inv too"
+-- the leaf of a kind and a number stands in a term, below any function
 abbrev mutual
   pub Occurs : Kind → ℕ → Term → Type 0
   Occurs k n (leaf j m) = leaf j m ≡ leaf k n
