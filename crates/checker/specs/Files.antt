@@ -5,6 +5,7 @@ use mathlib.Core.Bool.{not, _&&_}
 use mathlib.Core.Path.{_≡_}
 use lib.ListN.{length}
 use lib.Dec.{eqb}
+use Rattle.term.specs.Sizes.{mostSymbols}
 use Rattle.lists.specs.Choice.{pick}
 use Rattle.number.specs.Groups.{numberLimit}
 use Rattle.number.specs.Reading.{Read, got, fault}
@@ -69,10 +70,10 @@ termFile slots s =
 
 -- "at most 256 symbols"
 abbrev pub sizeRuling : Term → Ruling Term
-sizeRuling t = rulingOf (lessPass 8 0 256 (symbols t) ∷ []) t
+sizeRuling t = rulingOf (lessPass 8 0 mostSymbols (symbols t) ∷ []) t
 
 abbrev pub sizeRows : Term → List Row
-sizeRows t = fixedRow 8 0 (256 < symbols t) ∷ []
+sizeRows t = fixedRow 8 0 (mostSymbols < symbols t) ∷ []
 
 abbrev pub termRuling : List ℕ → List ℕ → Ruling Term
 termRuling slots s = andThen (layout termItem (termFile slots s)) sizeRuling

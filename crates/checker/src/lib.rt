@@ -1,15 +1,48 @@
 // The exported calls.
 ghost use mathlib.Core.Path.{_≡_};
-ghost use Prim.Native.Nat.{_^_, _≤_};
+ghost use Prim.Native.Nat.{_≤_};
 ghost use lib.ListN.{length};
+ghost use Rattle.octets.specs.Limits.{longest};
 ghost use Rattle.rewriting.specs.Table.{refused};
 ghost use Rattle.checker.specs.Answer.{written, packed};
 ghost use Rattle.checker.specs.Files.{termRuling};
 ghost use Rattle.checker.specs.Files.Answers.{fileOf};
 ghost use Rattle.checker.specs.Canonical.{canonicalOutcome, canonicalOutput, canonicalWork};
 ghost use Rattle.checker.specs.Canonical.Contracts.{Forms, FormedAs, Unders, UnderAs, InsideAs};
+use protocol::figures;
 use rules::fit::Judged;
 use term::Walk;
+
+// "Protocol (4,096 bytes)", "Term (1,024 bytes)", and the work area that no call needs more of.
+const PROTOCOL_LIMIT: usize = 4096;
+
+const TERM_LIMIT: usize = 1024;
+
+const WORK_NEED: usize = 65536;
+
+// The refusal table's numbers and items.
+const WORK_SHORT: u32 = rewriting::WORK_SHORT as u32;
+
+const FILE_LONG: u32 = rewriting::FILE_LONG as u32;
+
+const LAYOUT: u32 = rewriting::LAYOUT as u32;
+
+const CONDITION_BROKEN: u32 = rewriting::CONDITION_BROKEN as u32;
+
+const TERM_LONG: u32 = rewriting::TERM_LONG as u32;
+
+const OUTPUT_SHORT: u32 = rewriting::OUTPUT_SHORT as u32;
+
+const NO_ITEM: u32 = rewriting::NO_ITEM as u32;
+
+const PROTOCOL_ITEM: u32 = rewriting::PROTOCOL_ITEM as u32;
+
+const TERM_ITEM: u32 = rewriting::TERM_ITEM as u32;
+
+// A packed answer: from bit 56 on what it is, 3 for written; from bit 32 on a refusal's number.
+const WRITTEN: u64 = 3 << 56;
+
+const NUMBER: u64 = 1 << 32;
 
 // Document 01's refusal: its number and its item.
 pub struct Refusal {
@@ -31,10 +64,10 @@ pub enum TermFile {
 }
 
 fn term_file(term: &[u8], arities: &[u8]) -> TermFile
-    requires { ⌜ length (now term) ≤ 2 ^ 32 ⌝ }
+    requires { ⌜ length (now term) ≤ longest ⌝ }
     ensures { λ r. ⌜ r ≡ fileOf (termRuling (now (arities .entry)) (now (term .entry))) ⌝ }
 {
-    match term::walk_term(term, arities, 0, 0, 0, number::NUMBER_LIMIT) {
+    match term::walk_term(term, arities, 0, term::VARIABLE, 0, number::NUMBER_LIMIT) {
         Walk::End(e, n, h) => {
             if e != term.len() {
                 return TermFile::Layout;
@@ -42,7 +75,7 @@ fn term_file(term: &[u8], arities: &[u8]) -> TermFile
             if h {
                 return TermFile::Layout;
             }
-            if 256 < n {
+            if term::MOST_SYMBOLS < n {
                 return TermFile::Large;
             }
             TermFile::Small
@@ -65,10 +98,10 @@ fn write_form(term: &[u8], arities: &[u8], output: &mut [u8]) -> Written
     requires { ⌜ Forms (now arities) (now term) ⌝ }
     ensures { λ r. ⌜ FormedAs (now (arities .entry)) (now (term .entry)) (now (output .entry)) (now (output .exit)) r ⌝ }
 {
-    let mut form = [0u8; 1280];
+    let mut form = [0u8; term::TERM_ROOM];
     let n = canonical::canonical_term(&mut form, term, 0, arities);
     if output.len() < n {
-        return refused(15, n as u32);
+        return refused(OUTPUT_SHORT, n as u32);
     }
     octets::copy_into(output, 0, &form[..n]);
     Written::Length(n as u32)
@@ -81,8 +114,8 @@ fn under_protocol(term: &[u8], arities: &[u8], output: &mut [u8]) -> Written
 {
     match term_file(term, arities) {
         TermFile::Small => write_form(term, arities, output),
-        TermFile::Layout => refused(3, 4),
-        TermFile::Large => refused(8, 0),
+        TermFile::Layout => refused(LAYOUT, TERM_ITEM),
+        TermFile::Large => refused(TERM_LONG, NO_ITEM),
     }
 }
 
@@ -90,16 +123,16 @@ fn under_protocol(term: &[u8], arities: &[u8], output: &mut [u8]) -> Written
 fn canonical_inside(protocol: &[u8], term: &[u8], output: &mut [u8]) -> Written
     ensures { λ r. ⌜ InsideAs (now (protocol .entry)) (now (term .entry)) (now (output .entry)) (now (output .exit)) r ⌝ }
 {
-    if 4096 < protocol.len() {
-        return refused(2, 1);
+    if PROTOCOL_LIMIT < protocol.len() {
+        return refused(FILE_LONG, PROTOCOL_ITEM);
     }
-    if 1024 < term.len() {
-        return refused(2, 4);
+    if TERM_LIMIT < term.len() {
+        return refused(FILE_LONG, TERM_ITEM);
     }
-    let mut arities = [0u8; 29];
-    let mut symbols = [0u8; 36];
-    let mut flags = [0u8; 36];
-    let mut places = [0usize; 64];
+    let mut arities = [0u8; term::TAGS];
+    let mut symbols = [0u8; figures::SYMBOLS];
+    let mut flags = [0u8; figures::SYMBOLS];
+    let mut places = [0usize; figures::MOST_RULES];
     match rules::fit::judge(
         protocol,
         &mut arities,
@@ -108,8 +141,8 @@ fn canonical_inside(protocol: &[u8], term: &[u8], output: &mut [u8]) -> Written
         &mut places,
     ) {
         Judged::Sound(_, _) => under_protocol(term, &arities, output),
-        Judged::Broken(k) => refused(4, k as u32),
-        Judged::Fault => refused(3, 1),
+        Judged::Broken(k) => refused(CONDITION_BROKEN, k as u32),
+        Judged::Fault => refused(LAYOUT, PROTOCOL_ITEM),
     }
 }
 
@@ -119,8 +152,8 @@ pub fn canonical_form(protocol: &[u8], term: &[u8], output: &mut [u8], work: &mu
     ensures wrote { λ r. ⌜ now (output .exit) ≡ canonicalOutput (now (protocol .entry)) (now (term .entry)) (now (output .entry)) (length (now (work .entry))) ⌝ }
     ensures cleared { λ r. ⌜ now (work .exit) ≡ canonicalWork (now (protocol .entry)) (now (term .entry)) (length (now (output .entry))) (now (work .entry)) ⌝ }
 {
-    if work.len() < 65536 {
-        return refused(1, 0);
+    if work.len() < WORK_NEED {
+        return refused(WORK_SHORT, NO_ITEM);
     }
     let r = canonical_inside(protocol, term, output);
     octets::clear(work);
@@ -132,8 +165,8 @@ fn pack(w: Written) -> u64
     ensures { λ r. ⌜ r ≡ packed (written w) ⌝ }
 {
     match w {
-        Written::Length(n) => 216172782113783808 + n as u64,
-        Written::Refused(r) => r.number as u64 * 4294967296 + r.item as u64,
+        Written::Length(n) => WRITTEN + n as u64,
+        Written::Refused(r) => r.number as u64 * NUMBER + r.item as u64,
     }
 }
 

@@ -1,5 +1,5 @@
 -- The facts of nodes as calls take them: a node's place in the file, the list of its rule, the number in that list.
-use Prim.Native.Nat.{ℕ, _+_, _^_, _≤_, _<_}
+use Prim.Native.Nat.{ℕ, _+_, _≤_, _<_}
 use mathlib.Core.List.{List}
 use mathlib.Core.Path.{_≡_}
 use lib.ListN.{length, getD}
@@ -84,7 +84,7 @@ pub record FactFrom (p : Protocol) (s : List ℕ) (number at w i : ℕ) (q : Wan
   pub right : NodeRight p x
   pub listed : i < length (factsOf p w x)
   pub has : Has q (factAt p w i x)
-  pub short : length s ≤ 2 ^ 32
+  pub short : length s ≤ longest
 
 pub record SomeFrom (protocol table rules : List ℕ) (nr : ℕ) (s : List ℕ) (number at w i : ℕ) (q : Wanted) : Type 0 where
   pub of : Protocol
@@ -96,7 +96,7 @@ pub record SomeFrom (protocol table rules : List ℕ) (nr : ℕ) (s : List ℕ) 
 -- likewise where its rule stands at a place of src: who has the fact's place and those of the values can write it
 pub record RuleFact (table ars s src : List ℕ) (place at n o w i : ℕ) (q : Wanted) (u : Rule) (vs : List Term) (e : ℕ) : Type 0 where
   pub fills : FillsRule table ars s src place at u vs e
-  pub short : length src ≤ 2 ^ 32
+  pub short : length src ≤ longest
   pub inside : i < length (part w u)
   pub has : Has q (getD (part w u) i noFact)
   pub job : (starts : List ℕ) (f : ℕ) → Placed (term s table) noTerm starts vs (length (u .sorts)) → length (u .sorts) ≤ length starts

@@ -18,12 +18,15 @@ use Rattle.facts.specs.Writing.{canonBytes, wantedBytes, factRoom, Put}
 use Rattle.facts.specs.Calls.Bytes.{join-bytes}
 
 -- the greatest prime below 2 ^ 16
+abbrev pub markBase : ℕ
+markBase = 257
+
 abbrev pub markLimit : ℕ
 markLimit = 65521
 
 unfoldable pub markFrom : ℕ → List ℕ → ℕ
 markFrom h [] = h
-markFrom h (b ∷ bs) = markFrom ((h * 257 + b) % markLimit) bs
+markFrom h (b ∷ bs) = markFrom ((h * markBase + b) % markLimit) bs
 
 abbrev pub markOf : Fact → ℕ
 markOf f = markFrom (f .symbol) (canonBytes (f .terms))
@@ -49,11 +52,11 @@ module _ (from : ℕ) (s : List ℕ) where
   pub marked-none : Marked from 0
   marked-none = refl
 
-  pub marked-more : (h i : ℕ) → i < length s → Marked h i → Marked ((h * 257 + getD s i 0) % markLimit) (i + 1)
+  pub marked-more : (h i : ℕ) → i < length s → Marked h i → Marked ((h * markBase + getD s i 0) % markLimit) (i + 1)
   unfolding markFrom
   marked-more h i l e =
       let o : suc i ≡ i + 1 = omega arith in
-      e ∙ ap (markFrom h) (drop-cons s i 0 l) ∙ ap (λ (j : ℕ). markFrom ((h * 257 + getD s i 0) % markLimit) (drop j s)) o
+      e ∙ ap (markFrom h) (drop-cons s i 0 l) ∙ ap (λ (j : ℕ). markFrom ((h * markBase + getD s i 0) % markLimit) (drop j s)) o
 
   pub marked-all : (h i : ℕ) → length s ≤ i → Marked h i → h ≡ markFrom from s
   unfolding markFrom

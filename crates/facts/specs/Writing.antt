@@ -1,9 +1,10 @@
 -- The canonical bytes of a fact, or of one argument of it: what the code is asked that writes them, and what it promises.
-use Prim.Native.Nat.{ℕ, _+_, _≤_, _<_}
+use Prim.Native.Nat.{ℕ, _+_, _≤_, _<_, _*_}
 use mathlib.Core.List.{List, [], _∷_}
 use lib.ListN.{length, getD}
+use Rattle.protocol.specs.Figures.{mostFactArity}
 use Rattle.octets.specs.Limits.{longest}
-use Rattle.term.specs.Sizes.{mostSymbols}
+use Rattle.term.specs.Sizes.{mostSymbols, termRoom}
 use Rattle.octets.specs.Splice.Prefix.{Wrote}
 use Rattle.number.specs.Layout.{flat}
 use Rattle.lists.specs.All.{All}
@@ -50,9 +51,9 @@ abbrev pub wantedBytes : Wanted → Fact → List ℕ
 wantedBytes q f = canonBytes (wantedTerms q (f .terms))
 
 -- ── what is asked and what is promised ──
--- eight terms of 256 symbols, four bytes each at most
+-- as many terms as a fact can have, each with its room
 abbrev pub factRoom : ℕ
-factRoom = 8192
+factRoom = mostFactArity * termRoom
 
 -- the fact f stands in src at a place, its variables have the values vs, and an output of n bytes has room for a fact from o on
 pub record FactJob (slots ars vals starts src : List ℕ) (place n o : ℕ) (vs : List Term) (f : Fact) : Type 0 where

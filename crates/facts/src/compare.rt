@@ -1,7 +1,8 @@
 // When two facts of nodes are the same, or two arguments of them, or an argument and a public name.
 ghost use mathlib.Core.Path.{_≡_};
-ghost use Prim.Native.Nat.{_^_, _≤_, _-_};
+ghost use Prim.Native.Nat.{_≤_, _-_};
 ghost use lib.ListN.{length, take, drop};
+ghost use Rattle.octets.specs.Limits.{longest};
 ghost use Rattle.octets.specs.Compare.{compareBytes, isEqual};
 ghost use Rattle.term.specs.Term.{encode, leaf, public};
 ghost use Rattle.protocol.specs.Protocol.{Protocol};
@@ -15,6 +16,9 @@ use crate::nodes;
 use crate::nodes::Place;
 use crate::writing::Wanted;
 use term::Public;
+
+// The tag of a public name.
+const PUBLIC: u32 = term::PUBLIC as u32;
 
 // Whether the symbols of two facts are equal, and whether the canonical bytes of the arguments that are wanted are.
 pub struct Both {
@@ -44,7 +48,7 @@ fn compare(
     y: Place,
     wy: Wanted,
 ) -> Both
-    requires { ⌜ Room (now out) factRoom × (length (now s) ≤ 2 ^ 32) × Given (now protocol) (now arities) (now rules) nr × ArityTable (now protocol) (now arities) (now rules) nr (now ars) × SomeFact (now protocol) (now arities) (now rules) nr (now s) x wx × SomeFact (now protocol) (now arities) (now rules) nr (now s) y wy ⌝ }
+    requires { ⌜ Room (now out) factRoom × (length (now s) ≤ longest) × Given (now protocol) (now arities) (now rules) nr × ArityTable (now protocol) (now arities) (now rules) nr (now ars) × SomeFact (now protocol) (now arities) (now rules) nr (now s) x wx × SomeFact (now protocol) (now arities) (now rules) nr (now s) y wy ⌝ }
     ensures { λ r. ⌜ ((p : Protocol) (m n : Node) → IndexOf (now (protocol .entry)) (now (arities .entry)) (now (rules .entry)) nr p → FactOf p (now (s .entry)) x wx m → FactOf p (now (s .entry)) y wy n → Compared wx (factAt p (x .part) (x .number) m) wy (factAt p (y .part) (y .number) n) r) ⌝ }
 {
     let a = nodes::node_fact(out, 0, s, protocol, arities, ars, rules, nr, x, wx);
@@ -68,7 +72,7 @@ pub fn same_fact(
     x: Place,
     y: Place,
 ) -> bool
-    requires { ⌜ Room (now out) factRoom × (length (now s) ≤ 2 ^ 32) × Given (now protocol) (now arities) (now rules) nr × ArityTable (now protocol) (now arities) (now rules) nr (now ars) × HasFact (now protocol) (now arities) (now rules) nr (now s) x × HasFact (now protocol) (now arities) (now rules) nr (now s) y ⌝ }
+    requires { ⌜ Room (now out) factRoom × (length (now s) ≤ longest) × Given (now protocol) (now arities) (now rules) nr × ArityTable (now protocol) (now arities) (now rules) nr (now ars) × HasFact (now protocol) (now arities) (now rules) nr (now s) x × HasFact (now protocol) (now arities) (now rules) nr (now s) y ⌝ }
     ensures { λ r. ⌜ ((p : Protocol) (m n : Node) → IndexOf (now (protocol .entry)) (now (arities .entry)) (now (rules .entry)) nr p → WholeFact p (now (s .entry)) x m → WholeFact p (now (s .entry)) y n → r ≡ sameFact (factAt p (x .part) (x .number) m) (factAt p (y .part) (y .number) n)) ⌝ }
 {
     let b = compare(
@@ -101,7 +105,7 @@ pub fn same_argument(
     y: Place,
     j: usize,
 ) -> bool
-    requires { ⌜ Room (now out) factRoom × (length (now s) ≤ 2 ^ 32) × Given (now protocol) (now arities) (now rules) nr × ArityTable (now protocol) (now arities) (now rules) nr (now ars) × HasOne (now protocol) (now arities) (now rules) nr (now s) x i × HasOne (now protocol) (now arities) (now rules) nr (now s) y j ⌝ }
+    requires { ⌜ Room (now out) factRoom × (length (now s) ≤ longest) × Given (now protocol) (now arities) (now rules) nr × ArityTable (now protocol) (now arities) (now rules) nr (now ars) × HasOne (now protocol) (now arities) (now rules) nr (now s) x i × HasOne (now protocol) (now arities) (now rules) nr (now s) y j ⌝ }
     ensures { λ r. ⌜ ((p : Protocol) (m n : Node) → IndexOf (now (protocol .entry)) (now (arities .entry)) (now (rules .entry)) nr p → OneOf p (now (s .entry)) x i m → OneOf p (now (s .entry)) y j n → r ≡ sameTerm (argumentAt p (x .part) (x .number) i m) (argumentAt p (y .part) (y .number) j n)) ⌝ }
 {
     let b = compare(
@@ -125,7 +129,7 @@ fn put_public(out: &mut [u8], o: usize, name: Public) -> usize
     requires { ⌜ Room (now out) o ⌝ }
     ensures { λ r. ⌜ Put (now (out .entry)) o (now (out .exit)) r (encode (leaf public (name .0))) ⌝ }
 {
-    let e = number::write_number(out, o, 1);
+    let e = number::write_number(out, o, PUBLIC);
     number::write_number(out, e, name.0)
 }
 
@@ -142,7 +146,7 @@ pub fn is_public(
     i: usize,
     name: Public,
 ) -> bool
-    requires { ⌜ Room (now out) factRoom × (length (now s) ≤ 2 ^ 32) × Given (now protocol) (now arities) (now rules) nr × ArityTable (now protocol) (now arities) (now rules) nr (now ars) × HasOne (now protocol) (now arities) (now rules) nr (now s) x i ⌝ }
+    requires { ⌜ Room (now out) factRoom × (length (now s) ≤ longest) × Given (now protocol) (now arities) (now rules) nr × ArityTable (now protocol) (now arities) (now rules) nr (now ars) × HasOne (now protocol) (now arities) (now rules) nr (now s) x i ⌝ }
     ensures { λ r. ⌜ ((p : Protocol) (m : Node) → IndexOf (now (protocol .entry)) (now (arities .entry)) (now (rules .entry)) nr p → OneOf p (now (s .entry)) x i m → r ≡ sameTerm (argumentAt p (x .part) (x .number) i m) (leaf public (name .0))) ⌝ }
 {
     let a = nodes::node_fact(

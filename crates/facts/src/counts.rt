@@ -1,8 +1,10 @@
 // How many facts a list of a node has.
 ghost use mathlib.Core.Path.{_≡_};
 ghost use mathlib.Core.Option.{some};
-ghost use Prim.Native.Nat.{_^_, _≤_, _<_};
+ghost use Prim.Native.Nat.{_≤_, _<_};
 ghost use lib.ListN.{length};
+ghost use Rattle.protocol.specs.Figures.{listCount};
+ghost use Rattle.octets.specs.Limits.{longest};
 ghost use Rattle.octets.specs.Head.{Bytes};
 ghost use Rattle.protocol.specs.Protocol.{Rule, Protocol, part, rule};
 ghost use Rattle.protocol.specs.Places.{Here};
@@ -15,7 +17,7 @@ use number::Number;
 
 // How many facts list w of the rule at a place has.
 fn rule_count(src: &[u8], arities: &[u8], ars: &[u8], place: usize, w: usize) -> usize
-    requires { ⌜ (length (now src) ≤ 2 ^ 32) × (w < 3) ⌝ }
+    requires { ⌜ (length (now src) ≤ longest) × (w < listCount) ⌝ }
     ensures { λ r. ⌜ Bytes (now (src .entry)) × ((u : Rule) → Here (rule (now (src .entry)) (now (arities .entry)) (now (ars .entry))) u place → r ≡ length (part w u)) ⌝ }
 {
     let list = protocol::places::list_at(src, arities, ars, place, w);
@@ -32,10 +34,10 @@ fn count_from(
     number: usize,
     w: usize,
 ) -> usize
-    requires { ⌜ (w < 3) × Given (now protocol) (now arities) (now rules) nr × ArityTable (now protocol) (now arities) (now rules) nr (now ars) ⌝ }
+    requires { ⌜ (w < listCount) × Given (now protocol) (now arities) (now rules) nr × ArityTable (now protocol) (now arities) (now rules) nr (now ars) ⌝ }
     ensures { λ r. ⌜ ((p : Protocol) (u : Rule) → IndexOf (now (protocol .entry)) (now (arities .entry)) (now (rules .entry)) nr p → ruleOf p number ≡ some u → r ≡ length (part w u)) ⌝ }
 {
-    let mut own = [0u8; 30];
+    let mut own = [0u8; rules::numbered::RULE_ROOM];
     let found = rules::numbered::find_rule(arities, rules, nr, number, &mut own);
     let src = rules::numbered::rule_part(protocol, &own, found);
     rule_count(src, arities, ars, 0, w)
@@ -52,7 +54,7 @@ pub fn fact_count(
     place: usize,
     w: usize,
 ) -> usize
-    requires { ⌜ (w < 3) × Given (now protocol) (now arities) (now rules) nr × ArityTable (now protocol) (now arities) (now rules) nr (now ars) ⌝ }
+    requires { ⌜ (w < listCount) × Given (now protocol) (now arities) (now rules) nr × ArityTable (now protocol) (now arities) (now rules) nr (now ars) ⌝ }
     ensures { λ r. ⌜ ((p : Protocol) (x : Node) → IndexOf (now (protocol .entry)) (now (arities .entry)) (now (rules .entry)) nr p → Here (node p (now (s .entry))) x place → r ≡ length (factsOf p w x)) ⌝ }
 {
     match number::read_number(s, place) {

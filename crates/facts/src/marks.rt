@@ -1,7 +1,8 @@
 // A mark for each fact: facts whose marks differ are not the same.
 ghost use mathlib.Core.Path.{_≡_};
-ghost use Prim.Native.Nat.{_^_, _≤_, _<_};
+ghost use Prim.Native.Nat.{_≤_, _<_};
 ghost use lib.ListN.{length};
+ghost use Rattle.octets.specs.Limits.{longest};
 ghost use Rattle.protocol.specs.Protocol.{Protocol};
 ghost use Rattle.steps.specs.Nodes.{Node};
 ghost use Rattle.steps.specs.Index.{IndexOf, Given};
@@ -12,6 +13,11 @@ use crate::nodes;
 use crate::nodes::Place;
 use crate::writing::Wanted;
 
+// A mark is a number below the limit, a prime below 2 to the 16th.
+const BASE: u32 = 257;
+
+pub const LIMIT: u32 = 65521;
+
 // The mark of some bytes, from a number on.
 fn mark_bytes(s: &[u8], from: u32) -> u32
     requires { ⌜ from < markLimit ⌝ }
@@ -20,7 +26,7 @@ fn mark_bytes(s: &[u8], from: u32) -> u32
     let mut h = from;
     let mut i = 0;
     while i < s.len() {
-        h = (h * 257 + s[i] as u32) % 65521;
+        h = (h * BASE + s[i] as u32) % LIMIT;
         i += 1;
     }
     h
@@ -37,7 +43,7 @@ pub fn fact_mark(
     nr: usize,
     x: Place,
 ) -> u32
-    requires { ⌜ Room (now out) 0 × (length (now s) ≤ 2 ^ 32) × Given (now protocol) (now arities) (now rules) nr × ArityTable (now protocol) (now arities) (now rules) nr (now ars) × HasFact (now protocol) (now arities) (now rules) nr (now s) x ⌝ }
+    requires { ⌜ Room (now out) 0 × (length (now s) ≤ longest) × Given (now protocol) (now arities) (now rules) nr × ArityTable (now protocol) (now arities) (now rules) nr (now ars) × HasFact (now protocol) (now arities) (now rules) nr (now s) x ⌝ }
     ensures { λ r. ⌜ ((p : Protocol) (m : Node) → IndexOf (now (protocol .entry)) (now (arities .entry)) (now (rules .entry)) nr p → WholeFact p (now (s .entry)) x m → r ≡ markOf (factAt p (x .part) (x .number) m)) ⌝ }
 {
     let a = nodes::node_fact(out, 0, s, protocol, arities, ars, rules, nr, x, Wanted::All);

@@ -1,8 +1,9 @@
 // The canonical bytes of a node's fact, or of one argument of it.
 ghost use mathlib.Core.Path.{_≡_};
 ghost use mathlib.Core.List.{List};
-ghost use Prim.Native.Nat.{ℕ, _^_, _≤_};
+ghost use Prim.Native.Nat.{ℕ, _≤_};
 ghost use lib.ListN.{length};
+ghost use Rattle.octets.specs.Limits.{longest};
 ghost use Rattle.term.specs.Term.{Term};
 ghost use Rattle.protocol.specs.Protocol.{Rule, Protocol};
 ghost use Rattle.protocol.specs.Protocol.Walks.{sortsAt};
@@ -47,7 +48,7 @@ fn rule_fact(
     requires { ⌜ (k ≡ valueOf (sortsAt (now src) place)) × SomeRule (now arities) (now ars) (now s) (now src) place at (length (now out)) o w i wanted ⌝ }
     ensures { λ r. ⌜ ((u : Rule) (vs : List Term) (e : ℕ) → RuleFact (now (arities .entry)) (now (ars .entry)) (now (s .entry)) (now (src .entry)) place at (length (now (out .entry))) o w i wanted u vs e → Written wanted (now (out .entry)) o (now (out .exit)) r (ruleFact vs w i u)) ⌝ }
 {
-    let mut starts = [0usize; 16];
+    let mut starts = [0usize; protocol::figures::MOST_VARIABLES];
     writing::value_places(s, arities, at, k, &mut starts);
     let list = protocol::places::list_at(src, arities, ars, place, w);
     let fact = protocol::places::fact_at(src, arities, ars, list, i);
@@ -78,7 +79,7 @@ fn fact_from(
     requires { ⌜ Room (now out) o × Given (now protocol) (now arities) (now rules) nr × ArityTable (now protocol) (now arities) (now rules) nr (now ars) × SomeFrom (now protocol) (now arities) (now rules) nr (now s) number at w i wanted ⌝ }
     ensures { λ r. ⌜ ((p : Protocol) (x : Node) (e : ℕ) → IndexOf (now (protocol .entry)) (now (arities .entry)) (now (rules .entry)) nr p → FactFrom p (now (s .entry)) number at w i wanted x e → Written wanted (now (out .entry)) o (now (out .exit)) r (factAt p w i x)) ⌝ }
 {
-    let mut own = [0u8; 30];
+    let mut own = [0u8; rules::numbered::RULE_ROOM];
     let found = rules::numbered::find_rule(arities, rules, nr, number, &mut own);
     let src = rules::numbered::rule_part(protocol, &own, found);
     let k = steps::nodes::own_variables(src);
@@ -98,7 +99,7 @@ pub fn node_fact(
     place: Place,
     wanted: Wanted,
 ) -> Form
-    requires { ⌜ Room (now out) o × (length (now s) ≤ 2 ^ 32) × Given (now protocol) (now arities) (now rules) nr × ArityTable (now protocol) (now arities) (now rules) nr (now ars) × SomeFact (now protocol) (now arities) (now rules) nr (now s) place wanted ⌝ }
+    requires { ⌜ Room (now out) o × (length (now s) ≤ longest) × Given (now protocol) (now arities) (now rules) nr × ArityTable (now protocol) (now arities) (now rules) nr (now ars) × SomeFact (now protocol) (now arities) (now rules) nr (now s) place wanted ⌝ }
     ensures { λ r. ⌜ ((p : Protocol) (x : Node) → IndexOf (now (protocol .entry)) (now (arities .entry)) (now (rules .entry)) nr p → FactOf p (now (s .entry)) place wanted x → Written wanted (now (out .entry)) o (now (out .exit)) r (factAt p (place .part) (place .number) x)) ⌝ }
 {
     match number::read_number(s, place.node) {

@@ -1,8 +1,9 @@
 // The symbol of a node's fact, and how many arguments it has.
 ghost use mathlib.Core.Path.{_≡_};
 ghost use mathlib.Core.Option.{some};
-ghost use Prim.Native.Nat.{_^_, _≤_, _<_};
+ghost use Prim.Native.Nat.{_≤_, _<_};
 ghost use lib.ListN.{length, getD};
+ghost use Rattle.octets.specs.Limits.{longest};
 ghost use Rattle.octets.specs.Head.{Bytes};
 ghost use Rattle.protocol.specs.Protocol.{Rule, Protocol, part, noFact, rule};
 ghost use Rattle.protocol.specs.Places.{Here};
@@ -17,7 +18,7 @@ use number::Number;
 
 // The symbol of fact i of list w of the rule at a place.
 fn rule_symbol(src: &[u8], arities: &[u8], ars: &[u8], place: usize, w: usize, i: usize) -> usize
-    requires { ⌜ length (now src) ≤ 2 ^ 32 ⌝ }
+    requires { ⌜ length (now src) ≤ longest ⌝ }
     ensures { λ r. ⌜ Bytes (now (src .entry)) × ((u : Rule) → Here (rule (now (src .entry)) (now (arities .entry)) (now (ars .entry))) u place → i < length (part w u) → r ≡ getD (part w u) i noFact .symbol) ⌝ }
 {
     let list = protocol::places::list_at(src, arities, ars, place, w);
@@ -39,7 +40,7 @@ fn symbol_from(
     requires { ⌜ Given (now protocol) (now arities) (now rules) nr × ArityTable (now protocol) (now arities) (now rules) nr (now ars) ⌝ }
     ensures { λ r. ⌜ ((p : Protocol) (u : Rule) → IndexOf (now (protocol .entry)) (now (arities .entry)) (now (rules .entry)) nr p → ruleOf p number ≡ some u → i < length (part w u) → r ≡ getD (part w u) i noFact .symbol) ⌝ }
 {
-    let mut own = [0u8; 30];
+    let mut own = [0u8; rules::numbered::RULE_ROOM];
     let found = rules::numbered::find_rule(arities, rules, nr, number, &mut own);
     let src = rules::numbered::rule_part(protocol, &own, found);
     rule_symbol(src, arities, ars, 0, w, i)

@@ -1,8 +1,10 @@
 -- What the code has of a protocol: its file, the slots of its functions, the places of its rules.
-use Prim.Native.Nat.{ℕ, _^_, _≤_}
+use Prim.Native.Nat.{ℕ, _≤_}
 use mathlib.Core.List.{List}
 use mathlib.Core.Path.{_≡_}
 use lib.ListN.{length}
+use Rattle.term.specs.Tags.{tagCount}
+use Rattle.octets.specs.Limits.{longest}
 use Rattle.protocol.specs.Protocol.{Protocol}
 use Rattle.protocol.specs.Index.{Entries}
 -- that of a fit protocol
@@ -20,6 +22,6 @@ pub record IndexOf (s arities places : List ℕ) (nr : ℕ) (p : Protocol) : Typ
 pub record Given (s arities places : List ℕ) (nr : ℕ) : Type 0 where
   pub protocol : Protocol
   pub index : IndexOf s arities places nr protocol
-  pub slots-many : length arities ≡ 29
+  pub slots-many : length arities ≡ tagCount
   pub places-many : nr ≤ length places
-  pub short : length s ≤ 2 ^ 32
+  pub short : length s ≤ longest

@@ -4,6 +4,7 @@ use mathlib.Core.List.{List, [], _∷_}
 use mathlib.Core.Option.{some}
 use mathlib.Core.Path.{_≡_}
 use lib.ListN.{getElem?}
+use Rattle.term.specs.Sizes.{mostSymbols}
 use Rattle.term.specs.Term.{public, fresh, Term, leaf, symbols}
 use Rattle.lists.specs.Lists.{_∈_, nth}
 use Rattle.rewriting.specs.Table.{Row, row}
@@ -45,7 +46,7 @@ abbrev pub mostInValue : ℕ
 mostInValue = 128
 
 abbrev pub mostFilledIn : ℕ
-mostFilledIn = 256
+mostFilledIn = mostSymbols
 
 -- not so: "value not canonical, holds a variable, wrong sort, or over 128 symbols", 7
 pub record ValueFits (sort : ℕ) (v : Term) : Type 0 where

@@ -8,7 +8,7 @@ ghost use Rattle.protocol.specs.Index.{Placed};
 ghost use Rattle.protocol.specs.Places.{Here};
 ghost use Rattle.rewriting.specs.Writer.{firstNameTwice};
 ghost use Rattle.steps.specs.Index.{IndexOf};
-ghost use Rattle.steps.specs.Nodes.{Node, node};
+ghost use Rattle.steps.specs.Nodes.{Node, node, mostNodes};
 ghost use Rattle.steps.specs.Nodes.Code.{noNode};
 ghost use Rattle.steps.specs.Facts.{makes};
 ghost use Rattle.steps.specs.Runs.{rewrittens};
@@ -19,6 +19,9 @@ ghost use Rattle.term.specs.Reader.{symbolAt};
 use crate::values::Name;
 use number::Number;
 use term::Fresh;
+
+// "Rule 0 makes Fr(fresh)."
+const MAKES_FRESH: u32 = 0;
 
 // The name that a node makes, if it makes one.
 pub enum Made {
@@ -50,7 +53,7 @@ pub fn made_at(
 {
     match number::read_number(s, place) {
         Number::Value(r, e) => {
-            if r == 0 {
+            if r == MAKES_FRESH {
                 return fresh_at(s, arities, e);
             }
             Made::Nothing
@@ -119,7 +122,7 @@ fn again_at(names: &[usize], j: usize) -> bool
 
 // The least node that makes a name that an earlier one makes; 0 where there is none.
 fn least_again(names: &[usize], n: usize) -> usize
-    requires { ⌜ (n ≤ 512) × (n ≤ length (now names)) ⌝ }
+    requires { ⌜ (n ≤ mostNodes) × (n ≤ length (now names)) ⌝ }
     ensures { λ r. ⌜ ((p : Protocol) (xs : List Node) → Entered (now (names .entry)) xs n → length xs ≡ n → asFound r ≡ firstNameTwice (rewrittens p xs)) ⌝ }
 {
     let mut j: usize = 0;
@@ -142,10 +145,10 @@ pub fn name_pass(
     places: &[usize],
     n: usize,
 ) -> usize
-    requires { ⌜ (n ≤ 512) × (n ≤ length (now places)) ⌝ }
+    requires { ⌜ (n ≤ mostNodes) × (n ≤ length (now places)) ⌝ }
     ensures { λ r. ⌜ ((p : Protocol) (xs : List Node) → IndexOf (now (protocol .entry)) (now (arities .entry)) (now (rules .entry)) nr p → Placed (node p (now (s .entry))) noNode (now (places .entry)) xs n → asFound r ≡ firstNameTwice (rewrittens p xs)) ⌝ }
 {
-    let mut names = [0usize; 512];
+    let mut names = [0usize; crate::nodes::MOST_NODES];
     enter_names(s, protocol, arities, rules, nr, places, n, &mut names);
     least_again(&names, n)
 }

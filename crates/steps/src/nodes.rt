@@ -1,7 +1,8 @@
 // The nodes of a step list or graph, read front to back for 3 and 6.
 ghost use mathlib.Core.Path.{_≡_};
-ghost use Prim.Native.Nat.{_^_, _≤_, _<_, _+_};
+ghost use Prim.Native.Nat.{_≤_, _<_, _+_};
 ghost use lib.ListN.{length};
+ghost use Rattle.octets.specs.Limits.{longest};
 ghost use Rattle.number.specs.Reading.{many};
 ghost use Rattle.term.specs.Reader.{term};
 ghost use Rattle.octets.specs.Head.{Bytes};
@@ -9,12 +10,17 @@ ghost use Rattle.protocol.specs.Protocol.{Protocol};
 ghost use Rattle.protocol.specs.Protocol.Walks.{sortsAt};
 ghost use Rattle.protocol.specs.Places.{valueOf};
 ghost use Rattle.rules.specs.Numbered.{ruleOf};
-ghost use Rattle.steps.specs.Nodes.{nodesFrom, nodes, steps};
+ghost use Rattle.steps.specs.Nodes.{nodesFrom, nodes, steps, mostNodes};
 ghost use Rattle.steps.specs.Index.{IndexOf, Given};
 ghost use Rattle.steps.specs.Nodes.Code.{variablesOf, termsEnd, nodeFrom, nodeEnd, Told};
 use number::Number;
 use rules::numbered::Found;
 use term::Part;
+
+// "count of nodes (512)"
+pub const MOST_NODES: usize = 512;
+
+const NODE_LIMIT: usize = MOST_NODES + 1;
 
 // How many variables a rule has.
 pub enum Variables {
@@ -38,7 +44,7 @@ pub enum Nodes {
 
 // The place behind k values.
 fn values_end(s: &[u8], arities: &[u8], at: usize, k: usize) -> NodeEnd
-    requires { ⌜ (length (now s) ≤ 2 ^ 32) × (k ≤ 2 ^ 32) ⌝ }
+    requires { ⌜ (length (now s) ≤ longest) × (k ≤ longest) ⌝ }
     ensures { λ r. ⌜ r ≡ termsEnd (many (term (now (s .entry)) (now (arities .entry))) k at) ⌝ }
 {
     match term::terms_end(s, arities, at, k) {
@@ -65,7 +71,7 @@ fn rule_variables(
     requires { ⌜ Given (now protocol) (now arities) (now rules) nr ⌝ }
     ensures { λ r. ⌜ ((p : Protocol) → IndexOf (now (protocol .entry)) (now (arities .entry)) (now (rules .entry)) nr p → r ≡ variablesOf (ruleOf p number)) ⌝ }
 {
-    let mut own = [0u8; 30];
+    let mut own = [0u8; rules::numbered::RULE_ROOM];
     match rules::numbered::find_rule(arities, rules, nr, number, &mut own) {
         Found::Written(len) => Variables::Count(own_variables(&own[..len])),
         Found::At(place) => Variables::Count(protocol::places::variables_of(protocol, place)),
@@ -83,7 +89,7 @@ fn node_from(
     number: usize,
     at: usize,
 ) -> NodeEnd
-    requires { ⌜ (length (now s) ≤ 2 ^ 32) × Given (now protocol) (now arities) (now rules) nr ⌝ }
+    requires { ⌜ (length (now s) ≤ longest) × Given (now protocol) (now arities) (now rules) nr ⌝ }
     ensures { λ r. ⌜ ((p : Protocol) → IndexOf (now (protocol .entry)) (now (arities .entry)) (now (rules .entry)) nr p → r ≡ nodeFrom p (now (s .entry)) (ruleOf p number) at) ⌝ }
 {
     match rule_variables(protocol, arities, rules, nr, number) {
@@ -101,7 +107,7 @@ fn node_end(
     nr: usize,
     at: usize,
 ) -> NodeEnd
-    requires { ⌜ (length (now s) ≤ 2 ^ 32) × Given (now protocol) (now arities) (now rules) nr ⌝ }
+    requires { ⌜ (length (now s) ≤ longest) × Given (now protocol) (now arities) (now rules) nr ⌝ }
     ensures { λ r. ⌜ ((p : Protocol) → IndexOf (now (protocol .entry)) (now (arities .entry)) (now (rules .entry)) nr p → r ≡ nodeEnd p (now (s .entry)) at) ⌝ }
 {
     match number::read_number(s, at) {
@@ -121,7 +127,7 @@ fn nodes_from(
     n: usize,
     places: &mut [usize],
 ) -> Nodes
-    requires { ⌜ (length (now s) ≤ 2 ^ 32) × (n ≤ 512) × (512 ≤ length (now places)) × Given (now protocol) (now arities) (now rules) nr ⌝ }
+    requires { ⌜ (length (now s) ≤ longest) × (n ≤ mostNodes) × (mostNodes ≤ length (now places)) × Given (now protocol) (now arities) (now rules) nr ⌝ }
     ensures kept { λ r. ⌜ length (now (places .exit)) ≡ length (now (places .entry)) ⌝ }
     ensures told { λ r. ⌜ ((p : Protocol) → IndexOf (now (protocol .entry)) (now (arities .entry)) (now (rules .entry)) nr p → Told (nodesFrom p (now (s .entry)) 1 n at) p (now (s .entry)) (now (places .exit)) r) ⌝ }
 {
@@ -155,11 +161,11 @@ pub fn read_nodes(
     nr: usize,
     places: &mut [usize],
 ) -> Nodes
-    requires { ⌜ (length (now s) ≤ 2 ^ 32) × (512 ≤ length (now places)) × Given (now protocol) (now arities) (now rules) nr ⌝ }
+    requires { ⌜ (length (now s) ≤ longest) × (mostNodes ≤ length (now places)) × Given (now protocol) (now arities) (now rules) nr ⌝ }
     ensures kept { λ r. ⌜ length (now (places .exit)) ≡ length (now (places .entry)) ⌝ }
     ensures told { λ r. ⌜ ((p : Protocol) → IndexOf (now (protocol .entry)) (now (arities .entry)) (now (rules .entry)) nr p → Told (nodes p (now (s .entry)) at) p (now (s .entry)) (now (places .exit)) r) ⌝ }
 {
-    match number::below(s, at, 513) {
+    match number::below(s, at, NODE_LIMIT) {
         Number::Value(n, e) => nodes_from(s, protocol, arities, rules, nr, e, n as usize, places),
         Number::Fault => Nodes::Broken,
     }
@@ -174,7 +180,7 @@ pub fn read_steps(
     nr: usize,
     places: &mut [usize],
 ) -> Nodes
-    requires { ⌜ (length (now s) ≤ 2 ^ 32) × (512 ≤ length (now places)) × Given (now protocol) (now arities) (now rules) nr ⌝ }
+    requires { ⌜ (length (now s) ≤ longest) × (mostNodes ≤ length (now places)) × Given (now protocol) (now arities) (now rules) nr ⌝ }
     ensures kept { λ r. ⌜ length (now (places .exit)) ≡ length (now (places .entry)) ⌝ }
     ensures told { λ r. ⌜ ((p : Protocol) → IndexOf (now (protocol .entry)) (now (arities .entry)) (now (rules .entry)) nr p → Told (steps p (now (s .entry))) p (now (s .entry)) (now (places .exit)) r) ⌝ }
 {

@@ -1,8 +1,9 @@
 // The least node that has a filled-in term of more than 256 symbols (8).
 ghost use mathlib.Core.Path.{_≡_};
 ghost use mathlib.Core.List.{List};
-ghost use Prim.Native.Nat.{ℕ, _^_, _≤_, _<_, _+_};
+ghost use Prim.Native.Nat.{ℕ, _≤_, _<_, _+_};
 ghost use lib.ListN.{length};
+ghost use Rattle.octets.specs.Limits.{longest};
 ghost use Rattle.term.specs.Term.{Term};
 ghost use Rattle.protocol.specs.Protocol.{Rule, Protocol};
 ghost use Rattle.protocol.specs.Protocol.Walks.{sortsAt};
@@ -10,7 +11,7 @@ ghost use Rattle.protocol.specs.Places.{valueOf, Here};
 ghost use Rattle.protocol.specs.Index.{Placed};
 ghost use Rattle.lists.specs.Lists.{firstBad};
 ghost use Rattle.steps.specs.Index.{IndexOf, Given};
-ghost use Rattle.steps.specs.Nodes.{Node, node};
+ghost use Rattle.steps.specs.Nodes.{Node, node, mostNodes};
 ghost use Rattle.steps.specs.Nodes.Code.{noNode};
 ghost use Rattle.steps.specs.Values.Tests.{ruleOk, nodeTermsOk};
 ghost use Rattle.steps.specs.Values.Loops.{NodeFrom, SomeFrom, SomeNode};
@@ -28,10 +29,10 @@ fn filled_small(
     place: usize,
     k: usize,
 ) -> bool
-    requires { ⌜ (length (now src) ≤ 2 ^ 32) × SomeFilling (now arities) (now ars) (now s) (now src) place at × (k ≡ valueOf (sortsAt (now src) place)) ⌝ }
+    requires { ⌜ (length (now src) ≤ longest) × SomeFilling (now arities) (now ars) (now s) (now src) place at × (k ≡ valueOf (sortsAt (now src) place)) ⌝ }
     ensures { λ r. ⌜ ((u : Rule) (vs : List Term) (e : ℕ) → FillsRule (now (arities .entry)) (now (ars .entry)) (now (s .entry)) (now (src .entry)) place at u vs e → r ≡ ruleOk vs u) ⌝ }
 {
-    let mut sizes = [1usize; 16];
+    let mut sizes = [1usize; protocol::figures::MOST_VARIABLES];
     crate::sizes::value_sizes(s, arities, at, k, &mut sizes);
     crate::sizes::rule_small(src, arities, ars, place, &sizes[..k])
 }
@@ -50,7 +51,7 @@ fn terms_of(
     requires { ⌜ Given (now protocol) (now arities) (now rules) nr × SomeFrom (now protocol) (now arities) (now rules) nr (now s) number at × ArityTable (now protocol) (now arities) (now rules) nr (now ars) ⌝ }
     ensures { λ r. ⌜ ((p : Protocol) (x : Node) (e : ℕ) → IndexOf (now (protocol .entry)) (now (arities .entry)) (now (rules .entry)) nr p → NodeFrom p (now (s .entry)) number at x e → r ≡ nodeTermsOk p x) ⌝ }
 {
-    let mut own = [0u8; 30];
+    let mut own = [0u8; rules::numbered::RULE_ROOM];
     let found = rules::numbered::find_rule(arities, rules, nr, number, &mut own);
     let src = rules::numbered::rule_part(protocol, &own, found);
     let k = crate::nodes::own_variables(src);
@@ -67,7 +68,7 @@ fn node_terms(
     nr: usize,
     place: usize,
 ) -> bool
-    requires { ⌜ (length (now s) ≤ 2 ^ 32) × Given (now protocol) (now arities) (now rules) nr × SomeNode (now protocol) (now arities) (now rules) nr (now s) place × ArityTable (now protocol) (now arities) (now rules) nr (now ars) ⌝ }
+    requires { ⌜ (length (now s) ≤ longest) × Given (now protocol) (now arities) (now rules) nr × SomeNode (now protocol) (now arities) (now rules) nr (now s) place × ArityTable (now protocol) (now arities) (now rules) nr (now ars) ⌝ }
     ensures { λ r. ⌜ ((p : Protocol) (x : Node) → IndexOf (now (protocol .entry)) (now (arities .entry)) (now (rules .entry)) nr p → Here (node p (now (s .entry))) x place → r ≡ nodeTermsOk p x) ⌝ }
 {
     match number::read_number(s, place) {
@@ -87,7 +88,7 @@ pub fn size_pass(
     places: &[usize],
     n: usize,
 ) -> usize
-    requires { ⌜ (length (now s) ≤ 2 ^ 32) × (n ≤ 512) × (n ≤ length (now places)) × Given (now protocol) (now arities) (now rules) nr × SomeNodes (now protocol) (now arities) (now rules) nr (now s) (now places) n × ArityTable (now protocol) (now arities) (now rules) nr (now ars) ⌝ }
+    requires { ⌜ (length (now s) ≤ longest) × (n ≤ mostNodes) × (n ≤ length (now places)) × Given (now protocol) (now arities) (now rules) nr × SomeNodes (now protocol) (now arities) (now rules) nr (now s) (now places) n × ArityTable (now protocol) (now arities) (now rules) nr (now ars) ⌝ }
     ensures { λ r. ⌜ ((p : Protocol) (xs : List Node) → IndexOf (now (protocol .entry)) (now (arities .entry)) (now (rules .entry)) nr p → Placed (node p (now (s .entry))) noNode (now (places .entry)) xs n → asFound r ≡ firstBad (λ (k : ℕ) (x : Node). nodeTermsOk p x) 1 xs) ⌝ }
 {
     let mut j: usize = 0;

@@ -1,9 +1,11 @@
 // The symbols of a rule's terms with the values filled in (8).
 ghost use mathlib.Core.Path.{_≡_};
 ghost use mathlib.Core.List.{List};
-ghost use Prim.Native.Nat.{ℕ, _^_, _≤_, _<_, _+_};
+ghost use Prim.Native.Nat.{ℕ, _≤_, _<_, _+_, suc};
 ghost use lib.ListN.{length, getD};
 ghost use lib.Dec.{ltb};
+ghost use Rattle.steps.specs.Values.{mostFilledIn};
+ghost use Rattle.octets.specs.Limits.{longest};
 ghost use Rattle.number.specs.Reading.{got, many};
 ghost use Rattle.term.specs.Term.{Term, symbols};
 ghost use Rattle.term.specs.Reader.{symbolAt, kindOf, term};
@@ -13,6 +15,13 @@ ghost use Rattle.steps.specs.Values.Parts.{noTerm, factSmall, listSmall,
 ghost use Rattle.steps.specs.Values.Weights.{leafWeight, weigh, weightOf, sizeIn, SomeTerm};
 use term::Part;
 use term::Symbol;
+
+// "filled-in term over 256 symbols"; "Each tag counts as one symbol."
+const MOST_FILLED_IN: usize = term::MOST_SYMBOLS;
+
+const FILLED_IN_LIMIT: usize = MOST_FILLED_IN + 1;
+
+const ONE_SYMBOL: usize = 1;
 
 // One symbol: what it weighs, how many terms it takes, the place behind it.
 pub enum Weight {
@@ -27,17 +36,17 @@ fn size_of(sizes: &[usize], n: usize) -> usize
     if n < sizes.len() {
         return sizes[n];
     }
-    1
+    ONE_SYMBOL
 }
 
 // A variable weighs as much as its value, every other leaf one.
 fn leaf_weight(t: usize, n: usize, sizes: &[usize]) -> usize
     ensures { λ r. ⌜ r ≡ leafWeight (sizeIn (now (sizes .entry))) (kindOf t) n ⌝ }
 {
-    if t == 0 {
+    if t == term::VARIABLE {
         return size_of(sizes, n);
     }
-    1
+    ONE_SYMBOL
 }
 
 fn one_weight(s: &[u8], arities: &[u8], at: usize, sizes: &[usize]) -> Weight
@@ -45,21 +54,21 @@ fn one_weight(s: &[u8], arities: &[u8], at: usize, sizes: &[usize]) -> Weight
 {
     match term::symbol_at(s, arities, at) {
         Symbol::Leaf(t, n, e) => Weight::Takes(leaf_weight(t, n as usize, sizes), 0, e),
-        Symbol::Op(_, k, e) => Weight::Takes(1, k, e),
+        Symbol::Op(_, k, e) => Weight::Takes(ONE_SYMBOL, k, e),
         Symbol::Fault => Weight::Fault,
     }
 }
 
 // Whether the term at a place has 256 symbols at most with values of these sizes filled in.
 pub fn term_small(s: &[u8], arities: &[u8], at: usize, sizes: &[usize]) -> bool
-    requires { ⌜ (length (now s) ≤ 2 ^ 32) × ((v : ℕ) → sizeIn (now sizes) v ≤ 2 ^ 32) × SomeTerm (now arities) (now s) at ⌝ }
-    ensures { λ r. ⌜ ((t : Term) (e : ℕ) → term (now (s .entry)) (now (arities .entry)) at ≡ got t e → r ≡ ltb (weigh (sizeIn (now (sizes .entry))) t) 257) ⌝ }
+    requires { ⌜ (length (now s) ≤ longest) × ((v : ℕ) → sizeIn (now sizes) v ≤ longest) × SomeTerm (now arities) (now s) at ⌝ }
+    ensures { λ r. ⌜ ((t : Term) (e : ℕ) → term (now (s .entry)) (now (arities .entry)) at ≡ got t e → r ≡ ltb (weigh (sizeIn (now (sizes .entry))) t) (suc mostFilledIn)) ⌝ }
 {
     let mut i = at;
     let mut pending: usize = 1;
     let mut sum: usize = 0;
     while 0 < pending {
-        if 256 < sum {
+        if MOST_FILLED_IN < sum {
             return false;
         }
         match one_weight(s, arities, i, sizes) {
@@ -73,12 +82,12 @@ pub fn term_small(s: &[u8], arities: &[u8], at: usize, sizes: &[usize]) -> bool
             }
         }
     }
-    sum < 257
+    sum < FILLED_IN_LIMIT
 }
 
 // Whether all terms of the fact at a place are small enough.
 pub fn fact_small(s: &[u8], arities: &[u8], ars: &[u8], place: usize, sizes: &[usize]) -> bool
-    requires { ⌜ (length (now s) ≤ 2 ^ 32) × ((v : ℕ) → sizeIn (now sizes) v ≤ 2 ^ 32) × SomeFact (now arities) (now ars) (now s) place ⌝ }
+    requires { ⌜ (length (now s) ≤ longest) × ((v : ℕ) → sizeIn (now sizes) v ≤ longest) × SomeFact (now arities) (now ars) (now s) place ⌝ }
     ensures { λ r. ⌜ ((f : Fact) → Here (fact (now (s .entry)) (now (arities .entry)) (now (ars .entry))) f place → r ≡ factSmall (sizeIn (now (sizes .entry))) f) ⌝ }
 {
     let y = protocol::places::symbol_of(s, ars, place);
@@ -97,7 +106,7 @@ pub fn fact_small(s: &[u8], arities: &[u8], ars: &[u8], place: usize, sizes: &[u
 
 // Whether all facts of the list at a place are.
 pub fn list_small(s: &[u8], arities: &[u8], ars: &[u8], place: usize, sizes: &[usize]) -> bool
-    requires { ⌜ (length (now s) ≤ 2 ^ 32) × ((v : ℕ) → sizeIn (now sizes) v ≤ 2 ^ 32) × SomeList (now arities) (now ars) (now s) place ⌝ }
+    requires { ⌜ (length (now s) ≤ longest) × ((v : ℕ) → sizeIn (now sizes) v ≤ longest) × SomeList (now arities) (now ars) (now s) place ⌝ }
     ensures { λ r. ⌜ ((fs : List Fact) → Here (facts (now (s .entry)) (now (arities .entry)) (now (ars .entry))) fs place → r ≡ listSmall (sizeIn (now (sizes .entry))) fs) ⌝ }
 {
     let n = protocol::places::count_of(s, place);
@@ -115,11 +124,11 @@ pub fn list_small(s: &[u8], arities: &[u8], ars: &[u8], place: usize, sizes: &[u
 
 // Whether all terms of the rule at a place are: premises, actions, conclusions.
 pub fn rule_small(s: &[u8], arities: &[u8], ars: &[u8], place: usize, sizes: &[usize]) -> bool
-    requires { ⌜ (length (now s) ≤ 2 ^ 32) × ((v : ℕ) → sizeIn (now sizes) v ≤ 2 ^ 32) × RuleAt (now arities) (now ars) (now s) place ⌝ }
+    requires { ⌜ (length (now s) ≤ longest) × ((v : ℕ) → sizeIn (now sizes) v ≤ longest) × RuleAt (now arities) (now ars) (now s) place ⌝ }
     ensures { λ r. ⌜ ((u : Rule) → Here (rule (now (s .entry)) (now (arities .entry)) (now (ars .entry))) u place → r ≡ ruleSmall (sizeIn (now (sizes .entry))) u) ⌝ }
 {
     let mut j: usize = 0;
-    while j < 3 {
+    while j < protocol::figures::LISTS {
         let at = protocol::places::list_at(s, arities, ars, place, j);
         if list_small(s, arities, ars, at, sizes) {
             j += 1;
@@ -132,7 +141,7 @@ pub fn rule_small(s: &[u8], arities: &[u8], ars: &[u8], place: usize, sizes: &[u
 
 // The sizes of k values from a place on, each into its entry.
 pub fn value_sizes(s: &[u8], arities: &[u8], at: usize, k: usize, sizes: &mut [usize])
-    requires { ⌜ (length (now s) ≤ 2 ^ 32) × (k ≤ length (now sizes)) ⌝ }
+    requires { ⌜ (length (now s) ≤ longest) × (k ≤ length (now sizes)) ⌝ }
     ensures kept { λ r. ⌜ length (now (sizes .exit)) ≡ length (now (sizes .entry)) ⌝ }
     ensures told { λ r. ⌜ ((vs : List Term) (e : ℕ) → many (term (now (s .entry)) (now (arities .entry))) k at ≡ got vs e → (j : ℕ) → j < k → getD (now (sizes .exit)) j 1 ≡ symbols (getD vs j noTerm)) ⌝ }
 {

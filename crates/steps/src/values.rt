@@ -2,8 +2,9 @@
 ghost use mathlib.Core.Path.{_≡_};
 ghost use mathlib.Core.Bool.{true};
 ghost use mathlib.Core.List.{List};
-ghost use Prim.Native.Nat.{ℕ, _^_, _≤_, _<_, _+_};
+ghost use Prim.Native.Nat.{ℕ, _≤_, _<_, _+_};
 ghost use lib.ListN.{length};
+ghost use Rattle.octets.specs.Limits.{longest};
 ghost use Rattle.term.specs.Term.{Term};
 ghost use Rattle.term.specs.Reader.{symbolAt, term};
 ghost use Rattle.protocol.specs.Protocol.{Rule, Protocol};
@@ -12,18 +13,22 @@ ghost use Rattle.protocol.specs.Places.{valueOf, Here};
 ghost use Rattle.protocol.specs.Index.{Placed};
 ghost use Rattle.lists.specs.Lists.{firstBad};
 ghost use Rattle.steps.specs.Index.{IndexOf, Given};
-ghost use Rattle.steps.specs.Nodes.{Node, node};
+ghost use Rattle.steps.specs.Nodes.{Node, node, mostNodes};
 ghost use Rattle.steps.specs.Nodes.Code.{noNode};
 ghost use Rattle.steps.specs.Values.Tests.{valueOk, valuesOk, nodeValuesOk};
 ghost use Rattle.steps.specs.Values.Loops.{behindOf, RuleHere, SomeRule, NodeFrom, SomeFrom, SomeNode};
 ghost use Rattle.steps.specs.Values.Scan.{asFound, SomeNodes};
 ghost use Rattle.steps.specs.Values.Code.{NameIs, ofName, ValueThere, SomeValue};
 use number::Number;
+use protocol::figures;
 use term::Fresh;
 use term::Part;
 use term::Public;
 use term::Symbol;
 use term::Walk;
+
+// "over 128 symbols"
+const MOST_IN_VALUE: usize = 128;
 
 // A fresh name, a public name, or no name.
 pub enum Name {
@@ -38,10 +43,10 @@ pub fn name_at(s: &[u8], arities: &[u8], at: usize) -> Name
 {
     match term::symbol_at(s, arities, at) {
         Symbol::Leaf(t, n, _) => {
-            if t == 2 {
+            if t == term::FRESH {
                 return Name::FreshName(Fresh(n));
             }
-            if t == 1 {
+            if t == term::PUBLIC {
                 return Name::PublicName(Public(n));
             }
             Name::Other
@@ -55,12 +60,12 @@ pub fn name_at(s: &[u8], arities: &[u8], at: usize) -> Name
 fn of_sort(sort: usize, name: Name) -> bool
     ensures { λ r. ⌜ r ≡ ofName sort name ⌝ }
 {
-    if sort == 0 {
+    if sort == figures::MESSAGE_SORT {
         return true;
     }
     match name {
-        Name::FreshName(_) => sort == 1,
-        Name::PublicName(_) => sort == 2,
+        Name::FreshName(_) => sort == figures::FRESH_SORT,
+        Name::PublicName(_) => sort == figures::PUBLIC_SORT,
         Name::Other => false,
     }
 }
@@ -70,12 +75,12 @@ pub fn value_ok(s: &[u8], arities: &[u8], at: usize, sort: usize) -> bool
     requires { ⌜ SomeValue (now arities) (now s) at ⌝ }
     ensures { λ r. ⌜ ((t : Term) (e : ℕ) → ValueThere (now (arities .entry)) (now (s .entry)) at t e → r ≡ valueOk sort t) ⌝ }
 {
-    match term::walk_term(s, arities, at, 0, 0, number::NUMBER_LIMIT) {
+    match term::walk_term(s, arities, at, term::VARIABLE, 0, number::NUMBER_LIMIT) {
         Walk::End(_, n, held) => {
             if held {
                 return false;
             }
-            if 128 < n {
+            if MOST_IN_VALUE < n {
                 return false;
             }
             if of_sort(sort, name_at(s, arities, at)) {
@@ -89,7 +94,7 @@ pub fn value_ok(s: &[u8], arities: &[u8], at: usize, sort: usize) -> bool
 
 // The place behind the value at a place.
 fn value_end(s: &[u8], arities: &[u8], at: usize) -> usize
-    requires { ⌜ length (now s) ≤ 2 ^ 32 ⌝ }
+    requires { ⌜ length (now s) ≤ longest ⌝ }
     ensures { λ r. ⌜ r ≡ behindOf at (term (now (s .entry)) (now (arities .entry)) at) ⌝ }
 {
     match term::term_end(s, arities, at) {
@@ -130,7 +135,7 @@ fn values_of(
     requires { ⌜ Given (now protocol) (now arities) (now rules) nr × SomeFrom (now protocol) (now arities) (now rules) nr (now s) number at ⌝ }
     ensures { λ r. ⌜ ((p : Protocol) (x : Node) (e : ℕ) → IndexOf (now (protocol .entry)) (now (arities .entry)) (now (rules .entry)) nr p → NodeFrom p (now (s .entry)) number at x e → r ≡ nodeValuesOk p x) ⌝ }
 {
-    let mut own = [0u8; 30];
+    let mut own = [0u8; rules::numbered::RULE_ROOM];
     let found = rules::numbered::find_rule(arities, rules, nr, number, &mut own);
     let src = rules::numbered::rule_part(protocol, &own, found);
     let k = crate::nodes::own_variables(src);
@@ -146,7 +151,7 @@ fn node_values(
     nr: usize,
     place: usize,
 ) -> bool
-    requires { ⌜ (length (now s) ≤ 2 ^ 32) × Given (now protocol) (now arities) (now rules) nr × SomeNode (now protocol) (now arities) (now rules) nr (now s) place ⌝ }
+    requires { ⌜ (length (now s) ≤ longest) × Given (now protocol) (now arities) (now rules) nr × SomeNode (now protocol) (now arities) (now rules) nr (now s) place ⌝ }
     ensures { λ r. ⌜ ((p : Protocol) (x : Node) → IndexOf (now (protocol .entry)) (now (arities .entry)) (now (rules .entry)) nr p → Here (node p (now (s .entry))) x place → r ≡ nodeValuesOk p x) ⌝ }
 {
     match number::read_number(s, place) {
@@ -165,7 +170,7 @@ pub fn value_pass(
     places: &[usize],
     n: usize,
 ) -> usize
-    requires { ⌜ (length (now s) ≤ 2 ^ 32) × (n ≤ 512) × (n ≤ length (now places)) × Given (now protocol) (now arities) (now rules) nr × SomeNodes (now protocol) (now arities) (now rules) nr (now s) (now places) n ⌝ }
+    requires { ⌜ (length (now s) ≤ longest) × (n ≤ mostNodes) × (n ≤ length (now places)) × Given (now protocol) (now arities) (now rules) nr × SomeNodes (now protocol) (now arities) (now rules) nr (now s) (now places) n ⌝ }
     ensures { λ r. ⌜ ((p : Protocol) (xs : List Node) → IndexOf (now (protocol .entry)) (now (arities .entry)) (now (rules .entry)) nr p → Placed (node p (now (s .entry))) noNode (now (places .entry)) xs n → asFound r ≡ firstBad (λ (k : ℕ) (x : Node). nodeValuesOk p x) 1 xs) ⌝ }
 {
     let mut j: usize = 0;

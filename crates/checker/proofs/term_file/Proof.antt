@@ -1,3 +1,4 @@
+use Rattle.number.specs.Groups.{numberLimit}
 use denote.Ref.{now}
 use mathlib.Core.Path.{sym, _∙_}
 use Rattle.checker.specs.Files.Answers.{file-fault, file-leftover, file-variable, file-large, file-small}
@@ -12,12 +13,14 @@ enum-known-e : tie.Need-enum-known-e
 enum-known-e c = search needs
 
 returns : tie.Need-returns
+unfolding numberLimit
 returns c =
     let c4 = c .before .before .before .before in
     let c7 = c4 .before .before .before in
     sym (file-leftover (now (c7 .args .arities)) (now (c7 .args .term)) _ _ _ (sym (c4 .walk-term .ensures) ∙ c .before .before .e .given .1) (c .if1 .taken))
 
 returns-2 : tie.Need-returns-2
+unfolding numberLimit
 returns-2 c =
     let c3 = c .before .before .before in
     let c5 = c3 .before .before in
@@ -26,6 +29,7 @@ returns-2 c =
     (c .if2 .taken))
 
 returns-3 : tie.Need-returns-3
+unfolding numberLimit
 returns-3 c =
     let c4 = c .before .before .before .before in
     let c6 = c4 .before .before in
@@ -37,6 +41,7 @@ enum-told : tie.Need-enum-told
 enum-told c = search needs
 
 returns-4 : tie.Need-returns-4
+unfolding numberLimit
 returns-4 c =
     let c4 = c .before .before .before .before in
     let c6 = c4 .before .before in
@@ -45,6 +50,7 @@ returns-4 c =
     (c .before .if2 .left) (c .if3 .left))
 
 returns-5 : tie.Need-returns-5
+unfolding numberLimit
 returns-5 c =
     let c5 = c .before .before .before .before .before in
     sym (file-fault (now (c5 .args .arities)) (now (c5 .args .term)) (sym (c .before .before .walk-term .ensures) ∙ c .enum-told .given .1))

@@ -4,6 +4,7 @@ use Prim.Native.Nat.{ℕ, _≤_, _<_}
 use mathlib.Core.List.{List}
 use mathlib.Core.Logic.{_↔_}
 use mathlib.Core.Path.{_≡_, refl, ap, sym, _∙_, subst}
+use Rattle.term.specs.Sizes.{mostSymbols}
 use Rattle.lists.specs.Choice.{by-size}
 use Rattle.octets.specs.Head.{Bytes}
 use Rattle.term.specs.Term.{Term, encode, symbols, Formed}
@@ -25,10 +26,10 @@ pub record Encodes (protocol term : List ℕ) (t : Term) : Type 0 where
   pub is : Protocol
   pub fit : IsFit protocol is
   pub file : IsTerm (slots (is .functions)) term t
-  pub small : symbols t ≤ 256
+  pub small : symbols t ≤ mostSymbols
 
-small-enough : (n : ℕ) → (256 < n → ⊥) → n ≤ 256
-small-enough n f = by-size 256 n (λ l. absurd (f l)) (λ l. l)
+small-enough : (n : ℕ) → (mostSymbols < n → ⊥) → n ≤ mostSymbols
+small-enough n f = by-size mostSymbols n (λ l. absurd (f l)) (λ l. l)
 
 module _ (protocol term : List ℕ) (bytes : Bytes term) where
   encodes : (t : Term) → Holds protocol term t → Encodes protocol term t

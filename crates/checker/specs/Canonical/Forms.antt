@@ -4,6 +4,7 @@ use mathlib.Core.List.{List, [], append-nil}
 use mathlib.Core.Path.{_≡_, refl, ap, sym, _∙_, subst}
 use native.Mathlib.Omega.{arith}
 use lib.ListN.{length, take}
+use Rattle.term.specs.Sizes.{mostSymbols}
 use Rattle.lists.specs.Choice.{by-size}
 use Rattle.octets.specs.Head.{Stands, stands-part, stands-within}
 use Rattle.octets.specs.Splice.{splice}
@@ -26,8 +27,8 @@ use Rattle.checker.specs.Files.Terms.{IsTerm, file-form}
 use Rattle.checker.specs.Canonical.{need, formOf}
 use Rattle.checker.specs.Canonical.Contracts.{Form, Formed}
 
-small-enough : (n : ℕ) → (256 < n → ⊥) → n ≤ 256
-small-enough n f = by-size 256 n (λ l. absurd (f l)) (λ l. l)
+small-enough : (n : ℕ) → (mostSymbols < n → ⊥) → n ≤ mostSymbols
+small-enough n f = by-size mostSymbols n (λ l. absurd (f l)) (λ l. l)
 
 module _ (arities term free : List ℕ) (t : Term) (h : Form arities term free t) where
   read : IsSmall arities term t

@@ -7,6 +7,7 @@ use mathlib.Core.Path.{_≡_, refl, ap, ap₂, sym, _∙_, subst}
 use native.Mathlib.Omega.{arith}
 use lib.ListN.{length, replicate}
 use borrow.Author.Tests.{ne-eqb}
+use Rattle.term.specs.Sizes.{mostSymbols}
 use Rattle.lists.specs.Choice.{pick, by-size, clash}
 use Rattle.number.specs.Reading.{Read, got, fault}
 use Rattle.term.specs.Term.{Term, symbols}
@@ -34,9 +35,9 @@ pub data View (r : Ruling Term) : Type 0 where
 
 sized-view : (r : Ruling Term) (t : Term) → r ≡ sizeRuling t → View r
 sized-view r t e =
-    by-size 256 (symbols t)
-    (λ l. is-large (e ∙ less-yes 8 0 256 (symbols t) [] (passed t) l))
-    (λ l. is-small t (e ∙ less-no 8 0 256 (symbols t) [] (passed t) l))
+    by-size mostSymbols (symbols t)
+    (λ l. is-large (e ∙ less-yes 8 0 mostSymbols (symbols t) [] (passed t) l))
+    (λ l. is-small t (e ∙ less-no 8 0 mostSymbols (symbols t) [] (passed t) l))
 
 module _ (slots s : List ℕ) where
   read-view : (o : Read Term) → termFile slots s ≡ o → View (termRuling slots s)
@@ -152,7 +153,7 @@ module _ (protocol term : List ℕ) (output : ℕ) where
   late-term : (slots : List ℕ) → Late (termRuling slots term)
   late-term slots =
       late-then (layout termItem (termFile slots term)) sizeRuling (late-layout termItem (termFile slots term))
-      (λ t. late-pass (lessPass 8 0 256 (symbols t)) [] (passed t) (λ e. omega arith) tt)
+      (λ t. late-pass (lessPass 8 0 mostSymbols (symbols t)) [] (passed t) (λ e. omega arith) tt)
 
   late-files : Late (andThen (termOf protocol term) (roomRuling output))
   late-files =

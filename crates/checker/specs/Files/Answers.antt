@@ -7,6 +7,7 @@ use native.Mathlib.Omega.{arith}
 use lib.ListN.{length}
 use lib.Dec.{eqb}
 use borrow.Author.Tests.{eq-eqb, ne-eqb}
+use Rattle.term.specs.Sizes.{mostSymbols}
 use Rattle.lists.specs.Choice.{pick, clash}
 use Rattle.number.specs.Groups.{numberLimit}
 use Rattle.number.specs.Reading.{Read, got, fault}
@@ -39,10 +40,6 @@ walked-fault : (kind lo hi : ℕ) (r : Read Term) → walked kind lo hi r ≡ wk
 walked-fault kind lo hi (got t d) w = clash (cc)
 walked-fault kind lo hi fault w = refl
 
-pub limit-is : numberLimit ≡ 2097152
-unfolding numberLimit
-limit-is = refl
-
 module _ (slots s : List ℕ) where
   -- a file that does not read as one term without variables
   no-file : termFile slots s ≡ fault → fileOf (termRuling slots s) ≡ Layout
@@ -60,37 +57,34 @@ module _ (slots s : List ℕ) where
 
   -- ── the code's cases ──
   abbrev Walked : ℕ → ℕ → Bool → Type 0
-  Walked e n h = walked 0 0 2097152 (term s slots 0) ≡ wk.End e n h
+  Walked e n h = walked 0 0 numberLimit (term s slots 0) ≡ wk.End e n h
 
-  held : (t : Term) (h : Bool) → holds t 0 0 2097152 ≡ h → holds t 0 0 numberLimit ≡ h
-  held t h q = ap (holds t 0 0) limit-is ∙ q
-
-  pub file-fault : walked 0 0 2097152 (term s slots 0) ≡ wk.Fault → fileOf (termRuling slots s) ≡ Layout
-  file-fault w = no-file (unread (walked-fault 0 0 2097152 (term s slots 0) w))
+  pub file-fault : walked 0 0 numberLimit (term s slots 0) ≡ wk.Fault → fileOf (termRuling slots s) ≡ Layout
+  file-fault w = no-file (unread (walked-fault 0 0 numberLimit (term s slots 0) w))
 
   -- bytes are left over
   pub file-leftover : (e n : ℕ) (h : Bool) → Walked e n h → (e ≡ length s → ⊥) → fileOf (termRuling slots s) ≡ Layout
   file-leftover e n h w l =
-      cut-walked 0 0 2097152 e n h (term s slots 0) w (λ t r q v.
+      cut-walked 0 0 numberLimit e n h (term s slots 0) w (λ t r q v.
       no-file (file-tested t e false r (ap (λ (b : Bool). b && not (holds t 0 0 numberLimit)) (ne-eqb e (length s) l))))
 
   -- a variable stands in it
   pub file-variable : (e n : ℕ) (h : Bool) → Walked e n h → e ≡ length s → h ≡ true → fileOf (termRuling slots s) ≡ Layout
   file-variable e n h w l v =
-      cut-walked 0 0 2097152 e n h (term s slots 0) w (λ t r q x.
-      no-file (file-tested t e false r (ap₂ (λ (a b : Bool). a && not b) (eq-eqb e (length s) l) (held t h x ∙ v))))
+      cut-walked 0 0 numberLimit e n h (term s slots 0) w (λ t r q x.
+      no-file (file-tested t e false r (ap₂ (λ (a b : Bool). a && not b) (eq-eqb e (length s) l) (x ∙ v))))
 
   whole : (e n : ℕ) (h : Bool) → Walked e n h → e ≡ length s → h ≡ false
       → {C : Type 0} → ((t : Term) → termRuling slots s ≡ sizeRuling t → symbols t ≡ n → C) → C
   whole e n h w l v k =
-      cut-walked 0 0 2097152 e n h (term s slots 0) w (λ t r q x.
+      cut-walked 0 0 numberLimit e n h (term s slots 0) w (λ t r q x.
       k t (ap (λ (o : Read Term). andThen (layout termItem o) sizeRuling)
-      (file-tested t e true r (ap₂ (λ (a b : Bool). a && not b) (eq-eqb e (length s) l) (held t h x ∙ v)))) q)
+      (file-tested t e true r (ap₂ (λ (a b : Bool). a && not b) (eq-eqb e (length s) l) (x ∙ v)))) q)
 
-  pub file-large : (e n : ℕ) (h : Bool) → Walked e n h → e ≡ length s → h ≡ false → 256 < n → fileOf (termRuling slots s) ≡ Large
+  pub file-large : (e n : ℕ) (h : Bool) → Walked e n h → e ≡ length s → h ≡ false → mostSymbols < n → fileOf (termRuling slots s) ≡ Large
   file-large e n h w l v m =
-      whole e n h w l v (λ t r q. ap fileOf (r ∙ less-yes 8 0 256 (symbols t) [] (passed t) (omega arith)))
+      whole e n h w l v (λ t r q. ap fileOf (r ∙ less-yes 8 0 mostSymbols (symbols t) [] (passed t) (omega arith)))
 
-  pub file-small : (e n : ℕ) (h : Bool) → Walked e n h → e ≡ length s → h ≡ false → n ≤ 256 → fileOf (termRuling slots s) ≡ Small
+  pub file-small : (e n : ℕ) (h : Bool) → Walked e n h → e ≡ length s → h ≡ false → n ≤ mostSymbols → fileOf (termRuling slots s) ≡ Small
   file-small e n h w l v m =
-      whole e n h w l v (λ t r q. ap fileOf (r ∙ less-no 8 0 256 (symbols t) [] (passed t) (omega arith)))
+      whole e n h w l v (λ t r q. ap fileOf (r ∙ less-no 8 0 mostSymbols (symbols t) [] (passed t) (omega arith)))

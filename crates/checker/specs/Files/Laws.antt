@@ -4,6 +4,7 @@ use mathlib.Core.List.{List, [], _∷_}
 use mathlib.Core.Path.{_≡_, refl}
 use mathlib.Core.Logic.{inl, inr}
 use native.Mathlib.Omega.{arith}
+use Rattle.term.specs.Sizes.{mostSymbols}
 use Rattle.lists.specs.Choice.{clash}
 use Rattle.number.specs.Reading.{Read, got, fault}
 use Rattle.term.specs.Term.{Term, symbols}
@@ -47,4 +48,4 @@ term-ruled slots s =
     ruled-and-then (Reads (termFile slots s)) (IsSmall slots s) (layoutRows termItem (termFile slots s)) (layout termItem (termFile slots s)) sizeRows
     sizeRuling
     (layout-ruled termItem (termFile slots s))
-    (λ t h e. ruled (IsSmall slots s) (lessPass 8 0 256 (symbols t) ∷ []) t (λ a. record { reads = h; small = a }))
+    (λ t h e. ruled (IsSmall slots s) (lessPass 8 0 mostSymbols (symbols t) ∷ []) t (λ a. record { reads = h; small = a }))

@@ -1,10 +1,12 @@
 -- A node's fact is its rule's with the values filled in, and who finds the rule can write it.
-use Prim.Native.Nat.{ℕ, _^_, _≤_}
+use Prim.Native.Nat.{ℕ, _≤_}
 use mathlib.Core.List.{List}
 use mathlib.Core.Option.{some, Option·some-injective}
 use mathlib.Core.Path.{_≡_, ap, sym, _∙_, subst}
 use native.Mathlib.Omega.{arith}
 use lib.ListN.{length, getD, length-map}
+use Rattle.protocol.specs.Figures.{mostVariables}
+use Rattle.octets.specs.Limits.{longest}
 use Rattle.octets.specs.Head.{Bytes}
 use Rattle.number.specs.Reading.{got, readNumber, many, below}
 use Rattle.term.specs.Term.{Term}
@@ -55,7 +57,7 @@ module _ {file table rules : List ℕ} {nr : ℕ} {p : Protocol} (index : IndexO
       → Here (fact src table ars) (getD (part w v) i noFact) f → FactJob table ars s starts src f n o (x .values) (getD (part w v) i noFact)
 
   pub rule-fact :
-      (out src : List ℕ) (place o : ℕ) → Room out o → Bytes src → length src ≤ 2 ^ 32 → FillsRule table ars s src place at u (x .values) e
+      (out src : List ℕ) (place o : ℕ) → Room out o → Bytes src → length src ≤ longest → FillsRule table ars s src place at u (x .values) e
       → RuleFact table ars s src place at (length out) o w i q u (x .values) e
   rule-fact out src place o room bsrc short fills = record {
     fills = fills;
@@ -73,7 +75,7 @@ module _ {file table rules : List ℕ} {nr : ℕ} {p : Protocol} (index : IndexO
 module _ {table ars s src : List ℕ} {place at n o w i : ℕ} {q : Wanted} {u : Rule} {vs : List Term} {e : ℕ}
     (r : RuleFact table ars s src place at n o w i q u vs e) where
   -- the values have places enough
-  pub values-few : (k : ℕ) → k ≡ valueOf (sortsAt src place) → (length s ≤ 2 ^ 32) × (k ≤ 16)
+  pub values-few : (k : ℕ) → k ≡ valueOf (sortsAt src place) → (length s ≤ longest) × (k ≤ mostVariables)
   values-few k h = (r .fills .is .short, omega (arith, h, count-here (r .fills .is), r .fills .is .few))
 
   module _ (list f : ℕ) (hl : list ≡ listPlace src table ars place w) (hf : f ≡ factPlace src table ars list i) where
@@ -82,7 +84,7 @@ module _ {table ars s src : List ℕ} {place at n o w i : ℕ} {q : Wanted} {u :
 
     module _ (k : ℕ) (counted : k ≡ valueOf (sortsAt src place)) (starts : List ℕ)
         (told : (vs : List Term) (d : ℕ) → many (term s table) k at ≡ got vs d → Placed (term s table) noTerm starts vs k)
-        (room : length starts ≡ 16) where
+        (room : length starts ≡ mostVariables) where
       many-are : k ≡ length (u .sorts)
       many-are = counted ∙ count-here (r .fills .is)
 
@@ -108,7 +110,7 @@ fact-within p s bytes a q x f = node-exact p s bytes .form x (a .node) (f .here 
 
 -- its rule number was read
 pub fact-read :
-    (p : Protocol) (s : List ℕ) → Bytes s → length s ≤ 2 ^ 32 → (a : Place) (q : Wanted) (number at : ℕ) (x : Node)
+    (p : Protocol) (s : List ℕ) → Bytes s → length s ≤ longest → (a : Place) (q : Wanted) (number at : ℕ) (x : Node)
     → readNumber s (a .node) ≡ got number at → FactOf p s a q x → (e : ℕ) × FactFrom p s number at (a .part) (a .number) q x e
 fact-read p s bytes short a q number at x h f =
     let (e, g) = node-from p s (a .node) number at x h (f .here) in (

@@ -7,7 +7,7 @@ use mathlib.Core.Path.{_≡_, refl}
 use native.Mathlib.Omega.{arith}
 use lib.ListN.{length, length-append}
 use Rattle.octets.specs.Limits.{longest}
-use Rattle.term.specs.Sizes.{mostSymbols}
+use Rattle.term.specs.Sizes.{mostSymbols, termRoom}
 use Rattle.octets.specs.Head.{Bytes}
 use Rattle.number.specs.Groups.{numberLimit}
 use Rattle.number.specs.Layout.{flat}
@@ -44,7 +44,7 @@ all-below slots k v (t ∷ ts) a b o =
 -- ── the room that the terms take ──
 filled-few :
     (slots : List ℕ) (θ : ℕ → Term) (ts : List Term) → All (TermWithin slots) ts → ((v : ℕ) → Occurss variable v (terms ts) → InRange (θ v))
-    → All (λ t. symbols (sub θ t) ≤ mostSymbols) ts → length (flat encode (map (sub θ) ts)) ≤ 1024 * length ts
+    → All (λ t. symbols (sub θ t) ≤ mostSymbols) ts → length (flat encode (map (sub θ) ts)) ≤ termRoom * length ts
 filled-few slots θ [] a h s = omega arith
 filled-few slots θ (t ∷ ts) a h s =
     let b = bytes-few (sub θ t) (sub-range θ t (a .0 .range) (λ v o. h v (inl o))) in

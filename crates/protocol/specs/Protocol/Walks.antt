@@ -158,10 +158,6 @@ module _ (s : List ℕ) (at : ℕ) where
   sorts-fault h = ap (λ (r : Read (List ℕ)). andThen r (λ vs e. got (length vs) e)) (counted-fault s (below s sortCount) 16 at h)
 
 -- ── a rule ──
-pub limit-is : 2097152 ≡ numberLimit
-unfolding numberLimit
-limit-is = refl
-
 -- only the place behind it
 abbrev pub ended : {A : Type 0} → Read A → Seen
 ended {A} r = seen (λ (x : A). false) r
@@ -172,9 +168,9 @@ closed (sn.End e b) = pick b sn.Fault (sn.End e false)
 closed sn.Fault = sn.Fault
 
 -- as the code has it
-module _ (n : ℕ) (o : Read (List (List Fact))) {w : Seen} (asked : w ≡ seen (anyBy (anyBy (asks 0 n 2097152))) o) where
+module _ (n : ℕ) (o : Read (List (List Fact))) {w : Seen} (asked : w ≡ seen (anyBy (anyBy (asks 0 n numberLimit))) o) where
   pub parts-closed : closed w ≡ closed (seen (anyBy (anyBy (asks 0 n numberLimit))) o)
-  parts-closed = ap closed (asked ∙ ap (λ (m : ℕ). seen (anyBy (anyBy (asks 0 n m))) o) limit-is)
+  parts-closed = ap closed asked
 
   pub parts-by : (e : ℕ) (b : Bool) → w ≡ sn.End e b → pick b sn.Fault (sn.End e false) ≡ closed (seen (anyBy (anyBy (asks 0 n numberLimit))) o)
   parts-by e b h = ap closed (sym h) ∙ parts-closed

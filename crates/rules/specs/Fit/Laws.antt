@@ -7,6 +7,7 @@ use native.Mathlib.Omega.{arith}
 use lib.ListN.{length, getD, take}
 use lib.Dec.{eqb}
 use borrow.Author.Tests.{ne-eqb}
+use Rattle.number.specs.Groups.{numberLimit}
 use Rattle.protocol.specs.Figures.{listCount}
 use Rattle.lists.specs.Choice.{clash}
 use Rattle.number.specs.Reading.{Read, got, fault, seen}
@@ -14,7 +15,7 @@ use Rattle.lists.specs.Lists.{anyBy}
 use Rattle.number.specs.declared.Seen.{Seen}
 use Rattle.number.specs.declared.Seen.the-variants as sn
 use Rattle.protocol.specs.Protocol.{Rule, part, noRule, premises, conclusions, facts, layout, rule, protocol}
-use Rattle.protocol.specs.Protocol.Walks.{asks, ruleAsks, sortsAt, layout-fault, limit-is}
+use Rattle.protocol.specs.Protocol.Walks.{asks, ruleAsks, sortsAt, layout-fault}
 use Rattle.protocol.specs.Places.{Here, valueOf, listPlace, sortOf}
 use Rattle.protocol.specs.Places.Laws.{vars-law, list-law, sort-law, rule-layout}
 use Rattle.protocol.specs.Index.{Entries, Indexed, Placed}
@@ -53,8 +54,8 @@ module _ (s slots ars : List ℕ) (at : ℕ) where
   rule-asked kind lo hi hb ho r h = hb ∙ hit-is (ruleAsks kind lo hi) (layout s slots ars at) ho (h .reads)
 
   -- P1, with the limit as the code has it
-  pub fresh-asked : (b : Bool) (r : Rule) → b ≡ ruleAsks 2 0 2097152 r → not b ≡ p1 r
-  fresh-asked b r h = ap not h ∙ ap (λ (m : ℕ). not (ruleAsks 2 0 m r)) limit-is
+  pub fresh-asked : (b : Bool) (r : Rule) → b ≡ ruleAsks 2 0 numberLimit r → not b ≡ p1 r
+  fresh-asked b r h = ap not h
 
   -- a variable that the code finds bound
   pub bound-is :

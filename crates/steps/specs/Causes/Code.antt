@@ -10,7 +10,7 @@ use Rattle.rewriting.specs.Writer.{firstNameTwice}
 use Rattle.octets.specs.Head.{Bytes}
 use Rattle.protocol.specs.Protocol.{Protocol}
 use Rattle.protocol.specs.Index.{Placed}
-use Rattle.steps.specs.Nodes.{Node, Reading, node, steps}
+use Rattle.steps.specs.Nodes.{Node, Reading, node, steps, mostNodes}
 use Rattle.steps.specs.Nodes.Code.{noNode, NodesAre, Told}
 use Rattle.steps.specs.Nodes.Exact.{steps-form}
 use Rattle.steps.specs.Index.{IndexOf}
@@ -92,11 +92,11 @@ module _ (p : Protocol) (s places : List ℕ) (r : Nodes) (told : Told (steps p 
     pub list-read : NodesAre (steps p s) p s places n e
     list-read = subst (Told (steps p s) p s places) h told
 
-    pub list-few : Bytes s → n ≤ 512
+    pub list-few : Bytes s → n ≤ mostNodes
     list-few bytes =
         let t = list-read in
-        let f : length (t .items) ≤ 512 = steps-form p s bytes (t .items) e (t .there) .0 .few in
-        subst (λ k. k ≤ 512) (t .placed .count) f
+        let f : length (t .items) ≤ mostNodes = steps-form p s bytes (t .items) e (t .there) .0 .few in
+        subst (λ k. k ≤ mostNodes) (t .placed .count) f
 
     pub list-nodes :
         (j : Judged) → ((xs : List Node) → Placed (node p s) noNode places xs n → rulingOf j ≡ counted (nodeRuling p xs)) → rulingOf j ≡ Whole

@@ -1,9 +1,12 @@
 -- What the judgement of a fit protocol leaves is what the code over nodes asks for.
-use Prim.Native.Nat.{ℕ, _^_, _≤_}
+use Prim.Native.Nat.{ℕ, _≤_}
 use mathlib.Core.List.{List}
 use mathlib.Core.Path.{_≡_, refl, subst}
 use lib.ListN.{length, take}
 use native.Mathlib.Omega.{arith}
+use Rattle.protocol.specs.Figures.{symbolCount, mostRules}
+use Rattle.term.specs.Tags.{tagCount}
+use Rattle.octets.specs.Limits.{longest}
 use Rattle.protocol.specs.Index.{Entries}
 use Rattle.rules.specs.Fit.Laws.{Indexes}
 use Rattle.rules.specs.declared.fit.Judged.{Judged}
@@ -15,10 +18,10 @@ module _ (s arities ars flags places : List ℕ) (r : Judged) (ns nr : ℕ) (is 
   entries : Entries s ns nr arities ars flags places
   entries = subst (λ (q : Judged). Indexes s q arities ars flags places) is index
 
-  pub sound-few : ns ≤ 36
+  pub sound-few : ns ≤ symbolCount
   sound-few = entries .few-symbols
 
-  pub sound-given : length s ≤ 2 ^ 32 → length arities ≡ 29 → 64 ≤ length places → Given s arities places nr
+  pub sound-given : length s ≤ longest → length arities ≡ tagCount → mostRules ≤ length places → Given s arities places nr
   sound-given short slots many =
       let few = entries .few-rules in
       record {

@@ -7,6 +7,7 @@ use mathlib.Core.Path.{_≡_, refl, ap, ap₂, sym, _∙_, subst}
 use native.Mathlib.Omega.{arith}
 use lib.ListN.{length, getD, take, set}
 use borrow.Author.Tests.{eq-eqb, ne-eqb}
+use Rattle.protocol.specs.Figures.{mostVariables}
 use Rattle.lists.specs.Choice.{pick, clash}
 use Rattle.octets.specs.Head.{Bytes}
 use Rattle.number.specs.Reading.{Read, got, fault, andThen, readNumber, below, many}
@@ -141,10 +142,10 @@ module _ {s arities places : List ℕ} {nr : ℕ} {p : Protocol} (i : IndexOf s 
   placed-variables n place w = ap vars.Count (rule-variables s _ _ place (w .its) (w .here)) ∙ sym (ap variablesOf (w .is))
 
   -- a rule has few variables
-  pub few-variables : (n k : ℕ) → vars.Count k ≡ variablesOf (ruleOf p n) → k ≤ 16
+  pub few-variables : (n k : ℕ) → vars.Count k ≡ variablesOf (ruleOf p n) → k ≤ mostVariables
   few-variables n k h = go (ruleOf p n) refl h
     where
-      go : (o : Option Rule) → ruleOf p n ≡ o → vars.Count k ≡ variablesOf o → k ≤ 16
+      go : (o : Option Rule) → ruleOf p n ≡ o → vars.Count k ≡ variablesOf o → k ≤ mostVariables
       go none e h = clash (cc)
       go (some u) e h = let l : k ≡ length (u .sorts) = cc in omega (arith, rule-within p index-within n u e .laid .few)
 

@@ -88,8 +88,8 @@ module _ (p : Protocol) (s : List ℕ) where
   pub nodes-counted : (at e : ℕ) (xs : List Node) → (nodes p s at ≡ read xs e) ↔ (counted s mostNodes (node p s) at ≡ got xs e)
   unfolding nodes counted
   nodes-counted at e xs = (
-    (λ h. cut-plain (below s 513 at) _ h (λ n d hn h. then-got (below s 513 at) _ hn ∙ from-many 1 n d e xs h)),
-    (λ h. cut-got (below s 513 at) _ h (λ n d hn h.
+    (λ h. cut-plain (below s (suc mostNodes) at) _ h (λ n d hn h. then-got (below s (suc mostNodes) at) _ hn ∙ from-many 1 n d e xs h)),
+    (λ h. cut-got (below s (suc mostNodes) at) _ h (λ n d hn h.
         ap (λ (o : Read ℕ). plainly o (λ n e. nodesFrom p s 1 n e)) hn ∙ many-from 1 n d e xs h)),
   )
 

@@ -138,7 +138,7 @@ module _ (p : Protocol) (s : List ℕ) where
   pub no-rule-exactly : (at k : ℕ) → (nodes p s at ≡ no-rule k) ↔ NoRule at k
   unfolding nodes
   no-rule-exactly at k = (
-    (λ h. cut-plain-rule (below s 513 at) _ h (λ n d hn h. record { count = n; start = d; counts = hn; there = from-norule 1 n d k h })),
+    (λ h. cut-plain-rule (below s (suc mostNodes) at) _ h (λ n d hn h. record { count = n; start = d; counts = hn; there = from-norule 1 n d k h })),
     (λ h.
         let f = h .there in
         ap (λ (o : Read ℕ). plainly o (λ n e. nodesFrom p s 1 n e)) (h .counts)

@@ -1,5 +1,5 @@
 -- What code answers of a value.
-use Prim.Native.Nat.{ℕ, zero, suc, _^_, _≤_, _<_}
+use Prim.Native.Nat.{ℕ, zero, suc, _≤_, _<_}
 use mathlib.Core.List.{List}
 use mathlib.Core.Bool.{Bool, true, false, not, _&&_, and-false}
 use mathlib.Core.Option.{none}
@@ -9,6 +9,8 @@ use lib.ListN.{length}
 use lib.Dec.{ltb, eqb}
 use borrow.Author.Tests.{lt-ltb, le-ltb, eq-eqb, ne-eqb}
 use mathlib.Core.Logic.{_↔_}
+use Rattle.steps.specs.Values.{mostInValue}
+use Rattle.octets.specs.Limits.{longest}
 use Rattle.message.specs.Canon.{canon}
 use Rattle.lists.specs.Asks.{Promises}
 use Rattle.lists.specs.Choice.{pick, clash}
@@ -53,7 +55,7 @@ ofName sort nm.Other = eqb sort 0
 pub record ValueThere (slots s : List ℕ) (at : ℕ) (t : Term) (e : ℕ) : Type 0 where
   pub table : Builtins slots
   pub there : term s slots at ≡ got t e
-  pub short : length s ≤ 2 ^ 32
+  pub short : length s ≤ longest
 
 pub record SomeValue (slots s : List ℕ) (at : ℕ) : Type 0 where
   pub value : Term
@@ -168,44 +170,43 @@ module _ (s slots : List ℕ) (at : ℕ) (bytes : Bytes s) (t : Term) (e : ℕ) 
   name-sort sort nm.Other h = let (a, b) = no-name h in sorts-other sort a b
 
 -- ── the whole test ──
-pub limit-is : numberLimit ≡ 2097152
-unfolding numberLimit
-limit-is = refl
-
 module _ (s slots : List ℕ) (at : ℕ) (t : Term) (e : ℕ) (v : ValueThere slots s at t e) (sort : ℕ) where
   -- what the walk says of it
-  pub walk-is : {w : Walk} {d n : ℕ} {b : Bool} → w ≡ walked 0 0 2097152 (term s slots at) → w ≡ wk.End d n b → (symbols t ≡ n) × (holds t 0 0 numberLimit ≡ b)
+  pub walk-is : {w : Walk} {d n : ℕ} {b : Bool} → w ≡ walked 0 0 numberLimit (term s slots at) → w ≡ wk.End d n b → (symbols t ≡ n) ×
+      (holds t 0 0 numberLimit ≡ b)
   walk-is {w} {d} {n} {b} h k =
-      let g : wk.End e (symbols t) (holds t 0 0 2097152) ≡ wk.End d n b = sym (h ∙ ap (walked 0 0 2097152) (v .there)) ∙ k in
+      let g : wk.End e (symbols t) (holds t 0 0 numberLimit) ≡ wk.End d n b = sym (h ∙ ap (walked 0 0 numberLimit) (v .there)) ∙ k in
       let a : symbols t ≡ n = cc in
-      let c : holds t 0 0 2097152 ≡ b = cc in
-      (a, ap (holds t 0 0) limit-is ∙ c)
+      let c : holds t 0 0 numberLimit ≡ b = cc in
+      (a, c)
 
-  pub walk-none : {C : Type 0} {w : Walk} → w ≡ walked 0 0 2097152 (term s slots at) → w ≡ wk.Fault → C
+  pub walk-none : {C : Type 0} {w : Walk} → w ≡ walked 0 0 numberLimit (term s slots at) → w ≡ wk.Fault → C
   walk-none h k =
-      let g : wk.End e (symbols t) (holds t 0 0 2097152) ≡ wk.Fault = sym (h ∙ ap (walked 0 0 2097152) (v .there)) ∙ k in
+      let g : wk.End e (symbols t) (holds t 0 0 numberLimit) ≡ wk.Fault = sym (h ∙ ap (walked 0 0 numberLimit) (v .there)) ∙ k in
       clash (cc)
 
   pub not-held : holds t 0 0 numberLimit ≡ true → false ≡ valueOk sort t
-  not-held h = sym (ap (λ (b : Bool). not b && (ofSort sort t && (ltb (symbols t) 129 && isCanonical t))) h)
+  not-held h = sym (ap (λ (b : Bool). not b && (ofSort sort t && (ltb (symbols t) (suc mostInValue) && isCanonical t))) h)
 
-  pub not-long : 128 < symbols t → false ≡ valueOk sort t
+  pub not-long : mostInValue < symbols t → false ≡ valueOk sort t
   not-long h =
-      sym (ap (λ (b : Bool). not (holds t 0 0 numberLimit) && (ofSort sort t && (b && isCanonical t))) (le-ltb (symbols t) 129 (omega arith))
+      sym (ap (λ (b : Bool). not (holds t 0 0 numberLimit) && (ofSort sort t && (b && isCanonical t))) (le-ltb (symbols t) (suc mostInValue) (omega arith))
       ∙ ap (λ (b : Bool). not (holds t 0 0 numberLimit) && b) (and-false (ofSort sort t)) ∙ and-false (not (holds t 0 0 numberLimit)))
 
   pub not-sorted : ofSort sort t ≡ false → false ≡ valueOk sort t
   not-sorted h =
-      sym (ap (λ (b : Bool). not (holds t 0 0 numberLimit) && (b && (ltb (symbols t) 129 && isCanonical t))) h ∙ and-false (not (holds t 0 0 numberLimit)))
+      sym (ap (λ (b : Bool). not (holds t 0 0 numberLimit) && (b && (ltb (symbols t) (suc mostInValue) && isCanonical t))) h ∙ and-false
+      (not (holds t 0 0 numberLimit)))
 
-  pub by-canonical : (b : Bool) → holds t 0 0 numberLimit ≡ false → symbols t ≤ 128 → ofSort sort t ≡ true → b ≡ isCanonical t → b ≡ valueOk sort t
+  pub by-canonical : (b : Bool) → holds t 0 0 numberLimit ≡ false → symbols t ≤ mostInValue → ofSort sort t ≡ true → b ≡ isCanonical t → b ≡ valueOk sort t
   by-canonical b h l k e =
-      e ∙ sym (ap (λ (a : Bool). not a && (ofSort sort t && (ltb (symbols t) 129 && isCanonical t))) h
-      ∙ ap (λ (a : Bool). a && (ltb (symbols t) 129 && isCanonical t)) k ∙ ap (λ (a : Bool). a && isCanonical t) (lt-ltb (symbols t) 129 (omega arith)))
+      e ∙ sym (ap (λ (a : Bool). not a && (ofSort sort t && (ltb (symbols t) (suc mostInValue) && isCanonical t))) h
+      ∙ ap (λ (a : Bool). a && (ltb (symbols t) (suc mostInValue) && isCanonical t)) k ∙ ap (λ (a : Bool). a && isCanonical t)
+      (lt-ltb (symbols t) (suc mostInValue) (omega arith)))
 
   module _ (bytes : Bytes s) where
     -- it is a message
-    pub message : holds t 0 0 numberLimit ≡ false → symbols t ≤ 128 → MessageAt slots s at t
+    pub message : holds t 0 0 numberLimit ≡ false → symbols t ≤ mostInValue → MessageAt slots s at t
     message h l =
         let f = term-form s slots bytes t at e (v .there) in
         record {

@@ -1,6 +1,6 @@
 -- The terms of a node's rule with the node's values filled in: the sizes that code has of the values are theirs, and the rule's test is the
 -- node's.
-use Prim.Native.Nat.{ℕ, zero, suc, _^_, _≤_, _<_}
+use Prim.Native.Nat.{ℕ, zero, suc, _≤_, _<_}
 use mathlib.Core.List.{List, _∷_}
 use mathlib.Core.Bool.{Bool}
 use mathlib.Core.Option.{some}
@@ -8,6 +8,8 @@ use mathlib.Core.Path.{_≡_, ap, sym, _∙_, subst}
 use native.Mathlib.Omega.{arith}
 use lib.ListN.{length, getD, take, length-drop, List·getD-eq-default}
 use lib.Seq.{getD-take, length-take-le}
+use Rattle.protocol.specs.Figures.{mostVariables}
+use Rattle.octets.specs.Limits.{longest}
 use Rattle.lists.specs.Choice.{by-size}
 use Rattle.octets.specs.Head.{Bytes, stands-within}
 use Rattle.number.specs.Reading.{got, many}
@@ -21,7 +23,7 @@ use Rattle.protocol.specs.Protocol.{Rule, Protocol, factArities, rule}
 use Rattle.protocol.specs.Index.{Entries}
 use Rattle.protocol.specs.Places.{Here, valueOf}
 use Rattle.protocol.specs.Protocol.Walks.{sortsAt}
-use Rattle.rules.specs.Numbered.{ruleOf}
+use Rattle.rules.specs.Numbered.{ruleOf, ruleRoom}
 use Rattle.rules.specs.Numbered.Found.{Finds}
 use Rattle.rules.specs.Numbered.Part.{Fits, partOf}
 use Rattle.rules.specs.declared.numbered.Found.{Found}
@@ -74,7 +76,7 @@ module _ (s table : List ℕ) (k at : ℕ) (vs : List Term) (e : ℕ) (reads : m
       (λ l. getD-take k sizes n 1 l ∙ told n l ∙ ap symbols (same-inside vs n noTerm (leaf variable n) (omega (arith, many-values))))
       (λ l. outside n l ∙ sym (ap symbols (List·getD-eq-default vs (leaf variable n) (omega (arith, many-values)))))
 
-  pub sizes-small : Bytes s → length s ≤ 2 ^ 32 → (n : ℕ) → sizeIn (take k sizes) n ≤ 2 ^ 32
+  pub sizes-small : Bytes s → length s ≤ longest → (n : ℕ) → sizeIn (take k sizes) n ≤ longest
   sizes-small bytes short n =
       by-size n k
       (λ l. omega (arith, getD-take k sizes n 1 l, told n l, value-small s table bytes k at e vs reads n l))
@@ -106,7 +108,7 @@ pub record SomeFilling (table ars s src : List ℕ) (place at : ℕ) : Type 0 wh
 
 module _ {table ars s src : List ℕ} {place at : ℕ} {u : Rule} {vs : List Term} {e : ℕ} (h : FillsRule table ars s src place at u vs e) where
   module _ (k : ℕ) (counted : k ≡ valueOf (sortsAt src place)) where
-    pub filling-few : k ≤ 16
+    pub filling-few : k ≤ mostVariables
     filling-few = omega (arith, counted, count-here (h .is), h .is .few)
 
     reads : many (term s table) k at ≡ got vs e
@@ -115,7 +117,7 @@ module _ {table ars s src : List ℕ} {place at : ℕ} {u : Rule} {vs : List Ter
     -- the code has the sizes of its values
     module _ (sizes : List ℕ) (room : k ≤ length sizes)
         (told : (vs : List Term) (e : ℕ) → many (term s table) k at ≡ got vs e → (j : ℕ) → j < k → getD sizes j 1 ≡ symbols (getD vs j noTerm)) where
-      pub filling-small : Bytes s → (n : ℕ) → sizeIn (take k sizes) n ≤ 2 ^ 32
+      pub filling-small : Bytes s → (n : ℕ) → sizeIn (take k sizes) n ≤ longest
       filling-small bytes = sizes-small s table k at vs e reads sizes room (told vs e reads) bytes (h .is .short)
 
       pub filling-test : (b : Bool) → b ≡ ruleSmall (sizeIn (take k sizes)) u → b ≡ ruleOk vs u
@@ -123,8 +125,9 @@ module _ {table ars s src : List ℕ} {place at : ℕ} {u : Rule} {vs : List Ter
 
 -- ── as the code finds its rule: at the start of some bytes ──
 -- these are few
-pub part-short : (file out : List ℕ) (r : Found) → Fits file out r → length file ≤ 2 ^ 32 → length out ≡ 30 → (src : List ℕ) → src ≡ partOf file out r → length
-    src ≤ 2 ^ 32
+pub part-short : (file out : List ℕ) (r : Found) → Fits file out r → length file ≤ longest → length out ≡ ruleRoom → (src : List ℕ) → src ≡ partOf file out r →
+    length
+    src ≤ longest
 part-short file out (fd.Written len) f short h src e = omega (arith, ap length e, length-take-le len out f)
 part-short file out (fd.At place) f short h src e = omega (arith, ap length e, length-drop place file)
 part-short file out fd.Nothing f short h src e = omega (arith, ap length e)
@@ -140,7 +143,7 @@ module _ {file table rules : List ℕ} {nr : ℕ} {ars : List ℕ} (known : Arit
       (part-rule i number r out h src e bytes is-bytes u is)
 
   pub part-filling :
-      (s : List ℕ) → length s ≤ 2 ^ 32 → (at : ℕ) (x : Node) (d : ℕ) → NodeFrom p s number at x d → FillsRule table ars s src 0 at u (x .values) d
+      (s : List ℕ) → length s ≤ longest → (at : ℕ) (x : Node) (d : ℕ) → NodeFrom p s number at x d → FillsRule table ars s src 0 at u (x .values) d
   part-filling s short at x d from = record { is = rule-here i s short number at x d from u is src ars 0 part-known; here = part-known }
 
 -- the rule's test is the node's

@@ -24,7 +24,7 @@ use Rattle.message.specs.Canon.{canon}
 use Rattle.message.specs.Theorems.{canonical-canon, canonical-bytes}
 use Rattle.protocol.specs.Protocol.{Rule}
 use Rattle.steps.specs.Facts.Laws.{equal-bytes}
-use Rattle.steps.specs.Values.{OfSort, mostFilledIn, ValueFits, TermOf, filledSymbols}
+use Rattle.steps.specs.Values.{OfSort, mostFilledIn, ValueFits, TermOf, filledSymbols, mostInValue}
 use Rattle.steps.specs.Values.Tests.{isFresh, isPublic, ofSort, isCanonical, valueOk, valuesOk, termOk, factOk, ruleOk}
 
 -- ── sorts ──
@@ -70,19 +70,20 @@ module _ (slots : List ℕ) (fit : FitArities (arity slots)) where
   pub value-decides : (sort : ℕ) (v : Term) → Good slots v → (valueOk sort v ≡ true) ↔ ValueFits sort v
   value-decides sort v g = (
     (λ h.
-        let (a, b) = and-split (not (holds v 0 0 numberLimit)) (ofSort sort v && (ltb (symbols v) 129 && isCanonical v)) h in
-        let (c, d) = and-split (ofSort sort v) (ltb (symbols v) 129 && isCanonical v) b in
-        let (e, f) = and-split (ltb (symbols v) 129) (isCanonical v) d in
+        let (a, b) = and-split (not (holds v 0 0 numberLimit)) (ofSort sort v && (ltb (symbols v) (suc mostInValue) && isCanonical v)) h in
+        let (c, d) = and-split (ofSort sort v) (ltb (symbols v) (suc mostInValue) && isCanonical v) b in
+        let (e, f) = and-split (ltb (symbols v) (suc mostInValue)) (isCanonical v) d in
         record {
           ground = none-ground v (g .1) (not-split (holds v 0 0 numberLimit) a);
           sorted = sort-is sort v c;
           canonical = canonical-decides v (g .0) .0 f;
-          short = omega (arith, ltb-true (symbols v) 129 e);
+          short = omega (arith, ltb-true (symbols v) (suc mostInValue) e);
         }),
     (λ f.
-        and-both (not (holds v 0 0 numberLimit)) (ofSort sort v && (ltb (symbols v) 129 && isCanonical v)) (ap not (ground-none v (f .ground)))
-        (and-both (ofSort sort v) (ltb (symbols v) 129 && isCanonical v) (is-sort sort v (f .sorted))
-        (and-both (ltb (symbols v) 129) (isCanonical v) (lt-ltb (symbols v) 129 (omega (arith, f .short))) (canonical-decides v (g .0) .1 (f .canonical))))),
+        and-both (not (holds v 0 0 numberLimit)) (ofSort sort v && (ltb (symbols v) (suc mostInValue) && isCanonical v)) (ap not (ground-none v (f .ground)))
+        (and-both (ofSort sort v) (ltb (symbols v) (suc mostInValue) && isCanonical v) (is-sort sort v (f .sorted))
+        (and-both (ltb (symbols v) (suc mostInValue)) (isCanonical v) (lt-ltb (symbols v) (suc mostInValue) (omega (arith, f .short)))
+        (canonical-decides v (g .0) .1 (f .canonical))))),
   )
 
 -- ── one by one ──
@@ -130,11 +131,11 @@ terms-fail vs u h =
     record {
       term = t;
       there = record { facts = fs; fact = f; of-rule = a; of-facts = c; of-fact = e };
-      long = omega (arith, ltb-false (filledSymbols vs t) 257 g);
+      long = omega (arith, ltb-false (filledSymbols vs t) (suc mostFilledIn) g);
     }
 
 pub fail-terms : (vs : List Term) (u : Rule) (t : Term) → TermOf u t → mostFilledIn < filledSymbols vs t → ruleOk vs u ≡ false
 fail-terms vs u t h l =
     fails-all _ (u .parts) (h .facts) (h .of-rule)
     (fails-all (factOk vs) (h .facts) (h .fact) (h .of-facts)
-    (fails-all (termOk vs) (h .fact .terms) t (h .of-fact) (le-ltb (filledSymbols vs t) 257 (omega arith))))
+    (fails-all (termOk vs) (h .fact .terms) t (h .of-fact) (le-ltb (filledSymbols vs t) (suc mostFilledIn) (omega arith))))

@@ -1,5 +1,5 @@
 -- The loops over a node's values and over the nodes: what is asked, and what is left to do at each turn.
-use Prim.Native.Nat.{ℕ, zero, suc, _+_, _-_, _^_, _≤_, _<_}
+use Prim.Native.Nat.{ℕ, zero, suc, _+_, _-_, _≤_, _<_}
 use mathlib.Core.List.{List, _∷_}
 use mathlib.Core.Bool.{Bool, true, false, _&&_}
 use mathlib.Core.Option.{Option, none, some}
@@ -7,6 +7,8 @@ use mathlib.Core.Path.{_≡_, refl, ap, ap₂, sym, _∙_, subst}
 use native.Mathlib.Omega.{arith}
 use lib.ListN.{length, getD, drop, drop-of-length-le}
 use lib.Seq.{drop-cons}
+use Rattle.protocol.specs.Figures.{mostVariables}
+use Rattle.octets.specs.Limits.{longest}
 use Rattle.lists.specs.Choice.{clash}
 use Rattle.number.specs.Reading.{Read, got, fault, andThen, readNumber, many}
 use Rattle.number.specs.Reading.Laws.{cut-got}
@@ -48,9 +50,9 @@ pub record RuleHere (table s src : List ℕ) (place at : ℕ) (u : Rule) (vs : L
   pub builtins : Builtins table
   pub ars : List ℕ
   pub here : Here (rule src table ars) u place
-  pub few : length (u .sorts) ≤ 16
+  pub few : length (u .sorts) ≤ mostVariables
   pub reads : many (term s table) (length (u .sorts)) at ≡ got vs e
-  pub short : length s ≤ 2 ^ 32
+  pub short : length s ≤ longest
 
 pub record SomeRule (table s src : List ℕ) (place at : ℕ) : Type 0 where
   pub its : Rule
@@ -163,9 +165,9 @@ pub record SomeFrom (protocol table rules : List ℕ) (nr : ℕ) (s : List ℕ) 
   pub its : Node
   pub end : ℕ
   pub is : NodeFrom of s number at its end
-  pub short : length s ≤ 2 ^ 32
+  pub short : length s ≤ longest
 
-module _ {protocol table rules : List ℕ} {nr : ℕ} {p : Protocol} (i : IndexOf protocol table rules nr p) (s : List ℕ) (short : length s ≤ 2 ^ 32)
+module _ {protocol table rules : List ℕ} {nr : ℕ} {p : Protocol} (i : IndexOf protocol table rules nr p) (s : List ℕ) (short : length s ≤ longest)
     (number at : ℕ) (x : Node) (e : ℕ) (from : NodeFrom p s number at x e) (u : Rule) (is : ruleOf p number ≡ some u) where
   behind-values : many (term s (slots (p .functions))) (length (u .sorts)) at ≡ got (x .values) e
   behind-values =

@@ -7,6 +7,7 @@ use native.Mathlib.Omega.{arith}
 use lib.ListN.{length, getD, drop, drop-of-length-le}
 use lib.Seq.{drop-cons}
 use lib.Dec.{ltb}
+use Rattle.steps.specs.Values.{mostFilledIn}
 use Rattle.lists.specs.Choice.{cut, clash}
 use Rattle.octets.specs.Head.{Bytes}
 use Rattle.number.specs.Reading.{got, below}
@@ -47,7 +48,7 @@ module _ {A : Type 0} (ok : A → Bool) (d : A) (xs : List A) where
 
 -- ── the tests, with the weights of the variables ──
 abbrev pub termSmall : (ℕ → ℕ) → Term → Bool
-termSmall w t = ltb (weigh w t) 257
+termSmall w t = ltb (weigh w t) (suc mostFilledIn)
 
 abbrev pub factSmall : (ℕ → ℕ) → Fact → Bool
 factSmall w f = allBy (termSmall w) (f .terms)
@@ -142,4 +143,4 @@ rule-weighed w vs h u =
     all-same (listSmall w) (allBy (factOk vs)) (λ fs. all-same (factSmall w) (factOk vs) (λ f. all-same (termSmall w) (termOk vs) one (f .terms)) fs) (u .parts)
   where
     one : (t : Term) → termSmall w t ≡ termOk vs t
-    one t = ap (λ (n : ℕ). ltb n 257) (weigh-same w (λ n. symbols (valueAt vs n)) h t ∙ weigh-filled (valueAt vs) t)
+    one t = ap (λ (n : ℕ). ltb n (suc mostFilledIn)) (weigh-same w (λ n. symbols (valueAt vs n)) h t ∙ weigh-filled (valueAt vs) t)

@@ -7,6 +7,7 @@ use native.Mathlib.Omega.{arith}
 use lib.ListN.{length, getD, List·getD-eq-default}
 use lib.Dec.{ltb}
 use borrow.Author.Tests.{le-ltb}
+use Rattle.steps.specs.Values.{mostFilledIn}
 use Rattle.lists.specs.Choice.{clash}
 use Rattle.octets.specs.Head.{Bytes}
 use Rattle.number.specs.Reading.{got, fault, many}
@@ -98,8 +99,8 @@ module _ (s slots : List ℕ) (w : ℕ → ℕ) (t : Term) where
   going-ends sum i g = let r : [] ≡ g .rest = (let q = g .reads in cc) in omega (arith, g .adds, ap (total w) r)
 
   -- what was added up is no more than the whole
-  pub going-long : (sum pending i : ℕ) → Going sum pending i → 256 < sum → false ≡ ltb (weigh w t) 257
-  going-long sum pending i g l = sym (le-ltb (weigh w t) 257 (omega (arith, g .adds)))
+  pub going-long : (sum pending i : ℕ) → Going sum pending i → mostFilledIn < sum → false ≡ ltb (weigh w t) (suc mostFilledIn)
+  going-long sum pending i g l = sym (le-ltb (weigh w t) (suc mostFilledIn) (omega (arith, g .adds)))
 
   pub record Stepped (sum pending i a k e : ℕ) : Type 0 where
     pub ahead : i < e

@@ -1,3 +1,4 @@
+use Rattle.number.specs.Groups.{numberLimit}
 use Rattle.protocol.specs.Protocol.Walks.{closed, parts-closed, parts-by}
 use Rattle.protocol.specs.Protocol.{facts}
 use Rattle.number.specs.Reading.{many}
@@ -17,6 +18,7 @@ enum-known-e : tie.Need-enum-known-e
 enum-known-e c = search needs
 
 returns : tie.Need-returns
+unfolding numberLimit
 returns c =
     let c4 = c .before .before .before .before in
     let c8 = c4 .before .before .before .before in
@@ -28,6 +30,7 @@ enum-told : tie.Need-enum-told
 enum-told c = search needs
 
 returns-2 : tie.Need-returns-2
+unfolding numberLimit
 returns-2 c =
     let c4 = c .before .before .before .before in
     let c8 = c4 .before .before .before .before in
@@ -36,6 +39,7 @@ returns-2 c =
     (c .before .before .e .given .1)
 
 returns-3 : tie.Need-returns-3
+unfolding numberLimit
 returns-3 c =
     let c6 = c .before .before .before .before .before .before in
     ap closed (sym (c .enum-told .given .1)) ∙ parts-closed (c6 .args .n) (many (facts (now (c6 .args .s)) (now (c6 .args .arities)) (now (c6 .args .ars))) 3

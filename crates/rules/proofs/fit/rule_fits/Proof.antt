@@ -1,3 +1,4 @@
+use Rattle.number.specs.Groups.{numberLimit}
 use Rattle.rules.specs.Fit.Laws.{fresh-asked}
 use mathlib.Core.Path.{ap, ap₂}
 use mathlib.Core.Bool.{not, _&&_}
@@ -22,6 +23,7 @@ variables-bound-requires : tie.Need-variables-bound-requires
 variables-bound-requires c κs = search needs
 
 returns : tie.Need-returns
+unfolding numberLimit
 returns c =
     let c3 = c .before .before .before in
     let c4 = c3 .before in

@@ -1,3 +1,4 @@
+use Rattle.protocol.specs.Figures.{mostVariables}
 use Rattle.steps.specs.Values.Filled.{filling-few, filling-small, filling-test}
 use Prim.Native.Nat.{_≤_}
 use mathlib.Core.Path.{sym}
@@ -14,7 +15,7 @@ value-sizes-requires : tie.Need-value-sizes-requires
 value-sizes-requires c κs =
     let c5 = c .before .before .before .before .before in
     let f = c5 .pre .1 .fills in
-    let b : c5 .args .k ≤ 16 = filling-few f _ (c5 .pre .2) in
+    let b : c5 .args .k ≤ mostVariables = filling-few f _ (c5 .pre .2) in
     (f .is .short, search needs)
 
 array-share-prefix-sizes : tie.Need-array-share-prefix-sizes

@@ -4,7 +4,9 @@ use native.Mathlib.Omega.{arith}
 use lib.Dec.{ltb}
 use lib.ListN.{length}
 use mathlib.Core.Path.{_≡_, ap, sym, _∙_, subst}
-use Prim.Native.Nat.{ℕ, _+_, _-_, _*_, _^_, _≤_}
+use Prim.Native.Nat.{ℕ, _+_, _-_, _*_, _≤_, suc}
+use Rattle.steps.specs.Values.{mostFilledIn}
+use Rattle.octets.specs.Limits.{longest}
 use Rattle.number.specs.Reading.{got}
 use Rattle.term.specs.Reader.{term, symbolAt}
 use Rattle.term.specs.Term.{Term}
@@ -41,7 +43,7 @@ add-sum c =
     let c3 = c .before .before .before in
     let c6 = c3 .before .before .before in
     let c10 = c6 .before .before .before .before in
-    let b : _ ≤ 2 ^ 32 = weight-small (sizeIn (now (c10 .args .sizes))) (2 ^ 32) (omega arith) (c10 .pre .1)
+    let b : _ ≤ longest = weight-small (sizeIn (now (c10 .args .sizes))) (longest) (omega arith) (c10 .pre .1)
     (symbolAt (now (c10 .args .s)) (now (c10 .args .arities)) (c6 .loop .i)) (sym (c3 .one-weight .ensures) ∙ c .before .a .given .1) in
     omega (arith, b)
 
@@ -108,7 +110,7 @@ returns-3 c =
     let c5 = c .before .before .before .before .before in
     λ t e h.
     let z : c .before .loop .pending ≡ 0 = omega arith in
-    ap (λ (n : ℕ). ltb n 257) (going-ends _ _ (sizeIn (now (c5 .args .sizes))) t _ _
+    ap (λ (n : ℕ). ltb n (suc mostFilledIn)) (going-ends _ _ (sizeIn (now (c5 .args .sizes))) t _ _
     (subst (λ (k : ℕ). Going (now (c5 .args .s)) (now (c5 .args .arities)) (sizeIn (now (c5 .args .sizes))) t (c .before .loop .sum) k
     (c .before .loop .i)) z (c .before .loop .inv .1 t e h)))
 

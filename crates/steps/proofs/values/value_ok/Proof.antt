@@ -1,3 +1,4 @@
+use Rattle.number.specs.Groups.{numberLimit}
 use native.Mathlib.Omega.{arith}
 use mathlib.Core.Path.{sym, _∙_}
 use Rattle.steps.specs.Values.Code.{walk-is, walk-none, not-held, not-long, not-sorted, by-canonical, message, canonical-is, name-sort}
@@ -12,6 +13,7 @@ enum-known-n : tie.Need-enum-known-n
 enum-known-n c = search needs
 
 returns : tie.Need-returns
+unfolding numberLimit
 returns c =
     let c4 = c .before .before .before .before in
     let c7 = c4 .before .before .before in
@@ -19,6 +21,7 @@ returns c =
     .taken)
 
 returns-2 : tie.Need-returns-2
+unfolding numberLimit
 returns-2 c =
     let c3 = c .before .before .before in
     let c5 = c3 .before .before in
@@ -33,6 +36,7 @@ of-sort-requires : tie.Need-of-sort-requires
 of-sort-requires c κs = search needs
 
 is-canonical-requires : tie.Need-is-canonical-requires
+unfolding numberLimit
 is-canonical-requires c κs =
     let c3 = c .before .before .before in
     let c4 = c3 .before in
@@ -48,6 +52,7 @@ is-canonical-requires c κs =
     )
 
 returns-3 : tie.Need-returns-3
+unfolding numberLimit
 returns-3 c =
     let c3 = c .before .before .before in
     let c4 = c3 .before in
@@ -75,6 +80,7 @@ returns-4 c =
     (c .before .before .name-at .ensures)) ∙ sym (c .before .of-sort .ensures) ∙ c .if3 .left)
 
 returns-5 : tie.Need-returns-5
+unfolding numberLimit
 returns-5 c =
     λ t e v. walk-none _ _ _ t e v (c .before .before .before .before .before .args .sort) (c .before .before .walk-term .ensures) (c .enum-told .given .1)
 

@@ -4,6 +4,7 @@ use lib.ListN.{length}
 use mathlib.Core.Path.{ap, sym, _∙_, subst}
 use mathlib.Core.List.{List}
 use Prim.Native.Nat.{ℕ, _+_, _-_, _≤_, _<_}
+use Rattle.protocol.specs.Figures.{mostVariables}
 use Rattle.term.specs.Term.{Term}
 use Rattle.protocol.specs.Protocol.{Rule}
 use Rattle.steps.specs.Values.Tests.{valueOk}
@@ -26,7 +27,7 @@ loop-holds c =
 cast-sort-of : tie.Need-cast-sort-of Inv-loop μ-loop
 cast-sort-of c =
     let p = c .before .before .before .before .before .pre in
-    let b : c .before .loop .v < 16 = omega (arith, count-here (p .0 .is), p .0 .is .few, p .1) in
+    let b : c .before .loop .v < mostVariables = omega (arith, count-here (p .0 .is), p .0 .is .few, p .1) in
     search needs
 
 sort-of-requires : tie.Need-sort-of-requires Inv-loop μ-loop
