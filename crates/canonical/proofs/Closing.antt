@@ -6,8 +6,8 @@ use mathlib.Core.Logic.{_≢_}
 use mathlib.Core.Bool.{Bool, true, false}
 use mathlib.Core.Option.{some}
 use native.Mathlib.Omega.{arith}
-use Rattle.term.specs.Tags.{decTag, fstTag, sndTag, expTag}
-use Rattle.lists.specs.Asks.{Asks, Asks₂, Promises, Promises₂}
+use Rattle.term.specs.Tags.{decTag, fstTag, sndTag, expTag, oneTag, invTag, mulTag}
+use Rattle.lists.specs.Asks.{Promises₃, Asks, Asks₂, Promises, Promises₂, Asks₃}
 use Rattle.lists.specs.Choice.{clash}
 use Rattle.octets.specs.Splice.Prefix.{Wrote}
 use Rattle.term.specs.Term.{Term, app, Terms, nil, _&_, count, encode}
@@ -66,18 +66,18 @@ module _ (slots out : List ℕ) (o e : ℕ) where
       let w = two-args us (cc) in
       record { x = w .0; y = w .1; is = w .2; built = subst (Built slots out o e expTag) (w .2) b }
 
-  pub exp-asks : Asks (Built slots out o e expTag) → Asks₂ (product.WholePower slots out o e)
-  exp-asks (us, b) = let p = exp-of us b in (p .x, p .y, as-asked 10 (p .x & (p .y & nil)) (p .built))
+  pub exp-asks : Asks (Built slots out o e expTag) → Asks₃ (product.WholePower slots out o)
+  exp-asks (us, b) = let p = exp-of us b in (e, p .x, p .y, as-asked expTag (p .x & (p .y & nil)) (p .built))
 
-  pub exp-done : (out′ : List ℕ) (r : ℕ) → Promises₂ (product.WholePower slots out o e)
-      (λ (x y : Term). Wrote e out o out′ r (encode (raised (as2 expTag x) x y)))
+  pub exp-done : (out′ : List ℕ) (r : ℕ) → Promises₃ (product.WholePower slots out o)
+      (λ (e : ℕ) (x y : Term). Wrote e out o out′ r (encode (raised (as2 expTag x) x y)))
       → Promises (Built slots out o e expTag) (λ (us : Terms). Wrote e out o out′ r (encode (mk rules expTag us)))
   exp-done out′ r h us b =
       let p = exp-of us b in
       let w = p .built .here .formed .1 in
       let q : mk rules expTag us ≡ raised (as2 expTag (p .x)) (p .x) (p .y) =
       ap (mk rules expTag) (p .is) ∙ made-exp (arity slots) (group slots (b .table)) (p .x) (p .y) (w .0) (w .1 .0) in
-      subst (λ (t : Term). Wrote e out o out′ r (encode t)) (sym q) (h (p .x) (p .y) (as-asked 10 (p .x & (p .y & nil)) (p .built)))
+      subst (λ (t : Term). Wrote e out o out′ r (encode t)) (sym q) (h e (p .x) (p .y) (as-asked expTag (p .x & (p .y & nil)) (p .built)))
 
   -- ── a function without a rule ──
   pub free-done :
@@ -87,7 +87,13 @@ module _ (slots out : List ℕ) (o e : ℕ) where
       let other : (g : ℕ) → isProduct g ≡ true → tag ≢ g =
       λ g t q. let z : true ≡ false = sym t ∙ ap isProduct (sym q) ∙ p in clash (cc) in
       as-it-stands tag us (mk rules tag us)
-      (made-free (arity slots) (group slots (h .table)) tag us (record { no-one = other 3 refl; no-exp = d; no-inv = other 11 refl; no-mul = other 12 refl }) a
+      (made-free (arity slots) (group slots (h .table)) tag us (record {
+        no-one = other oneTag refl;
+        no-exp = d;
+        no-inv = other invTag refl;
+        no-mul = other
+            mulTag refl;
+      }) a
       b c) h
 
   -- ── inside a product and outside ──
@@ -97,17 +103,17 @@ module _ (slots out : List ℕ) (o e : ℕ) where
     inner-done p i us b =
         as-it-stands tag us (closed inside tag us) (ap (λ (z : Bool). closed z tag us) i ∙ closed-stays true tag us p) b
 
-    pub product-asks : Asks (Built slots out o e tag) → Asks (product.Whole slots out o e)
-    product-asks (us, b) = (app tag us, as-asked tag us b)
+    pub product-asks : Asks (Built slots out o e tag) → Asks₂ (product.Whole slots out o)
+    product-asks (us, b) = (e, app tag us, as-asked tag us b)
 
     pub product-done :
-        isProduct tag ≡ true → inside ≡ false → (out′ : List ℕ) (r : ℕ) → Promises (product.Whole slots out o e)
-        (λ (t : Term). Wrote e out o out′ r (encode (multiplied (t & nil))))
+        isProduct tag ≡ true → inside ≡ false → (out′ : List ℕ) (r : ℕ) → Promises₂ (product.Whole slots out o)
+        (λ (e : ℕ) (t : Term). Wrote e out o out′ r (encode (multiplied (t & nil))))
         → Promises (Built slots out o e tag) (λ (us : Terms). Wrote e out o out′ r (encode (closed inside tag us)))
     product-done p i out′ r h us b =
         let q : closed inside tag us ≡ multiplied (app tag us & nil) =
         ap (λ (z : Bool). closed z tag us) i ∙ closed-product false tag us p in
-        subst (λ (t : Term). Wrote e out o out′ r (encode t)) (sym q) (h (app tag us) (as-asked tag us b))
+        subst (λ (t : Term). Wrote e out o out′ r (encode t)) (sym q) (h e (app tag us) (as-asked tag us b))
 
     pub other-done :
         isProduct tag ≡ false → (out′ : List ℕ) (r : ℕ) → Promises (Built slots out o e tag) (λ (us : Terms). Wrote e out o out′ r (encode (mk rules tag us)))

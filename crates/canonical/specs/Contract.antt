@@ -12,7 +12,7 @@ use Rattle.message.specs.Substitution.{sub, subs, Ground}
 use Rattle.message.specs.Parts.Entries.{Each}
 use Rattle.message.specs.Canon.{canon}
 use Rattle.canonical.specs.Builtins.{Builtins}
--- what is written are the canonical forms, and each can be a value again
+-- what is written are the canonical forms
 pub mod Laws
 
 -- ── a run of terms ──

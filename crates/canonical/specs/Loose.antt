@@ -1,7 +1,7 @@
 -- The canonical form as the program makes it. Inside a product the functions one, inv and mul are not worked out: they stay as they stand,
 -- with their arguments made in the same way, and only the outermost product is multiplied out, once.
 use Prim.Native.Nat.{ℕ}
-use mathlib.Core.Bool.{Bool, true, cond, _||_}
+use mathlib.Core.Bool.{Bool, cond, _||_}
 use lib.Dec.{eqb}
 use Rattle.term.specs.Tags.{mulTag, oneTag, invTag}
 use Rattle.term.specs.Term.{variable, public, fresh, Term, leaf, app, Terms, nil, _&_}
@@ -30,10 +30,3 @@ abbrev mutual
   pub mades : Bool → (ℕ → Term) → Terms → Terms
   mades inside θ nil = nil
   mades inside θ (t & ts) = made inside θ t & mades inside θ ts
-
--- inside a product
-abbrev pub loosely : (ℕ → Term) → Term → Term
-loosely = made true
-
-abbrev pub looselys : (ℕ → Term) → Terms → Terms
-looselys = mades true

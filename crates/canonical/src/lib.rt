@@ -194,7 +194,7 @@ fn reduce(out: &mut [u8], o: usize, e: usize, tag: usize, arities: &[u8]) -> usi
         return right(out, o, e, arities);
     }
     if tag == term::EXP {
-        return product::exponent(out, o, e, arities);
+        return product::exponent(out, o, arities);
     }
     e
 }
@@ -208,7 +208,7 @@ fn close(out: &mut [u8], o: usize, e: usize, tag: usize, inside: bool, arities: 
         if inside {
             return e;
         }
-        return product::multiply(out, o, e, arities);
+        return product::multiply(out, o, arities);
     }
     reduce(out, o, e, tag, arities)
 }

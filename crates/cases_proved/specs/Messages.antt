@@ -34,14 +34,6 @@ pn n = leaf public n
 abbrev pub fn : ℕ → Term
 fn n = leaf fresh n
 
--- ── by computation ──
-pub computed :
-    (canon (exp (exp (exp (pn 0) (fn 0)) (fn 1)) (inv (fn 0))) ≡ exp (pn 0) (fn 1))
-    × (canon (inv (mul (fn 0) (inv (fn 1)))) ≡ mul (fn 1) (inv (fn 0)))
-    × (canon (dec (enc (fn 2) (mul (fn 0) (fn 1))) (mul (fn 1) (fn 0))) ≡ fn 2)
-unfolding mk groups groupsIn
-computed = (refl, refl, refl)
-
 -- ── small canonical terms ──
 leaf-canonical : (k : Kind) (n : ℕ) → Canonical (leaf k n)
 leaf-canonical k n = factor-canonical Settled name

@@ -7,6 +7,8 @@ use Rattle.message.specs.Functions.{one, enc, dec, pair, fst, snd, exp, 
 pub mod Laws
 -- it is the least
 pub mod Least
+-- and so it is on messages alone
+pub mod Messages
 
 -- figure 2, equations (1) to (10), each side as it stands there
 pub data Figure2 : Term → Term → Type 0 where

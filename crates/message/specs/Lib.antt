@@ -15,7 +15,7 @@ pub mod Substitution
 -- ── the device ──
 -- laws of whole numbers
 pub mod Whole
--- laws of the encoding: terms of the same bytes are one
+-- terms of the same bytes are one
 pub mod Encoding
 -- the equations as a table, and what is asked of its rows
 pub mod Rules

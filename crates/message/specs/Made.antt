@@ -5,7 +5,7 @@ use mathlib.Core.Logic.{_≢_}
 use mathlib.Core.Option.{Option, some}
 use lib.ListN.{length}
 use Rattle.term.specs.Tags.{oneTag, decTag, fstTag, sndTag, expTag, invTag, mulTag}
-use Rattle.term.specs.Term.{Term, app, Terms, nil, _&_, Formed, encode, symbols}
+use Rattle.term.specs.Term.{Term, app, Terms, nil, _&_, Formed, encode}
 use Rattle.message.specs.Functions.{enc, dec, pair, fst, snd}
 use Rattle.message.specs.Substitution.{sub, subs}
 use Rattle.message.specs.Rules.{Rule, Ordinary, FitArities}
@@ -14,7 +14,7 @@ use Rattle.message.specs.Table.Laws.{values, figure-fit, theory, no-rule
 use Rattle.message.specs.Parts.{Role}
 use Rattle.message.specs.Canon.{as2, reduceAt, mkAt, mk}
 use Rattle.message.specs.Canon.Views.{ordinary-role, reduce-hit, Plainly, stays, reduces, plainly}
-use Rattle.message.specs.Canon.Size.{mk-symbols, mk-bytes}
+use Rattle.message.specs.Canon.Size.{mk-bytes}
 use Rattle.message.specs.Gather.{multiplied, raised}
 use Rattle.message.specs.Gather.Same.{same-term, same-exp}
 
@@ -24,11 +24,11 @@ module _ (ar : ℕ → Option ℕ) (g : FitArities ar) where
     made-plain : (ts : Terms) → mk rules f ts ≡ reduceAt (some r) f ts
     unfolding mk
     made-plain ts =
-        ap (λ (k : Role). mkAt rules k f ts) (ordinary-role f (figure-fit ar g f r e .head))
+        ap (λ (k : Role). mkAt rules k f ts) (ordinary-role f (figure-fit ar f r e .head))
         ∙ ap (λ (z : Option Rule). reduceAt z f ts) e
 
     made-rule : (θ : ℕ → Term) → mk rules f (subs θ (r .args)) ≡ sub θ (r .result)
-    made-rule θ = made-plain (subs θ (r .args)) ∙ reduce-hit r f θ (figure-fit ar g f r e .bound)
+    made-rule θ = made-plain (subs θ (r .args)) ∙ reduce-hit r f θ (figure-fit ar f r e .bound)
 
     made-stays : (ts : Terms) → ((θ : ℕ → Term) → ts ≢ subs θ (r .args)) → mk rules f ts ≡ app f ts
     made-stays ts h = made-plain ts ∙ ap (λ (z : Option Rule). reduceAt z f ts) (sym e) ∙ go (reduceAt (rules f) f ts) (plainly rules f ts)
@@ -88,8 +88,5 @@ module _ (ar : ℕ → Option ℕ) (g : FitArities ar) where
   made-exp a b w v = sym (same-exp (theory ar g) a b w v)
 
   -- ── the size ──
-  pub made-symbols : (f : ℕ) (ts : Terms) → Formed ar (app f ts) → symbols (mk rules f ts) ≤ symbols (app f ts)
-  made-symbols f ts w = mk-symbols (theory ar g) f ts w
-
   pub made-bytes : (f : ℕ) (ts : Terms) → Formed ar (app f ts) → length (encode (mk rules f ts)) ≤ length (encode (app f ts))
   made-bytes f ts w = mk-bytes (theory ar g) f ts w

@@ -63,9 +63,6 @@ module _ (ar : ℕ → Option ℕ) (g : FitArities ar) where
   canonical-same t u w v c d e =
       canonical-unique σ t u w v (canonical-map settled-irreducible c) (canonical-map settled-irreducible d) (widen figure-tabled e)
 
-  pub canon-twice : (t : Term) → Formed ar t → canon (canon t) ≡ canon t
-  canon-twice t w = canonical-stays (canon t) (canon-formed σ t w) (canon-is-canonical t w)
-
   -- ── what it keeps, and its size ──
   pub canon-is-formed : (t : Term) → Formed ar t → Formed ar (canon t)
   canon-is-formed t w = canon-formed σ t w

@@ -74,8 +74,8 @@ module _ (slots s : List ℕ) (at k : ℕ) (out S E : List ℕ) (P : List ℤ) (
     table-wrote out′ i B ts X = wrote-same (both-sides ts) (B _ (held ts X))
 
 -- ── multiply ──
-module _ (slots out : List ℕ) (o e : ℕ) where
-  module _ (t : Term) (M : Whole slots out o e t) where
+module _ (slots out : List ℕ) (o : ℕ) where
+  module _ (e : ℕ) (t : Term) (M : Whole slots out o e t) where
     pub one : OneAt slots out o e t
     one = record { formed = M .formed; range = M .range; there = M .stands }
 
@@ -92,41 +92,41 @@ module _ (slots out : List ℕ) (o e : ℕ) where
       fits = omega (arith, written-short (t & nil), short, M .small);
     }
 
-  pub multiply-asks : Asks (Whole slots out o e) → Asks (Prod slots out o 1 termRoom)
-  multiply-asks J = (_, prod (J .0) (J .1))
+  pub multiply-asks : Asks₂ (Whole slots out o) → Asks (Prod slots out o 1 termRoom)
+  multiply-asks J = (_, prod (J .0) (J .1) (J .2))
 
-  pub multiply-inside : Asks (Whole slots out o e) → o < length out
-  multiply-inside J = let O = one (J .0) (J .1) in omega (arith, one-after O, one-within O)
+  pub multiply-inside : Asks₂ (Whole slots out o) → o < length out
+  multiply-inside J = let O = one (J .0) (J .1) (J .2) in omega (arith, one-after O, one-within O)
 
   module _ (tmp : List ℕ) (lt : length tmp ≡ termRoom) (tmp′ : List ℕ) (n : ℕ) (D : Promises (Prod slots out o 1 (length tmp))
       (λ (ts : Terms). Wrote (length tmp) tmp 0 tmp′ n (written ts))) where
-    wrote : (t : Term) (M : Whole slots out o e t) → Wrote (length tmp) tmp 0 tmp′ n (written (t & nil))
-    wrote t M = D (t & nil) (subst (λ (j : ℕ). Prod slots out o 1 j (t & nil)) (sym lt) (prod t M))
+    wrote : (e : ℕ) (t : Term) (M : Whole slots out o e t) → Wrote (length tmp) tmp 0 tmp′ n (written (t & nil))
+    wrote e t M = D (t & nil) (subst (λ (j : ℕ). Prod slots out o 1 j (t & nil)) (sym lt) (prod e t M))
 
-    pub multiplied-none : n ≡ 0 → Promises (Whole slots out o e) (λ (t : Term). Wrote e out o (set out o 3) (o + 1) (encode (multiplied (t & nil))))
-    multiplied-none h t M =
-        let N = written-none (t & nil) (omega (arith, wrote t M .ends)) in
+    pub multiplied-none : n ≡ 0 → Promises₂ (Whole slots out o) (λ (e : ℕ) (t : Term). Wrote e out o (set out o 3) (o + 1) (encode (multiplied (t & nil))))
+    multiplied-none h e t M =
+        let N = written-none (t & nil) (omega (arith, wrote e t M .ends)) in
         wrote-same (sym (N .bytes))
-        (wrote-one e o 3 out (one-after (one t M)) (multiply-inside (t, M)))
+        (wrote-one e o 3 out (one-after (one e t M)) (multiply-inside (e, t, M)))
 
     module _ (h : n ≡ 0 → ⊥) where
-      bytes : (t : Term) (M : Whole slots out o e t) → take n tmp′ ≡ encode (multiplied (t & nil))
-      bytes t M = front (wrote t M) ∙ sym (written-some (t & nil) (λ z. h (omega (arith, wrote t M .ends))) .bytes)
+      bytes : (e : ℕ) (t : Term) (M : Whole slots out o e t) → take n tmp′ ≡ encode (multiplied (t & nil))
+      bytes e t M = front (wrote e t M) ∙ sym (written-some (t & nil) (λ z. h (omega (arith, wrote e t M .ends))) .bytes)
 
-      ends : (t : Term) (M : Whole slots out o e t) → o + length (take n tmp′) ≤ e
-      ends t M = omega (arith, ap length (bytes t M), short t M, M .stands .ends)
+      ends : (e : ℕ) (t : Term) (M : Whole slots out o e t) → o + length (take n tmp′) ≤ e
+      ends e t M = omega (arith, ap length (bytes e t M), short e t M, M .stands .ends)
 
-      pub multiply-fits : Asks (Whole slots out o e) → n ≤ length tmp
-      multiply-fits J = omega (arith, wrote (J .0) (J .1) .ends, prod (J .0) (J .1) .fits)
+      pub multiply-fits : Asks₂ (Whole slots out o) → n ≤ length tmp
+      multiply-fits J = omega (arith, wrote (J .0) (J .1) (J .2) .ends, prod (J .0) (J .1) (J .2) .fits)
 
-      pub multiply-part : Asks (Whole slots out o e) → n ≡ length (take n tmp′)
-      multiply-part J = front-long (wrote (J .0) (J .1))
+      pub multiply-part : Asks₂ (Whole slots out o) → n ≡ length (take n tmp′)
+      multiply-part J = front-long (wrote (J .0) (J .1) (J .2))
 
-      pub multiply-copies : Asks (Whole slots out o e) → o + length (take n tmp′) ≤ length out
-      multiply-copies J = omega (arith, ends (J .0) (J .1), one-within (one (J .0) (J .1)))
+      pub multiply-copies : Asks₂ (Whole slots out o) → o + length (take n tmp′) ≤ length out
+      multiply-copies J = omega (arith, ends (J .0) (J .1) (J .2), one-within (one (J .0) (J .1) (J .2)))
 
       pub multiplied-some :
-          (out′ : List ℕ) (r : ℕ) → r ≡ o + length (take n tmp′) → out′ ≡ splice out o (take n tmp′) → Promises (Whole slots out o e)
-          (λ (t : Term). Wrote e out o out′ r (encode (multiplied (t & nil))))
-      multiplied-some out′ r a b t M =
-          wrote-same (bytes t M) (copied e out out′ (take n tmp′) o r (multiply-copies (t, M)) (ends t M) a b)
+          (out′ : List ℕ) (r : ℕ) → r ≡ o + length (take n tmp′) → out′ ≡ splice out o (take n tmp′) → Promises₂ (Whole slots out o)
+          (λ (e : ℕ) (t : Term). Wrote e out o out′ r (encode (multiplied (t & nil))))
+      multiplied-some out′ r a b e t M =
+          wrote-same (bytes e t M) (copied e out out′ (take n tmp′) o r (multiply-copies (e, t, M)) (ends e t M) a b)

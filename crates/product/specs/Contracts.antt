@@ -9,8 +9,6 @@ use Rattle.term.specs.Term.{Term, encode, symbols, Formed, InRange}
 use Rattle.term.specs.Arity.{arity}
 use Rattle.message.specs.Functions.{exp}
 use Rattle.message.specs.Rules.{FitArities}
--- a term that was written may be handed over, and what becomes of it is written in its place
-pub mod Laws
 
 -- the term t stands in out from o up to e; the built-in functions have their arities
 pub record Whole (slots out : List ℕ) (o e : ℕ) (t : Term) : Type 0 where

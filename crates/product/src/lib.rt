@@ -9,7 +9,7 @@ ghost use Rattle.message.specs.Canon.{as2};
 ghost use Rattle.message.specs.Gather.{multiplied, raised, powered};
 ghost use Rattle.term.specs.Term.{Term, Terms, encode, encodes, nil, _&_};
 ghost use Rattle.message.specs.Product.{Exps};
-ghost use Rattle.lists.specs.Asks.{Asks, Asks₂, Promises, Promises₂};
+ghost use Rattle.lists.specs.Asks.{Asks, Asks₂, Promises, Promises₂, Asks₃, Promises₃};
 ghost use Rattle.octets.specs.Splice.Prefix.{Wrote};
 ghost use Rattle.term.specs.Tags.{expTag};
 ghost use Rattle.term.specs.Reader.{symbolAt};
@@ -195,10 +195,10 @@ fn write_product(out: &mut [u8], s: &[u8], at: usize, k: usize, arities: &[u8]) 
     write_table(out, s, &starts, &ends, &powers, f.n)
 }
 
-// The term at o, up to e, becomes the product of its factors: returns where that ends.
-pub fn multiply(out: &mut [u8], o: usize, e: usize, arities: &[u8]) -> usize
-    requires { ⌜ Asks (Whole (now arities) (now out) o e) ⌝ }
-    ensures { λ r. ⌜ Promises (Whole (now (arities .entry)) (now (out .entry)) o e) (λ (t : Term). Wrote e (now (out .entry)) o (now (out .exit)) r (encode (multiplied (t & nil)))) ⌝ }
+// The term at o becomes the product of its factors: returns where that ends.
+pub fn multiply(out: &mut [u8], o: usize, arities: &[u8]) -> usize
+    requires { ⌜ Asks₂ (Whole (now arities) (now out) o) ⌝ }
+    ensures { λ r. ⌜ Promises₂ (Whole (now (arities .entry)) (now (out .entry)) o) (λ (e : ℕ) (t : Term). Wrote e (now (out .entry)) o (now (out .exit)) r (encode (multiplied (t & nil)))) ⌝ }
 {
     let mut tmp = [0u8; term::TERM_ROOM];
     let n = write_product(&mut tmp, out, o, 1, arities);
@@ -248,10 +248,10 @@ fn behind(s: &[u8], arities: &[u8], at: usize) -> usize
     at + term::term_part(s, arities, at).len()
 }
 
-// exp(x, y) at o, up to e, becomes the power: returns where that ends.
-pub fn exponent(out: &mut [u8], o: usize, e: usize, arities: &[u8]) -> usize
-    requires { ⌜ Asks₂ (WholePower (now arities) (now out) o e) ⌝ }
-    ensures { λ r. ⌜ Promises₂ (WholePower (now (arities .entry)) (now (out .entry)) o e) (λ (x y : Term). Wrote e (now (out .entry)) o (now (out .exit)) r (encode (raised (as2 expTag x) x y))) ⌝ }
+// exp(x, y) at o becomes the power: returns where that ends.
+pub fn exponent(out: &mut [u8], o: usize, arities: &[u8]) -> usize
+    requires { ⌜ Asks₃ (WholePower (now arities) (now out) o) ⌝ }
+    ensures { λ r. ⌜ Promises₃ (WholePower (now (arities .entry)) (now (out .entry)) o) (λ (e : ℕ) (x y : Term). Wrote e (now (out .entry)) o (now (out .exit)) r (encode (raised (as2 expTag x) x y))) ⌝ }
 {
     let a = o + 1;
     match base_at(out, arities, a) {

@@ -237,10 +237,3 @@ module _ (F : Facts) where
 
   pub refused-none : (nodes : List (Node Fact)) (n k : ℕ) → draw F nodes ≡ refused n k → (es : List Edge) → Accepted F nodes es → ⊥
   refused-none nodes n k h es acc = refused-no-run nodes n k h (accepted-runs F nodes es acc)
-
-  -- Refused with 14 at the node that fails.
-  pub refused-fails : (nodes : List (Node Fact)) (k : ℕ) → draw F nodes ≡ refused 14 k → run F nodes ≡ failed k
-  refused-fails nodes k h =
-      by-option (firstNameTwice nodes)
-      (λ n. let a = draw-agrees nodes n in rw h at a)
-      (λ j e. let c : Path (Ruling (List Edge)) (refused 9 j) (refused 14 k) = rw e at h in let z : _≡_ {A = ℕ} 9 14 = cc in absurd (omega arith))

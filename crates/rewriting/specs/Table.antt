@@ -10,10 +10,8 @@ use Rattle.lists.specs.Lists.{nth}
 pub mod Laws
 -- A pass with a state finds the smallest bad item.
 pub mod Scans
--- The passes: a Boolean test with a fixed item, a bound, the item that a reading tells, the least element that fails a test.
+-- The passes: a Boolean test with a fixed item, a bound, the least element that fails a test.
 pub mod Passes
--- Two tables in the style of document 01, with causes made up, and what they answer, computed.
-pub mod Samples
 
 -- What a call answers: it passes with a value of its own, or it is refused with the table's number and item.
 pub data Ruling (A : Type 0) : Type 0 where

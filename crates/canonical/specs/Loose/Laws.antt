@@ -30,7 +30,7 @@ use Rattle.message.specs.Gather.{multiplied}
 use Rattle.message.specs.Gather.Same.{same-term}
 use Rattle.message.specs.Filled.{filled, filleds}
 use Rattle.message.specs.Filled.Laws.{filled-canon, filleds-canon}
-use Rattle.canonical.specs.Loose.{isProduct, closed, made, mades, loosely, looselys}
+use Rattle.canonical.specs.Loose.{isProduct, closed, made, mades}
 
 -- ── the product functions ──
 pub ordinary-product : (f : ℕ) → Ordinary f → isProduct f ≡ false
@@ -78,9 +78,6 @@ pub record NoLargers (ar : ℕ → Option ℕ) (ts us : Terms) : Type 0 where
   pub bytess-less : length (encodes ts) ≤ length (encodes us)
 
 module _ (ar : ℕ → Option ℕ) where
-  same-size : (t : Term) → NoLarger ar t t
-  same-size t = record { formed = λ w. w; range = λ r. r; symbols-less = omega arith; bytes-less = omega arith }
-
   pub app-size : (f : ℕ) (ts us : Terms) → NoLargers ar ts us → NoLarger ar (app f ts) (app f us)
   app-size f ts us n = record {
     formed = λ w. (w .0 ∙ ap some (sym (n .as-many)), n .formeds (w .1));
@@ -196,20 +193,3 @@ module _ (ar : ℕ → Option ℕ) (g : FitArities ar) (θ : ℕ → Term) where
           sum = ap₂ add (a .factors) (b .sum);
           sizes = more-size ar (made inside θ t) (sub θ t) (mades inside θ ts) (subs θ ts) (a .size) (b .sizes);
         }
-
-  -- outside of products what is made is the canonical form
-  pub mades-filled : (ts : Terms) → Formeds ar (subs θ ts) → Owns ts → mades false θ ts ≡ filleds θ ts
-  mades-filled ts w h = sounds ts false w h .are refl
-
-  -- inside a product it is formed and in range if the filled-in term is, and no larger than that
-  pub loosely-size : (t : Term) → Formed ar (sub θ t) → Own t → NoLarger ar (loosely θ t) (sub θ t)
-  loosely-size t w h = sound t true w h .size
-
-  -- the canonical form of a product, from what is made inside it
-  pub product-filled :
-      (f : ℕ) (ts : Terms) → isProduct f ≡ true → Formed ar (sub θ (app f ts)) → Owns ts
-      → mk rules f (filleds θ ts) ≡ multiplied (app f (looselys θ ts) & nil)
-  product-filled f ts p w h =
-      sym (sound (app f ts) false w h .is refl)
-      ∙ closed-product false f (mades (isProduct f) θ ts) p
-      ∙ ap (λ (b : Bool). multiplied (app f (mades b θ ts) & nil)) p

@@ -4,9 +4,8 @@ use mathlib.Core.List.{List, [], _∷_}
 use mathlib.Core.Path.{_≡_, ap, ap₂, sym, _∙_}
 use lib.ListN.{length}
 use Rattle.octets.specs.Splice.{splice}
-use Rattle.term.specs.Term.{Term, encode}
+use Rattle.term.specs.Term.{Term}
 use Rattle.term.specs.Arity.{slots}
-use Rattle.message.specs.Canon.{canon}
 use Rattle.rewriting.specs.Table.{Ruling, passed, refused, Pass, andThen}
 use Rattle.rewriting.specs.Table.Passes.{lessPass}
 use Rattle.protocol.specs.Protocol.{Protocol}
@@ -69,9 +68,6 @@ module _ (protocol term : List ℕ) (output work : ℕ) where
 
         -- ── the canonical form ──
         module _ (x : Term) (is : termRuling (slots (q .functions)) term ≡ passed x) where
-          pub form-is : formOf (termOf protocol term) ≡ encode (canon x)
-          form-is = ap formOf (under ∙ is)
-
           pub no-room : output < need x → Outcome ≡ refused 15 (need x)
           no-room h =
               sized

@@ -8,8 +8,9 @@ use Rattle.octets.specs.declared.Order.{Order}
 use Rattle.octets.specs.declared.Order.the-variants.{Less, Equal, Greater}
 use Rattle.term.specs.Term.{Term, leaf, app, Terms, nil, _&_, symbols, symbolss}
 use Rattle.message.specs.Product.{Exps, empty, part, order}
-use Rattle.message.specs.Parts.{Role, plain, power, inverse, product, role}
-use Rattle.message.specs.Gather.{enterAt, enter, sign, pourAt, pour, pours, gather}
+use Rattle.message.specs.Parts.{role}
+use Rattle.message.specs.Gather.{enterAt, enter, sign, pour, pours}
+use Rattle.message.specs.Gather.Laws.{pourAt-ind}
 use Rattle.factors.specs.Whole.{add-abs}
 use Rattle.factors.specs.Mass.{size, mass}
 
@@ -35,19 +36,13 @@ mass-enter t m (part u j l) = go (order t u) (mass-enter t m l)
     go Greater h = omega arith
 
 -- ── gathering ──
-at-role : (R : Exps → Type 0) (k : Role) {s n i : Exps} → R s → R n → R i → R (pourAt k s n i)
-at-role R plain a b c = c
-at-role R power a b c = c
-at-role R inverse a b c = b
-at-role R product a b c = a
-
 mutual
   unfolding pour
 
   pub mass-pour : (m : Bool) (t : Term) (l : Exps) → mass (pour m t l) ≤ mass l + symbols t
   mass-pour m (leaf k n) l = mass-enter (leaf k n) m l
   mass-pour m (app f ts) l =
-      at-role (λ z. mass z ≤ mass l + suc (symbolss ts)) (role f)
+      pourAt-ind (λ z. mass z ≤ mass l + suc (symbolss ts)) (role f) _ _ _
       (omega (arith, mass-pours m ts l))
       (omega (arith, mass-pours (not m) ts l))
       (omega (arith, mass-enter (app f ts) m l))
@@ -55,8 +50,3 @@ mutual
   pub mass-pours : (m : Bool) (ts : Terms) (l : Exps) → mass (pours m ts l) ≤ mass l + symbolss ts
   mass-pours m nil l = omega arith
   mass-pours m (t & ts) l = omega (arith, mass-pour m t l, mass-pours m ts (pour m t l))
-
--- the table of some terms has no more entries than they have symbols
-pub few-entries : (ts : Terms) → size (gather ts) ≤ symbolss ts
-unfolding mass
-few-entries ts = omega (arith, size-mass (gather ts), mass-pours false ts empty)

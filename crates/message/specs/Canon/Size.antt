@@ -1,16 +1,14 @@
 -- The canonical form is no larger than the term, in symbols and in bytes.
-use Prim.Native.Nat.{ℕ, _+_, _≤_, max}
+use Prim.Native.Nat.{ℕ, _+_, _≤_}
 use mathlib.Core.Path.{_≡_, refl, ap}
 use native.Mathlib.Omega.{arith}
 use lib.ListN.{length, length-append}
 use Rattle.number.specs.Groups.{groups}
 use Rattle.number.specs.Groups.Laws.{groups-one, groups-some}
-use Rattle.term.specs.Term.{Kind, Term, leaf, app, Terms, nil, _&_, tagOf, count, encode, encodes, symbols, symbolss}
-use Rattle.message.specs.Product.{build}
-use Rattle.message.specs.Rules.{Theory, WF, WFs}
-use Rattle.message.specs.Parts.{sums}
+use Rattle.term.specs.Term.{Kind, Term, leaf, app, Terms, nil, _&_, tagOf, encode, encodes, symbols, symbolss}
+use Rattle.message.specs.Rules.{Theory, WF}
 use Rattle.message.specs.Canon.{mk, canonBy}
-use Rattle.message.specs.Canon.Weight.{weight, weights, sums-weight, mk-weight, canon-weight}
+use Rattle.message.specs.Canon.Weight.{weight, weights, mk-weight, canon-weight}
 
 -- ── symbols ──
 abbrev leafSymbols : Kind → ℕ → ℕ
@@ -29,11 +27,6 @@ mutual
   symbolss-weight (t & ts) = omega (arith, symbols-weight t, symbolss-weight ts)
 
 module _ (σ : Theory) where
-  pub mk-symbols : (f : ℕ) (ts : Terms) → WF σ (app f ts) → symbols (mk (σ .rule) f ts) ≤ symbols (app f ts)
-  mk-symbols f ts w =
-      let h = mk-weight σ leafSymbols tagSymbols (λ k n. omega arith) (λ g. omega arith) (λ g q. refl) f ts w in
-      omega (arith, h, symbols-weight (mk (σ .rule) f ts), symbols-weight (app f ts))
-
   pub canon-symbols : (t : Term) → WF σ t → symbols (canonBy (σ .rule) t) ≤ symbols t
   canon-symbols t w =
       let h = canon-weight σ leafSymbols tagSymbols (λ k n. omega arith) (λ f. omega arith) (λ f q. refl) t w in
@@ -62,11 +55,6 @@ mutual
   encodes-weight (t & ts) = omega (arith, length-append (encode t) (encodes ts), encode-weight t, encodes-weight ts)
 
 module _ (σ : Theory) where
-  pub sums-bytes : (ts : Terms) → WFs σ ts → length (encode (build (sums ts))) + 1 ≤ max 2 (length (encodes ts) + count ts)
-  sums-bytes ts w =
-      let h = sums-weight σ leafBytes tagBytes leaf-bytes groups-some byte-tag ts w in
-      omega (arith, h, encode-weight (build (sums ts)), encodes-weight ts)
-
   pub mk-bytes : (f : ℕ) (ts : Terms) → WF σ (app f ts) → length (encode (mk (σ .rule) f ts)) ≤ length (encode (app f ts))
   mk-bytes f ts w =
       let h = mk-weight σ leafBytes tagBytes leaf-bytes groups-some byte-tag f ts w in

@@ -159,10 +159,6 @@ module _ (σ : Theory) (wl : Kind → ℕ → ℕ) (wa : ℕ → ℕ) (lpos : (s
   build-S : (l : Exps) → S (build l) + 1 ≤ max 2 (μ l)
   build-S l = let h = build-M l in omega (arith, quotient-S (ups l) (downs l), h .0, h .1)
 
-  -- the product of k terms weighs less than k more than they do
-  pub sums-weight : (ts : Terms) → WFs σ ts → weight wl wa (build (sums ts)) + 1 ≤ max 2 (weights wl wa ts + count ts)
-  sums-weight ts w = omega (arith, build-S (sums ts), sums-μ ts w)
-
   parts-S : (t : Term) → WF σ t → S (build (parts t)) ≤ S t
   parts-S t w = omega (arith, build-S (parts t), parts-μ t w, S-pos t)
 

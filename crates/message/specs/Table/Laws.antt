@@ -79,12 +79,12 @@ module _ (ar : ℕ → Option ℕ) where
     bound = λ v o. inl (inr (inl o));
   }
 
-  pub figure-fit : FitArities ar → (f : ℕ) (r : Rule) → rules f ≡ some r → FitRule ar rules f r
-  figure-fit g f r e = of-row (FitRule ar rules) figure (fit-dec, (fit-fst, (fit-snd, tt))) f r e
+  pub figure-fit : (f : ℕ) (r : Rule) → rules f ≡ some r → FitRule ar rules f r
+  figure-fit f r e = of-row (FitRule ar rules) figure (fit-dec, (fit-fst, (fit-snd, tt))) f r e
 
   -- the theory of the figure, for an arity of each tag
   abbrev pub theory : FitArities ar → Theory
-  theory g = record { arity = ar; rule = rules; arities = g; fit = figure-fit g }
+  theory g = record { arity = ar; rule = rules; arities = g; fit = figure-fit }
 
 -- ── the table's equations are the figure's ──
 abbrev pub values : Term → Term → ℕ → Term

@@ -154,9 +154,6 @@ module _ {A : Type 0} (p : ℕ → Read A) where
     unfolding many
     walk-none at = refl
 
-    pub walk-came : (at j i : ℕ) (b : Bool) → seen (anyBy q) (many p j at) ≡ sn.End i b → Came at j i
-    walk-came at j i b h = cut-seen (anyBy q) (many p j at) h (λ xs g k. record { items = xs; there = g })
-
 module _ {A : Type 0} (s : List ℕ) (p : ℕ → Read A) (limit at : ℕ) where
   pub counted-got : (n e : ℕ) → below s (limit + 1) at ≡ got n e → counted s limit p at ≡ many p n e
   unfolding counted

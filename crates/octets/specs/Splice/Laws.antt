@@ -1,4 +1,4 @@
--- The laws of a splice: length, parts, nothing, adjacent splices, one element more, a lent part.
+-- The laws of a splice: length, parts, nothing, adjacent splices, one element more.
 use Prim.Native.Nat.{ℕ, suc, _+_, _-_, _≤_, _<_}
 use mathlib.Core.List.{List, [], _∷_, _++_, append-assoc, append-nil}
 use mathlib.Core.Path.{_≡_, refl, ap, ap₂, sym, _∙_}
@@ -6,9 +6,8 @@ use native.Mathlib.Omega.{arith}
 use native.Mathlib.Numerals.{add-one}
 use native.Mathlib.Nat.{add-zero, add-assoc}
 use lib.ListN.{length, take, drop, set, getD, length-append, length-drop, take-append-drop}
-use borrow.Rule.Slice.PartMut.{putMid, midOf}
-use lib.Seq.{length-take-le, take-at, drop-at, take-append-le, drop-append-le, take-take, drop-drop}
-use lib.Seq.{sets, sets-eq, take-suc, drop-cons, getD-drop, getD-take, take-add}
+use lib.Seq.{length-take-le, take-at, drop-at, take-append-le, take-take, drop-drop}
+use lib.Seq.{sets, sets-eq, take-suc, drop-cons, getD-drop, getD-take}
 use Rattle.octets.specs.Splice.{splice}
 
 module _ {A : Type 0} where
@@ -134,35 +133,3 @@ module _ {A : Type 0} where
       ap₂ (λ (a b : ℕ). set (splice l a (drop b src)) (at + j) (getD src j d)) p e
       ∙ splice-front l (at + j) (getD src j d) (drop (j + 1) src) (omega arith)
       ∙ ap (splice l (at + j)) (sym (rw (add-one, drop-cons src j d k)))
-
-  -- ── a part of the whole ──
-  -- what is put into the part from `at` on is put into the whole
-  pub splice-part :
-      (l : List A) (at k : ℕ) (vs : List A) → at + k ≤ length l → take at l ++ splice (drop at l) k vs ≡ splice l (at + k) vs
-  unfolding splice
-  splice-part l at k vs h =
-      sym (append-assoc (take at l) (take k (drop at l) ++ vs) (drop (k + length vs) (drop at l)))
-      ∙ ap₂ _++_
-      (sym (append-assoc (take at l) (take k (drop at l)) vs) ∙ ap (λ (m : List A). m ++ vs) (sym (take-add at k l)))
-      (drop-drop (k + length vs) at l ∙ ap (λ (j : ℕ). drop j l) (sym (add-assoc at k (length vs))))
-
-  -- what follows stays
-  pub splice-append :
-      (xs ys : List A) (at : ℕ) (vs : List A) → at + length vs ≤ length xs → splice xs at vs ++ ys ≡ splice (xs ++ ys) at vs
-  unfolding splice
-  splice-append xs ys at vs h =
-      append-assoc (take at xs ++ vs) (drop (at + length vs) xs) ys
-      ∙ ap₂ _++_
-      (ap (λ (m : List A). m ++ vs) (sym (take-append-le at xs ys (omega arith))))
-      (sym (drop-append-le (at + length vs) xs ys h))
-
-  -- what a lent `&mut out[at..at + k]` leaves in the whole
-  pub splice-lent :
-      (l : List A) (at k j : ℕ) (vs : List A) → at + k ≤ length l → j + length vs ≤ k
-      → putMid at k l (splice (midOf at k l) j vs) ≡ splice l (at + j) vs
-  splice-lent l at k j vs h room =
-      let n : length (midOf at k l) ≡ k = length-take-le k (drop at l) (rw length-drop (omega arith)) in
-      ap (λ (m : List A). take at l ++ m)
-      (splice-append (midOf at k l) (drop k (drop at l)) j vs (omega arith)
-      ∙ ap (λ (m : List A). splice m j vs) (take-append-drop k (drop at l)))
-      ∙ splice-part l at j vs (omega arith)

@@ -87,30 +87,15 @@ module _ {A : Type 0} (Good : A → Type 0) where
       let (b, g, e) = absent-passed cs (passed a) h (passed-absent cs (passed a) a h refl) in
       subst (λ c. Good c) (sym (passed-inj a b e)) g
 
--- An answer, then one that uses its value: the rows of the first come before those of the second.
 -- What is good may be said in other words.
 pub ruled-good : {A : Type 0} (Good Fine : A → Type 0) → ((a : A) → Good a → Fine a) → (cs : List Row) (r : Ruling A) → Ruled cs Good r → Ruled cs Fine r
 ruled-good Good Fine h [] r (a, g, e) = (a, h a g, e)
 ruled-good Good Fine h (c ∷ cs) r (inl (n, g)) = inl (n, ruled-good Good Fine h cs r g)
 ruled-good Good Fine h (c ∷ cs) r (inr s) = inr s
 
+-- An answer, then one that uses its value: the rows of the first come before those of the second.
 pub ruled-and-then : {A B : Type 0} (Good : A → Type 0) (Fine : B → Type 0) (cs : List Row) (r : Ruling A) (ds : A → List Row) (f : A → Ruling B) →
     Ruled cs Good r → ((a : A) → Good a → r ≡ passed a → Ruled (ds a) Fine (f a)) → Ruled (cs ++ rowsAfter r ds) Fine (andThen r f)
 ruled-and-then Good Fine [] r ds f (a, g, e) h = rw e (h a g e)
 ruled-and-then Good Fine (c ∷ cs) r ds f (inl (n, g)) h = inl (n, ruled-and-then Good Fine cs r ds f g h)
 ruled-and-then Good Fine (c ∷ cs) r ds f (inr (k, l, e)) h = inr (k, l, ap (λ q. andThen q f) e)
-
--- Whatever the values are, two answers of one table are refused alike.
-abbrev pub forget : {A : Type 0} → Ruling A → Ruling (Unit {0})
-forget (passed a) = passed tt
-forget (refused n k) = refused n k
-
-forget-ruled : {A : Type 0} (Good : A → Type 0) (cs : List Row) (r : Ruling A) → Ruled cs Good r → Ruled cs (λ (u : Unit {0}). Unit {0}) (forget r)
-forget-ruled Good [] r (a, g, e) = (tt, tt, ap forget e)
-forget-ruled Good (c ∷ cs) r (inl (n, h)) = inl (n, forget-ruled Good cs r h)
-forget-ruled Good (c ∷ cs) r (inr (k, l, e)) = inr (k, l, ap forget e)
-
-pub refused-alike : {A B : Type 0} (Good : A → Type 0) (Fine : B → Type 0) (cs : List Row) (r : Ruling A) (q : Ruling B) →
-    Ruled cs Good r → Ruled cs Fine q → forget r ≡ forget q
-refused-alike Good Fine cs r q g h =
-    ruled-unique (λ (u : Unit {0}). Unit {0}) (λ a b x y. refl) cs (forget r) (forget q) (forget-ruled Good cs r g) (forget-ruled Fine cs q h)

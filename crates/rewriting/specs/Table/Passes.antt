@@ -1,8 +1,8 @@
--- The passes: a Boolean test with a fixed item, a bound, the item that a reading tells, the least element that fails a test.
+-- The passes: a Boolean test with a fixed item, a bound, the least element that fails a test.
 use mathlib.Core.Path.{_≡_, refl, ap}
 use mathlib.Core.Bool.{Bool, true, false, cond, not}
 use mathlib.Core.List.{List}
-use mathlib.Core.Option.{Option, none, some, Option·none-ne-some, Option·some-injective}
+use mathlib.Core.Option.{none, some}
 use Prim.Native.Nat.{ℕ, suc, _<_}
 use native.Mathlib.Omega.{arith}
 use lib.Dec.{ltb}
@@ -16,14 +16,6 @@ use Rattle.rewriting.specs.Table.{row, fixedRow, Fails, Finds, Pass}
 abbrev pub restated : (p : Pass) (Q : ℕ → Type 0) → ((k : ℕ) → p .cause .has k → Q k) → ((k : ℕ) → Q k → p .cause .has k) → Pass
 restated p Q f g = record { cause = row (p .cause .number) Q; found = p .found; finds = finds-iff (p .cause .has) Q f g (p .found) (p .finds) }
 
--- The item that a reading tells, if it tells one.
-pub told : (o : Option ℕ) → Finds (λ k. o ≡ some k) o
-told none = λ k e. Option·none-ne-some k e
-told (some k) = record { here = refl; below = λ j l e. let n = Option·some-injective k j e in omega arith }
-
-abbrev pub toldPass : ℕ → Option ℕ → Pass
-toldPass n o = record { cause = row n (λ k. o ≡ some k); found = o; finds = told o }
-
 -- A cause with one item, found by a Boolean test.
 pub tested : (i : ℕ) (P : Type 0) (b : Bool) → (b ≡ true → P) → (P → b ≡ true) → Finds (λ k. (k ≡ i) × P) (cond b (some i) none)
 tested i P true to fro = record { here = (refl, to refl); below = λ j l h. omega (arith, h .0) }
@@ -31,9 +23,6 @@ tested i P false to fro = λ k h. true-false false (fro (h .1)) refl
 
 abbrev pub testPass : (n i : ℕ) (P : Type 0) (b : Bool) → (b ≡ true → P) → (P → b ≡ true) → Pass
 testPass n i P b to fro = record { cause = fixedRow n i P; found = cond b (some i) none; finds = tested i P b to fro }
-
-abbrev pub boolPass : ℕ → ℕ → Bool → Pass
-boolPass n i b = testPass n i (b ≡ true) b (λ e. e) (λ e. e)
 
 -- A size and a bound: `m` is less than `l`. The item is 0 or a file (a limit below a length), or the bytes needed themselves.
 abbrev pub lessPass : (n i m l : ℕ) → Pass

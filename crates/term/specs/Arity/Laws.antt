@@ -2,12 +2,12 @@
 use Prim.Native.Nat.{ℕ, zero, suc, _+_, _-_, _≤_, _<_}
 use mathlib.Core.List.{List, [], _∷_}
 use mathlib.Core.Option.{some, none}
-use mathlib.Core.Path.{_≡_, refl, ap, sym, _∙_}
+use mathlib.Core.Path.{_≡_, refl, sym, _∙_}
 use native.Mathlib.Omega.{arith}
-use lib.ListN.{length, getD, List·getD-append, length-append, List·getD-eq-default}
+use lib.ListN.{length, getD, List·getD-append, List·getD-eq-default}
 use lib.Seq.{getD-append-add}
 use lib.Dec.{ltb}
-use borrow.Author.Tests.{lt-ltb, le-ltb, eq-eqb, ne-eqb}
+use borrow.Author.Tests.{le-ltb, eq-eqb, ne-eqb}
 use Rattle.lists.specs.Choice.{cut-lt, pick-same, clash}
 use Rattle.term.specs.Arity.{undeclared, arity, builtin, padded, slots}
 
@@ -21,10 +21,6 @@ pub slot-outside : (l : List ℕ) (f : ℕ) → length l ≤ f → undeclared �
 slot-outside l f h = sym (List·getD-eq-default l undeclared h)
 
 module _ (l : List ℕ) (f : ℕ) where
-  pub arity-leaf : f < 3 → arity l f ≡ none
-  unfolding arity
-  arity-leaf h = simp (lt-ltb f 3 h)
-
   pub arity-none : getD l f undeclared ≡ undeclared → arity l f ≡ none
   unfolding arity
   arity-none h = simp (eq-eqb (getD l f undeclared) undeclared h) (pick-same (ltb f 3) none)
@@ -39,14 +35,6 @@ module _ (l : List ℕ) (f : ℕ) where
   no-leaf n e = cut-lt _ _ _ f 3 e (λ h e. clash (cc)) (λ h e. h)
 
 -- ── document 01's table ──
-length-padded : (n : ℕ) (l : List ℕ) → length (padded n l) ≡ n
-length-padded zero l = refl
-length-padded (suc n) [] = ap suc (length-padded n [])
-length-padded (suc n) (a ∷ l) = ap suc (length-padded n l)
-
-pub length-slots : (free : List ℕ) → length (slots free) ≡ 29
-unfolding slots
-length-slots free = length-append builtin (padded 16 free) ∙ omega (arith, length-padded 16 free)
 
 padded-at : (n : ℕ) (l : List ℕ) (j : ℕ) → j < n → getD (padded n l) j undeclared ≡ getD l j undeclared
 padded-at zero l j h = absurd (omega arith)
