@@ -26,7 +26,7 @@ pub mod Argument
 -- the places of a node's values
 pub mod Places
 -- what the writing asks, by the values and the fact; of a node that is right
-pub mod Ready
+pub mod Asked
 pub mod Nodes
 
 -- ── the arguments that are wanted ──
@@ -72,23 +72,7 @@ pub record Put (out : List ℕ) (o : ℕ) (out′ : List ℕ) (o′ : ℕ) (q : 
   pub wrote : Wrote (o + factRoom) out o out′ o′ q
   pub few : length q ≤ factRoom
 
-module _ (slots ars vals starts src : List ℕ) (place : ℕ) where
-  abbrev pub WantedReady : ℕ → ℕ → Wanted → Type 0
-  WantedReady n o q = (vs : List Term) × (f : Fact) × FactJob slots ars vals starts src place n o vs f × Has q f
-
-  abbrev pub WantedDone : List ℕ → ℕ → Wanted → List ℕ → ℕ → Type 0
-  WantedDone out o q out′ o′ =
-      (vs : List Term) (f : Fact) → FactJob slots ars vals starts src place (length out) o vs f → Has q f
-      → Put out o out′ o′ (wantedBytes q (filledFact vs f))
-
-  abbrev pub FactReady : ℕ → ℕ → Type 0
-  FactReady n o = WantedReady n o want.All
-
-  abbrev pub FactDone : List ℕ → ℕ → List ℕ → ℕ → Type 0
-  FactDone out o out′ o′ = WantedDone out o want.All out′ o′
-
-  abbrev pub ArgumentReady : ℕ → ℕ → ℕ → Type 0
-  ArgumentReady n o x = WantedReady n o (want.One x)
-
-  abbrev pub ArgumentDone : List ℕ → ℕ → ℕ → List ℕ → ℕ → Type 0
-  ArgumentDone out o x out′ o′ = WantedDone out o (want.One x) out′ o′
+-- and the fact has the arguments that are wanted
+pub record WantedJob (slots ars vals starts src : List ℕ) (place n o : ℕ) (q : Wanted) (vs : List Term) (f : Fact) : Type 0 where
+  pub job : FactJob slots ars vals starts src place n o vs f
+  pub has : Has q f

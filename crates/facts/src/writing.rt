@@ -3,13 +3,16 @@ ghost use mathlib.Core.Path.{_≡_};
 ghost use mathlib.Core.List.{List};
 ghost use Prim.Native.Nat.{ℕ, _≤_};
 ghost use lib.ListN.{length};
+ghost use Rattle.steps.specs.Facts.{filledFact};
+ghost use Rattle.protocol.specs.Protocol.{Fact};
+ghost use Rattle.lists.specs.Asks.{Asks₂, Promises₂};
 ghost use Rattle.octets.specs.Limits.{longest};
 ghost use Rattle.number.specs.Reading.{got, many};
 ghost use Rattle.term.specs.Term.{Term};
 ghost use Rattle.term.specs.Reader.{term};
 ghost use Rattle.protocol.specs.Index.{Placed};
 ghost use Rattle.steps.specs.Values.Parts.{noTerm};
-ghost use Rattle.facts.specs.Writing.{FactReady, FactDone, ArgumentReady, ArgumentDone, WantedReady, WantedDone};
+ghost use Rattle.facts.specs.Writing.{Put, WantedJob, wantedBytes};
 use term::Part;
 
 // The arguments of a fact that are written: all of them, or the one of a number, from 0.
@@ -52,8 +55,8 @@ pub fn fact_into(
     vals: &[u8],
     starts: &[usize],
 ) -> usize
-    requires { ⌜ FactReady (now arities) (now ars) (now vals) (now starts) (now src) place (length (now out)) o ⌝ }
-    ensures { λ r. ⌜ FactDone (now (arities .entry)) (now (ars .entry)) (now (vals .entry)) (now (starts .entry)) (now (src .entry)) place (now (out .entry)) o (now (out .exit)) r ⌝ }
+    requires { ⌜ Asks₂ (WantedJob (now arities) (now ars) (now vals) (now starts) (now src) place (length (now out)) o Wanted.All) ⌝ }
+    ensures { λ r. ⌜ Promises₂ (WantedJob (now (arities .entry)) (now (ars .entry)) (now (vals .entry)) (now (starts .entry)) (now (src .entry)) place (length (now (out .entry))) o Wanted.All) (λ (vs : List Term) (f : Fact). Put (now (out .entry)) o (now (out .exit)) r (wantedBytes Wanted.All (filledFact vs f))) ⌝ }
 {
     let y = protocol::places::symbol_of(src, ars, place);
     let k = ars[y] as usize;
@@ -74,8 +77,8 @@ pub fn argument_into(
     vals: &[u8],
     starts: &[usize],
 ) -> usize
-    requires { ⌜ ArgumentReady (now arities) (now ars) (now vals) (now starts) (now src) place (length (now out)) o x ⌝ }
-    ensures { λ r. ⌜ ArgumentDone (now (arities .entry)) (now (ars .entry)) (now (vals .entry)) (now (starts .entry)) (now (src .entry)) place (now (out .entry)) o x (now (out .exit)) r ⌝ }
+    requires { ⌜ Asks₂ (WantedJob (now arities) (now ars) (now vals) (now starts) (now src) place (length (now out)) o (Wanted.One x)) ⌝ }
+    ensures { λ r. ⌜ Promises₂ (WantedJob (now (arities .entry)) (now (ars .entry)) (now (vals .entry)) (now (starts .entry)) (now (src .entry)) place (length (now (out .entry))) o (Wanted.One x)) (λ (vs : List Term) (f : Fact). Put (now (out .entry)) o (now (out .exit)) r (wantedBytes (Wanted.One x) (filledFact vs f))) ⌝ }
 {
     let at = protocol::places::term_at(src, arities, ars, place, x);
     let n = canonical::canonical_into(out, o, src, at, 1, arities, vals, starts);
@@ -94,8 +97,8 @@ pub fn wanted_into(
     vals: &[u8],
     starts: &[usize],
 ) -> usize
-    requires { ⌜ WantedReady (now arities) (now ars) (now vals) (now starts) (now src) place (length (now out)) o wanted ⌝ }
-    ensures { λ r. ⌜ WantedDone (now (arities .entry)) (now (ars .entry)) (now (vals .entry)) (now (starts .entry)) (now (src .entry)) place (now (out .entry)) o wanted (now (out .exit)) r ⌝ }
+    requires { ⌜ Asks₂ (WantedJob (now arities) (now ars) (now vals) (now starts) (now src) place (length (now out)) o wanted) ⌝ }
+    ensures { λ r. ⌜ Promises₂ (WantedJob (now (arities .entry)) (now (ars .entry)) (now (vals .entry)) (now (starts .entry)) (now (src .entry)) place (length (now (out .entry))) o wanted) (λ (vs : List Term) (f : Fact). Put (now (out .entry)) o (now (out .exit)) r (wantedBytes wanted (filledFact vs f))) ⌝ }
 {
     match wanted {
         Wanted::All => fact_into(out, o, src, place, arities, ars, vals, starts),

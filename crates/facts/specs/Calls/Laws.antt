@@ -5,6 +5,7 @@ use mathlib.Core.Option.{some, Option·some-injective}
 use mathlib.Core.Path.{_≡_, ap, sym, _∙_, subst}
 use native.Mathlib.Omega.{arith}
 use lib.ListN.{length, getD, length-map}
+use Rattle.lists.specs.Asks.{Asks₂}
 use Rattle.protocol.specs.Figures.{mostVariables}
 use Rattle.octets.specs.Limits.{longest}
 use Rattle.octets.specs.Head.{Bytes}
@@ -28,7 +29,7 @@ use Rattle.steps.specs.Values.Loops.{count-here, node-from}
 use Rattle.steps.specs.Values.Filled.{FillsRule}
 use Rattle.facts.specs.declared.writing.Wanted.{Wanted}
 use Rattle.facts.specs.declared.writing.Wanted.the-variants as want
-use Rattle.facts.specs.Writing.{Has, FactJob, WantedReady}
+use Rattle.facts.specs.Writing.{Has, FactJob, WantedJob}
 use Rattle.facts.specs.Writing.Nodes.{node-job}
 use Rattle.facts.specs.declared.nodes.Place.{Place}
 use Rattle.facts.specs.declared.nodes.Form.{Form}
@@ -88,15 +89,18 @@ module _ {table ars s src : List ℕ} {place at n o w i : ℕ} {q : Wanted} {u :
       many-are : k ≡ length (u .sorts)
       many-are = counted ∙ count-here (r .fills .is)
 
-      pub fact-job : FactJob table ars s starts src f n o vs (getD (part w u) i noFact)
+      fact-job : FactJob table ars s starts src f n o vs (getD (part w u) i noFact)
       fact-job =
           r .job starts f
           (subst (λ (j : ℕ). Placed (term s table) noTerm starts vs j) many-are
           (told vs e (ap (λ (j : ℕ). many (term s table) j at) many-are ∙ r .fills .is .reads)))
           (omega (arith, room, r .fills .is .few)) fact-here
 
-      pub wanted-ready : WantedReady table ars s starts src f n o q
-      wanted-ready = (vs, getD (part w u) i noFact, fact-job, r .has)
+      pub wanted-job : WantedJob table ars s starts src f n o q vs (getD (part w u) i noFact)
+      wanted-job = record { job = fact-job; has = r .has }
+
+      pub wanted-ready : Asks₂ (WantedJob table ars s starts src f n o q)
+      wanted-ready = (vs, getD (part w u) i noFact, wanted-job)
 
     pub symbol-is : (y : ℕ) → y ≡ valueOf (below src (length ars) f) → y ≡ ruleFact vs w i u .symbol
     symbol-is y h = h ∙ symbol-law src table ars f (getD (part w u) i noFact) fact-here

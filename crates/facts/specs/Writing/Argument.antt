@@ -5,11 +5,13 @@ use mathlib.Core.Logic.{⊎-elim, inl, inr}
 use mathlib.Core.Path.{_≡_, refl, ap, sym, _∙_, subst}
 use native.Mathlib.Omega.{arith}
 use lib.ListN.{length, getD, drop, length-append, length-map}
+use Rattle.message.specs.Filled.{filleds}
+use Rattle.lists.specs.Asks.{Asks₂, Promises₂}
 use Rattle.term.specs.Sizes.{mostSymbols}
 use Rattle.octets.specs.Head.{Bytes}
 use Rattle.octets.specs.Splice.Prefix.{Wrote, widen}
 use Rattle.number.specs.Layout.{flat}
-use Rattle.term.specs.Term.{variable, Term, nil, _&_, encode, encodes, symbols, Formed, Occurs, Occurss}
+use Rattle.term.specs.Term.{variable, Term, nil, _&_, encode, encodes, symbols, Formed, Occurs, Occurss, Terms}
 use Rattle.term.specs.Arity.{arity}
 use Rattle.term.specs.Reader.{terms}
 use Rattle.term.specs.Reader.Exact.{term-form}
@@ -17,14 +19,15 @@ use Rattle.message.specs.Substitution.{sub, subs}
 use Rattle.message.specs.Theorems.{fewer-bytes}
 use Rattle.message.specs.Canon.{canon}
 use Rattle.canonical.specs.Builtins.{group}
-use Rattle.canonical.specs.Contract.{Job, Ready, Done}
+use Rattle.canonical.specs.Contract.{Job, Out}
 use Rattle.canonical.specs.Contract.Laws.{written-canons}
 use Rattle.protocol.specs.Protocol.{Fact}
 use Rattle.protocol.specs.Places.{termPlace}
 use Rattle.lists.specs.All.Laws.{all-inside, map-at}
 use Rattle.steps.specs.Facts.{valueAt, filledFact}
 use Rattle.steps.specs.Values.Parts.{noTerm, term-there}
-use Rattle.facts.specs.Writing.{factRoom, FactJob, ArgumentReady, ArgumentDone}
+use Rattle.facts.specs.declared.writing.Wanted.the-variants as want
+use Rattle.facts.specs.Writing.{factRoom, FactJob, WantedJob, Put, wantedBytes}
 use Rattle.facts.specs.Writing.Whole.{job-formed}
 
 -- ── a term of a list ──
@@ -77,17 +80,21 @@ module _ (slots ars vals starts src : List ℕ) (place n o : ℕ) (bytes : Bytes
       omega (arith, b, c, J .few, ap (λ (t : Term). length (encode t)) (sym (map-at (sub (valueAt vs)) (f .terms) x noTerm noTerm l)))
 
 module _ (slots ars vals starts src : List ℕ) (place : ℕ) (bytes : Bytes src) (x at : ℕ) (ha : at ≡ termPlace src slots ars place x) where
-  pub argument-ready : (n o : ℕ) → ArgumentReady slots ars vals starts src place n o x → Ready slots vals starts src at 1 n o
+  pub argument-ready : (n o : ℕ) → Asks₂ (WantedJob slots ars vals starts src place n o (want.One x)) → Asks₂ (Job slots vals starts src at 1 n o)
   argument-ready n o r = (
     valueAt (r .0),
     getD (r .1 .terms) x noTerm & nil,
-    argument-job slots ars vals starts src place n o bytes (r .0) (r .1) (r .2) x at (r .3) ha,
+    argument-job slots ars vals starts src place n o bytes (r .0) (r .1) (r .2 .job) x at (r .2 .has) ha,
   )
 
   pub argument-done :
-      (out out′ : List ℕ) (o at′ o′ : ℕ) → Done slots vals starts src at 1 out o out′ at′ o′
-      → ArgumentDone slots ars vals starts src place out o x out′ o′
-  argument-done out out′ o at′ o′ done vs f J l =
+      (out out′ : List ℕ) (o at′ o′ : ℕ) → Promises₂ (Job slots vals starts src at 1 (length out) o)
+      (λ (θ : ℕ → Term) (ts : Terms). Out (o + length (encodes (subs θ ts))) at out o out′ at′ o′ (encodes ts) (encodes (filleds θ ts)))
+      → Promises₂ (WantedJob slots ars vals starts src place (length out) o (want.One x))
+      (λ (vs : List Term) (f : Fact). Put out o out′ o′ (wantedBytes (want.One x) (filledFact vs f)))
+  argument-done out out′ o at′ o′ done vs f w =
+      let J = w .job in
+      let l : x < length (f .terms) = w .has in
       let t : Term = getD (f .terms) x noTerm in
       let j = argument-job slots ars vals starts src place (length out) o bytes vs f J x at l ha in
       let e : sub (valueAt vs) t ≡ getD (filledFact vs f .terms) x noTerm = sym (map-at (sub (valueAt vs)) (f .terms) x noTerm noTerm l) in

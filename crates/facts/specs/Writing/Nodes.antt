@@ -32,7 +32,7 @@ use Rattle.steps.specs.Nodes.{Node, NodeWithin}
 use Rattle.steps.specs.Facts.{valueAt}
 use Rattle.steps.specs.Facts.Formed.{part-within}
 use Rattle.facts.specs.Writing.{FactJob, factRoom}
-use Rattle.facts.specs.Writing.Ready.{fillable-job}
+use Rattle.facts.specs.Writing.Asked.{fillable-job}
 use Rattle.steps.specs.Values.{ValueFits, NodeRight}
 use Rattle.steps.specs.Values.Parts.{noTerm}
 

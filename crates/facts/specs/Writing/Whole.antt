@@ -5,6 +5,8 @@ use mathlib.Core.Logic.{inl, inr}
 use mathlib.Core.Path.{_≡_, refl, ap, sym, _∙_, subst, subst₂}
 use native.Mathlib.Omega.{arith}
 use lib.ListN.{length, getD, drop, length-append}
+use Rattle.message.specs.Filled.{filleds}
+use Rattle.lists.specs.Asks.{Asks₂, Promises₂}
 use Rattle.term.specs.Sizes.{mostSymbols}
 use Rattle.octets.specs.Head.{Bytes, Stands}
 use Rattle.octets.specs.Splice.Prefix.{Wrote, widen}
@@ -12,7 +14,7 @@ use Rattle.number.specs.Reading.{Read, andThen, below, many}
 use Rattle.number.specs.Layout.{flat}
 use Rattle.lists.specs.All.{All}
 use Rattle.number.specs.Layout.Laws.{many-form}
-use Rattle.term.specs.Term.{variable, Term, encode, encodes, symbols, Formed, Formeds, InRanges, Occurss}
+use Rattle.term.specs.Term.{variable, Term, encode, encodes, symbols, Formed, Formeds, InRanges, Occurss, Terms}
 use Rattle.term.specs.Arity.{arity}
 use Rattle.term.specs.Reader.{terms}
 use Rattle.term.specs.Reader.Exact.{encodes-terms, count-terms}
@@ -22,7 +24,7 @@ use Rattle.message.specs.Theorems.{fewer-bytes}
 use Rattle.message.specs.Parts.Entries.{Each}
 use Rattle.message.specs.Canon.{canon, canons}
 use Rattle.canonical.specs.Builtins.{Builtins, group}
-use Rattle.canonical.specs.Contract.{Job, Ready, Done}
+use Rattle.canonical.specs.Contract.{Job, Out}
 use Rattle.canonical.specs.Contract.Laws.{written-canons}
 use Rattle.protocol.specs.Protocol.{Fact, ruleTerm, fact}
 use Rattle.protocol.specs.Protocol.Limits.{TermWithin}
@@ -32,7 +34,8 @@ use Rattle.protocol.specs.Places.Laws.{fact-fields}
 use Rattle.steps.specs.Facts.{valueAt, filledFact}
 use Rattle.steps.specs.Values.Parts.{terms-many}
 use Rattle.facts.specs.declared.writing.Wanted.{Wanted}
-use Rattle.facts.specs.Writing.{canonBytes, factRoom, FactJob, WantedReady, WantedDone, FactReady, FactDone}
+use Rattle.facts.specs.declared.writing.Wanted.the-variants as want
+use Rattle.facts.specs.Writing.{canonBytes, factRoom, FactJob, WantedJob, Put, wantedBytes}
 
 -- ── the two kinds of lists of terms ──
 filled-bytes : (θ : ℕ → Term) (ts : List Term) → encodes (subs θ (terms ts)) ≡ flat encode (map (sub θ) ts)
@@ -115,13 +118,16 @@ module _ (slots ars vals starts src : List ℕ) (place n o : ℕ) (bytes : Bytes
 
 module _ (slots ars vals starts src : List ℕ) (place : ℕ) (bytes : Bytes src) (y at k : ℕ)
     (hy : y ≡ valueOf (below src (length ars) place)) (hk : k ≡ getD ars y 0) (ha : at ≡ termPlace src slots ars place 0) where
-  pub fact-ready : (n o : ℕ) → FactReady slots ars vals starts src place n o → Ready slots vals starts src at k n o
-  fact-ready n o r = (valueAt (r .0), terms (r .1 .terms), fact-job slots ars vals starts src place n o bytes (r .0) (r .1) (r .2) y at k hy hk ha)
+  pub fact-ready : (n o : ℕ) → Asks₂ (WantedJob slots ars vals starts src place n o want.All) → Asks₂ (Job slots vals starts src at k n o)
+  fact-ready n o r = (valueAt (r .0), terms (r .1 .terms), fact-job slots ars vals starts src place n o bytes (r .0) (r .1) (r .2 .job) y at k hy hk ha)
 
   pub fact-done :
-      (out out′ : List ℕ) (o at′ o′ : ℕ) → Done slots vals starts src at k out o out′ at′ o′
-      → FactDone slots ars vals starts src place out o out′ o′
-  fact-done out out′ o at′ o′ done vs f J has =
+      (out out′ : List ℕ) (o at′ o′ : ℕ) → Promises₂ (Job slots vals starts src at k (length out) o)
+      (λ (θ : ℕ → Term) (ts : Terms). Out (o + length (encodes (subs θ ts))) at out o out′ at′ o′ (encodes ts) (encodes (filleds θ ts)))
+      → Promises₂ (WantedJob slots ars vals starts src place (length out) o want.All)
+      (λ (vs : List Term) (f : Fact). Put out o out′ o′ (wantedBytes want.All (filledFact vs f)))
+  fact-done out out′ o at′ o′ done vs f w =
+      let J = w .job in
       let j = fact-job slots ars vals starts src place (length out) o bytes vs f J y at k hy hk ha in
       record {
         wrote =
@@ -134,10 +140,13 @@ module _ (slots ars vals starts src : List ℕ) (place : ℕ) (bytes : Bytes src
 
 -- ── by what is wanted ──
 module _ (slots ars vals starts src : List ℕ) (place : ℕ) (p q : Wanted) (same : p ≡ q) where
-  pub ready-as : (n o : ℕ) → WantedReady slots ars vals starts src place n o p → WantedReady slots ars vals starts src place n o q
-  ready-as n o h = subst (WantedReady slots ars vals starts src place n o) same h
+  pub ready-as : (n o : ℕ) → Asks₂ (WantedJob slots ars vals starts src place n o p) → Asks₂ (WantedJob slots ars vals starts src place n o q)
+  ready-as n o h = subst (λ (w : Wanted). (Asks₂ (WantedJob slots ars vals starts src place n o w))) same h
 
   pub done-as :
-      (out out′ : List ℕ) (o o′ : ℕ) → WantedDone slots ars vals starts src place out o q out′ o′
-      → WantedDone slots ars vals starts src place out o p out′ o′
-  done-as out out′ o o′ h = subst (λ (w : Wanted). WantedDone slots ars vals starts src place out o w out′ o′) (sym same) h
+      (out out′ : List ℕ) (o o′ : ℕ) → Promises₂ (WantedJob slots ars vals starts src place (length out) o q)
+      (λ (vs : List Term) (f : Fact). Put out o out′ o′ (wantedBytes q (filledFact vs f)))
+      → Promises₂ (WantedJob slots ars vals starts src place (length out) o p) (λ (vs : List Term) (f : Fact). Put out o out′ o′
+      (wantedBytes p (filledFact vs f)))
+  done-as out out′ o o′ h = subst (λ (w : Wanted). (Promises₂ (WantedJob slots ars vals starts src place (length out) o w)
+      (λ (vs : List Term) (f : Fact). Put out o out′ o′ (wantedBytes w (filledFact vs f))))) (sym same) h

@@ -1,4 +1,4 @@
-use Rattle.facts.specs.Calls.Laws.{wanted-ready, fact-job, symbol-is, values-few}
+use Rattle.facts.specs.Calls.Laws.{wanted-ready, wanted-job, symbol-is, values-few}
 use borrow.Author.Needs.{needs}
 use Rattle.facts.proofs.nodes.rule_fact.Statement.{statement}
 use Rattle.facts.proofs.nodes.rule_fact.Tie as tie
@@ -47,8 +47,8 @@ returns c =
     λ u vs e r. record {
       symbols = symbol-is r _ _ (c7 .list-at .ensures) (c6 .fact-at .ensures) _ (c5 .symbol-of .ensures);
       put = c .before .before
-          .wanted-into .ensures vs _ (fact-job r _ _ (c7 .list-at .ensures) (c6 .fact-at .ensures) _ (c16 .pre .0) _ (c9 .value-places .ensures .1)
-          (c9 .value-places .ensures .0)) (r .has);
+          .wanted-into .ensures vs _ (wanted-job r _ _ (c7 .list-at .ensures) (c6 .fact-at .ensures) _ (c16 .pre .0) _ (c9 .value-places .ensures .1)
+          (c9 .value-places .ensures .0));
     }
 
 pub rule-fact-spec : {M : Type 1} → statement M

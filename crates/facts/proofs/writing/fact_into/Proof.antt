@@ -14,7 +14,7 @@ shared-slice-read-k c =
     let c6 = c .before .before .before .before .before .before in
     let c8 = c6 .before .before in
     let r = c8 .pre in
-    let b = symbol-inside _ _ _ (λ k. c6 .shared-slice-known .given k .fits) _ (r .1) (r .2 .here) in
+    let b = symbol-inside _ _ _ (λ k. c6 .shared-slice-known .given k .fits) _ (r .1) (r .2 .job .here) in
     omega (arith, b, c .before .symbol-of .ensures)
 
 cast-k : tie.Need-cast-k
