@@ -1,14 +1,55 @@
-// What the test programs share: their input, and the outcome of a case that is refused.
+// What the test programs share: the cases of standard input, and what they print.
 // The input is a case behind the other: 0 for a number, 1 for a term, 2 for a step list; the length of what the case is read under, and
 // that: the arity of each free function, or a protocol file; the length of the bytes; the bytes. A length is two bytes, low byte first.
 ghost use Prim.Native.Nat.{_≤_, _<_, _+_};
 ghost use lib.ListN.{length};
-ghost use Rattle.case_file.specs.Case.{Within};
+ghost use Rattle.case_file.specs.Case.{room, Inside, Behind, CaseAt};
 
-// Where the case at a place has its bytes, and where they end.
-pub enum Case {
-    Bytes(usize, usize),
-    CutOff,
+// The room for the input.
+pub const ROOM: usize = 65536;
+
+// The kind of a case that is a number.
+pub const NUMBER: u8 = 0;
+
+// The bytes of a length.
+const LENGTH: usize = 2;
+
+// A part of the input: where it begins and ends.
+pub struct Range {
+    pub from: usize,
+    pub end: usize,
+}
+
+// The case at a place of the input, of which so much was read: its number from 1, its kind, what it is read under, its bytes, and where
+// the next one begins. Where no whole case is left, that is the same place.
+pub struct Case {
+    pub number: usize,
+    pub at: usize,
+    pub kind: u8,
+    pub under: Range,
+    pub bytes: Range,
+    pub next: usize,
+    pub read: usize,
+}
+
+pub fn show_text(text: &[u8]) {
+    io::write_all(libc::STDOUT_FILENO, text);
+}
+
+pub fn show_number(n: usize) {
+    io::print_decimal(libc::STDOUT_FILENO, n as u64);
+}
+
+// Words, with their blanks, and a number.
+pub fn show(words: &[u8], n: usize) {
+    show_text(words);
+    show_number(n);
+}
+
+// Document 01's refusal.
+pub fn show_refusal(number: usize, item: usize) {
+    show(b" refused ", number);
+    show(b" ", item);
 }
 
 fn wide(x: u8) -> usize
@@ -17,36 +58,98 @@ fn wide(x: u8) -> usize
     x as usize
 }
 
-fn length_at(s: &[u8], at: usize) -> usize
-    requires { ⌜ (at + 2 ≤ length (now s)) × (length (now s) ≤ 65536) ⌝ }
+fn length_at(s: &[u8; ROOM], at: usize) -> usize
+    requires { ⌜ at + 2 ≤ room ⌝ }
     ensures { λ r. ⌜ r < 65536 ⌝ }
 {
     wide(s[at]) + 256 * wide(s[at + 1])
 }
 
-pub fn case_at(s: &[u8], at: usize) -> Case
-    requires { ⌜ (at < length (now s)) × (length (now s) ≤ 65536) ⌝ }
-    ensures { λ r. ⌜ Within (length (now (s .entry))) at r ⌝ }
+// What stands behind its length at a place; nothing, at the place itself, where it is cut off.
+fn counted(s: &[u8; ROOM], at: usize, read: usize) -> Range
+    requires { ⌜ (at ≤ read) × (read ≤ room) ⌝ }
+    ensures { λ r. ⌜ Behind at read r ⌝ }
 {
-    if s.len() - at < 3 {
-        return Case::CutOff;
+    let nothing = Range { from: at, end: at };
+    if read - at < LENGTH {
+        return nothing;
     }
-    let k = length_at(s, at + 1);
-    if s.len() - at < k + 5 {
-        return Case::CutOff;
+    let n = length_at(s, at);
+    let from = at + LENGTH;
+    if read - from < n {
+        return nothing;
     }
-    let body = at + k + 5;
-    let len = length_at(s, body - 2);
-    if s.len() - body < len {
-        return Case::CutOff;
+    Range {
+        from: from,
+        end: from + n,
     }
-    Case::Bytes(body, body + len)
 }
 
-// Document 01's refusal: its number and its item.
-pub fn show_refusal(number: u64, item: u64) {
-    io::write_all(1, b" refused ");
-    io::print_decimal(1, number);
-    io::write_all(1, b" ");
-    io::print_decimal(1, item);
+// No case is left at a place.
+fn no_case(number: usize, at: usize, read: usize) -> Case
+    requires { ⌜ (number ≤ at + 1) × (at ≤ read) × (read ≤ room) ⌝ }
+    ensures { λ r. ⌜ CaseAt at r ⌝ }
+{
+    let nothing = Range { from: at, end: at };
+    Case {
+        number: number,
+        at: at,
+        kind: NUMBER,
+        under: nothing,
+        bytes: nothing,
+        next: at,
+        read: read,
+    }
+}
+
+// The case at a place. Its line is begun.
+fn case_at(s: &[u8; ROOM], number: usize, at: usize, read: usize) -> Case
+    requires { ⌜ (number ≤ at + 1) × (at ≤ read) × (read ≤ room) ⌝ }
+    ensures { λ r. ⌜ CaseAt at r ⌝ }
+{
+    if at == read {
+        return no_case(number, at, read);
+    }
+    let under = counted(s, at + 1, read);
+    let bytes = counted(s, under.end, read);
+    if bytes.from == under.end {
+        return no_case(number, at, read);
+    }
+    show_number(number);
+    Case {
+        number: number,
+        at: at,
+        kind: s[at],
+        under: under,
+        bytes: bytes,
+        next: bytes.end,
+        read: read,
+    }
+}
+
+// Reads standard input, and gives its first case.
+pub fn first(s: &mut [u8; ROOM]) -> Case
+    ensures { λ r. ⌜ CaseAt 0 r ⌝ }
+{
+    let n = io::read_full(libc::STDIN_FILENO, s);
+    case_at(s, 1, 0, n)
+}
+
+// Ends the line of a case, and gives the case behind it.
+pub fn next(s: &[u8; ROOM], c: Case) -> Case
+    requires { ⌜ CaseAt (c .at) c × (c .at < c .next) ⌝ }
+    ensures { λ r. ⌜ CaseAt (c .next) r ⌝ }
+{
+    show_text(b"\n");
+    case_at(s, c.number + 1, c.next, c.read)
+}
+
+pub fn part<'a>(s: &'a [u8; ROOM], r: Range) -> &'a [u8]
+    requires { ⌜ Inside r ⌝ }
+    ensures { λ x. ⌜ length (now x) ≤ room ⌝ }
+{
+    let from = r.from;
+    let end = r.end;
+    let whole: &[u8] = s;
+    &whole[from..end]
 }

@@ -1,122 +1,81 @@
 // Runs the byte layer on the cases of standard input and writes a line for each: its number, and what was read.
-ghost use Prim.Native.Nat.{_≤_, _<_, _+_};
+ghost use Prim.Native.Nat.{_≤_};
 ghost use lib.ListN.{length};
-use case_file::Case;
+ghost use Rattle.case_file.specs.Case.{room};
+use case_file::part;
 use number::Number;
 use term::Part;
 
-// The arities of tags 0 to 12, and a slot for each of sixteen free functions.
-const SLOTS: [u8; 29] = [
-    255,
-    255,
-    255,
-    0,
-    2,
-    2,
-    1,
-    2,
-    1,
-    1,
-    2,
-    1,
-    2,
-    255,
-    255,
-    255,
-    255,
-    255,
-    255,
-    255,
-    255,
-    255,
-    255,
-    255,
-    255,
-    255,
-    255,
-    255,
-    255,
-];
+// The tags of leaves and of built-in functions, and their arities.
+const BUILT_IN: usize = 13;
+
+const ARITIES: [u8; BUILT_IN] = *b"\xff\xff\xff\x00\x02\x02\x01\x02\x01\x01\x02\x01\x02";
+
+// The free functions that a protocol may declare.
+const MOST_FREE: usize = 16;
+
+// A slot for each tag.
+const SLOTS: usize = BUILT_IN + MOST_FREE;
 
 fn show_number(s: &[u8]) {
     match number::read_number(s, 0) {
         Number::Value(v, e) => {
-            io::write_all(1, b" value ");
-            io::print_decimal(1, v as u64);
-            io::write_all(1, b" next ");
-            io::print_decimal(1, e as u64);
+            case_file::show(b" value ", v as usize);
+            case_file::show(b" next ", e);
         }
         Number::Fault => {
-            io::write_all(1, b" fault");
+            case_file::show_text(b" fault");
         }
     }
 }
 
 fn show_term(s: &[u8], slots: &[u8])
-    requires { ⌜ length (now s) ≤ 65536 ⌝ }
+    requires { ⌜ length (now s) ≤ room ⌝ }
 {
     match term::term_end(s, slots, 0) {
         Part::End(e, n) => {
-            io::write_all(1, b" end ");
-            io::print_decimal(1, e as u64);
-            io::write_all(1, b" symbols ");
-            io::print_decimal(1, n as u64);
+            case_file::show(b" end ", e);
+            case_file::show(b" symbols ", n);
         }
         Part::Fault => {
-            io::write_all(1, b" fault");
+            case_file::show_text(b" fault");
         }
     }
+}
+
+// The first of the free functions, those that have a slot.
+fn slotted(free: &[u8]) -> &[u8]
+    ensures { λ r. ⌜ length (now r) ≤ 16 ⌝ }
+{
+    if free.len() <= MOST_FREE {
+        return free;
+    }
+    &free[0..MOST_FREE]
 }
 
 // The table of slots for these free functions.
-fn declare(free: &[u8]) -> [u8; 29] {
-    let mut slots = SLOTS;
-    let mut j = 0;
-    while j < free.len() {
-        if 16 <= j {
-            return slots;
-        }
-        slots[13 + j] = free[j];
-        j += 1;
-    }
+fn declare(free: &[u8]) -> [u8; SLOTS] {
+    let mut slots = [term::UNDECLARED; SLOTS];
+    octets::copy_into(&mut slots, 0, &ARITIES);
+    octets::copy_into(&mut slots, BUILT_IN, slotted(free));
     slots
 }
 
-fn show(s: &[u8], at: usize, body: usize, end: usize)
-    requires { ⌜ (at + 5 ≤ body) × (body ≤ end) × (end ≤ length (now s)) × (length (now s) ≤ 65536) ⌝ }
+fn show(kind: u8, free: &[u8], s: &[u8])
+    requires { ⌜ length (now s) ≤ room ⌝ }
 {
-    let kind = s[at];
-    if kind == 0 {
-        show_number(&s[body..end]);
+    if kind == case_file::NUMBER {
+        show_number(s);
     } else {
-        let slots = declare(&s[at + 3..body - 2]);
-        show_term(&s[body..end], &slots);
-    }
-}
-
-fn cases(s: &[u8])
-    requires { ⌜ length (now s) ≤ 65536 ⌝ }
-{
-    let mut at = 0;
-    let mut number: u64 = 1;
-    while at < s.len() {
-        match case_file::case_at(s, at) {
-            Case::Bytes(body, end) => {
-                io::print_decimal(1, number);
-                show(s, at, body, end);
-                io::write_all(1, b"\n");
-                at = end;
-                number += 1;
-            }
-            Case::CutOff => {
-                return;
-            }
-        }
+        show_term(s, &declare(free));
     }
 }
 
 fn main() {
-    let mut buf = io::large_buffer();
-    let n = io::read_full(0, &mut buf);
-    cases(&buf[..n]);
+    let mut input = [0u8; case_file::ROOM];
+    let mut c = case_file::first(&mut input);
+    while c.at < c.next {
+        show(c.kind, part(&input, c.under), part(&input, c.bytes));
+        c = case_file::next(&input, c);
+    }
 }
