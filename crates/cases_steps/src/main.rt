@@ -1,89 +1,40 @@
 // Rules the step lists of the cases of standard input, each under its protocol, and writes a line for each: its number, and how many
 // nodes there are or the refusal.
-ghost use Prim.Native.Nat.{_^_, _≤_, _+_};
+ghost use Prim.Native.Nat.{_≤_};
 ghost use lib.ListN.{length};
-ghost use Rattle.steps.specs.Index.{Given};
-ghost use Rattle.steps.specs.Values.Filled.{ArityTable};
-use case_file::Case;
-use rules::fit;
-use steps::ruling;
+ghost use Rattle.case_file.specs.Case.{room};
+use case_file::part;
+use case_nodes::Ruled;
 
-fn show_ruling(r: ruling::Judged) {
-    match r {
-        ruling::Judged::Good(n) => {
-            io::write_all(1, b" good ");
-            io::print_decimal(1, n as u64);
-        }
-        ruling::Judged::Refused(number, item) => {
-            case_file::show_refusal(number as u64, item as u64);
-        }
-    }
-}
-
-// The step list under a fit protocol, given by its index.
-fn show_steps(list: &[u8], protocol: &[u8], arities: &[u8], ars: &[u8], rules: &[usize], nr: usize)
-    requires { ⌜ (length (now list) ≤ 2 ^ 32) × Given (now protocol) (now arities) (now rules) nr × ArityTable (now protocol) (now arities) (now rules) nr (now ars) ⌝ }
+fn show_ruling(protocol: &[u8], list: &[u8])
+    requires { ⌜ (length (now protocol) ≤ room) × (length (now list) ≤ room) ⌝ }
 {
-    let mut places = [0usize; 512];
-    show_ruling(ruling::rule_steps(list, protocol, arities, ars, rules, nr, &mut places));
-}
-
-// Document 01's order: 3 and 4 for the protocol, then the step list.
-fn show_case(protocol: &[u8], list: &[u8])
-    requires { ⌜ (length (now protocol) ≤ 65536) × (length (now list) ≤ 65536) ⌝ }
-{
-    let mut arities = [0u8; 29];
-    let mut symbols = [0u8; 36];
-    let mut flags = [0u8; 36];
-    let mut places = [0usize; 64];
-    match fit::judge(
+    let mut arities = [0u8; case_nodes::SLOTS];
+    let mut symbols = [0u8; case_nodes::SYMBOLS];
+    let mut rules = [0usize; case_nodes::RULES];
+    let mut nodes = [0usize; case_nodes::NODES];
+    match case_nodes::rule_case(
         protocol,
+        list,
         &mut arities,
         &mut symbols,
-        &mut flags,
-        &mut places,
+        &mut rules,
+        &mut nodes,
     ) {
-        fit::Judged::Sound(ns, nr) => {
-            show_steps(list, protocol, &arities, &symbols[..ns], &places, nr);
+        Ruled::Good(_, _, n) => {
+            case_file::show(b" good ", n);
         }
-        fit::Judged::Broken(k) => {
-            case_file::show_refusal(4, k as u64);
-        }
-        fit::Judged::Fault => {
-            case_file::show_refusal(3, 1);
-        }
-    }
-}
-
-fn show(s: &[u8], at: usize, body: usize, end: usize)
-    requires { ⌜ (at + 5 ≤ body) × (body ≤ end) × (end ≤ length (now s)) × (length (now s) ≤ 65536) ⌝ }
-{
-    show_case(&s[at + 3..body - 2], &s[body..end]);
-}
-
-fn cases(s: &[u8])
-    requires { ⌜ length (now s) ≤ 65536 ⌝ }
-{
-    let mut at = 0;
-    let mut number: u64 = 1;
-    while at < s.len() {
-        match case_file::case_at(s, at) {
-            Case::Bytes(body, end) => {
-                io::print_decimal(1, number);
-                show(s, at, body, end);
-                io::write_all(1, b"\n");
-                at = end;
-                number += 1;
-            }
-            Case::CutOff => {
-                return;
-            }
+        Ruled::Refused(number, item) => {
+            case_file::show_refusal(number, item);
         }
     }
 }
 
 fn main() {
-    let mut buf = io::large_buffer();
-    let n = io::read_full(0, &mut buf);
-    cases(&buf[..n]);
+    let mut input = [0u8; case_file::ROOM];
+    let mut c = case_file::first(&mut input);
+    while c.at < c.next {
+        show_ruling(part(&input, c.under), part(&input, c.bytes));
+        c = case_file::next(&input, c);
+    }
 }

@@ -1,0 +1,40 @@
+-- What is left of a case whose step list is good: the index of its protocol, and the places of its nodes.
+use Prim.Native.Nat.{ℕ, _^_, _≤_}
+use mathlib.Core.List.{List}
+use mathlib.Core.Path.{_≡_}
+use lib.ListN.{length, take}
+use Rattle.rules.specs.Fit.Laws.{Indexes}
+use Rattle.rules.specs.declared.fit.Judged.{Judged}
+use Rattle.rules.specs.declared.fit.Judged.the-variants.{Sound}
+use Rattle.steps.specs.Index.{Given}
+use Rattle.steps.specs.Index.Sound.{sound-few, sound-given, sound-arities}
+use Rattle.steps.specs.Values.Filled.{ArityTable}
+use Rattle.steps.specs.Causes.Good.{GoodSteps}
+use Rattle.case_nodes.specs.declared.Ruled.{Ruled}
+use Rattle.case_nodes.specs.declared.Ruled.the-variants.{Good, Refused}
+
+module _ (protocol arities symbols rules : List ℕ) where
+  -- the index of a fit protocol with ns fact symbols and nr rules
+  pub record Indexed (ns nr : ℕ) : Type 0 where
+    pub few : ns ≤ 36
+    pub given : Given protocol arities rules nr
+    pub table : ArityTable protocol arities rules nr (take ns symbols)
+
+  -- and the places of the n nodes of a good step list
+  pub record GoodCase (list nodes : List ℕ) (ns nr n : ℕ) : Type 0 where
+    pub index : Indexed ns nr
+    pub good : GoodSteps (index .given .protocol) list nodes n
+
+  abbrev pub WhereGood : List ℕ → List ℕ → Ruled → Type 0
+  WhereGood list nodes (Good ns nr n) = GoodCase list nodes ns nr n
+  WhereGood list nodes (Refused number item) = Unit {0}
+
+  -- as the judgement of the protocol says
+  pub indexed :
+      (flags : List ℕ) (r : Judged) (ns nr : ℕ) → r ≡ Sound ns nr → Indexes protocol r arities symbols flags rules
+      → length protocol ≤ 2 ^ 32 → length arities ≡ 29 → 64 ≤ length rules → Indexed ns nr
+  indexed flags r ns nr is index short slots many = record {
+    few = sound-few protocol arities symbols flags rules r ns nr is index;
+    given = sound-given protocol arities symbols flags rules r ns nr is index short slots many;
+    table = sound-arities protocol arities symbols flags rules r ns nr is index;
+  }

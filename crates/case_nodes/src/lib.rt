@@ -1,0 +1,78 @@
+// The step list of a case, ruled under the protocol of the case.
+ghost use Prim.Native.Nat.{_^_, _≤_};
+ghost use lib.ListN.{length};
+ghost use Rattle.case_nodes.specs.Good.{Indexed, WhereGood};
+use rules::fit;
+use steps::ruling;
+
+// The lengths of the tables: a slot for each tag, the fact symbols, the rules, the nodes.
+pub const SLOTS: usize = 29;
+
+pub const SYMBOLS: usize = 36;
+
+pub const RULES: usize = 64;
+
+pub const NODES: usize = 512;
+
+// Document 01's refusals of a protocol: a fault in the layout of the file with this number, or a rule that breaks a condition.
+const LAYOUT: usize = 3;
+
+const PROTOCOL: usize = 1;
+
+const UNFIT: usize = 4;
+
+// How many fact symbols, rules and nodes there are, or the number and the item of a refusal.
+pub enum Ruled {
+    Good(usize, usize, usize),
+    Refused(usize, usize),
+}
+
+// The list's causes, under a fit protocol that is given by its index.
+fn rule_list(
+    list: &[u8],
+    protocol: &[u8],
+    arities: &[u8; SLOTS],
+    symbols: &[u8; SYMBOLS],
+    rules: &[usize; RULES],
+    ns: usize,
+    nr: usize,
+    nodes: &mut [usize; NODES],
+) -> Ruled
+    requires { ⌜ (length (now list) ≤ 2 ^ 32) × Indexed (now protocol) (now arities) (now symbols) (now rules) ns nr ⌝ }
+    ensures { λ r. ⌜ WhereGood (now (protocol .entry)) (now (arities .entry)) (now (symbols .entry)) (now (rules .entry)) (now (list .entry)) (now (nodes .exit)) r ⌝ }
+{
+    let all: &[u8] = symbols;
+    match ruling::rule_steps(list, protocol, arities, &all[..ns], rules, nr, nodes) {
+        ruling::Judged::Good(n) => Ruled::Good(ns, nr, n),
+        ruling::Judged::Refused(number, item) => Ruled::Refused(number, item),
+    }
+}
+
+// The protocol's causes 3 and 4, then those of the list. The tables of the protocol and the places of the nodes are filled in.
+pub fn rule_case(
+    protocol: &[u8],
+    list: &[u8],
+    arities: &mut [u8; SLOTS],
+    symbols: &mut [u8; SYMBOLS],
+    rules: &mut [usize; RULES],
+    nodes: &mut [usize; NODES],
+) -> Ruled
+    requires { ⌜ (length (now protocol) ≤ 2 ^ 32) × (length (now list) ≤ 2 ^ 32) ⌝ }
+    ensures { λ r. ⌜ WhereGood (now (protocol .entry)) (now (arities .exit)) (now (symbols .exit)) (now (rules .exit)) (now (list .entry)) (now (nodes .exit)) r ⌝ }
+{
+    let mut flags = [0u8; SYMBOLS];
+    match fit::judge(protocol, arities, symbols, &mut flags, rules) {
+        fit::Judged::Sound(ns, nr) => rule_list(
+            list,
+            protocol,
+            arities,
+            symbols,
+            rules,
+            ns,
+            nr,
+            nodes,
+        ),
+        fit::Judged::Broken(k) => Ruled::Refused(UNFIT, k),
+        fit::Judged::Fault => Ruled::Refused(LAYOUT, PROTOCOL),
+    }
+}
