@@ -46,10 +46,15 @@ pub fn show(words: &[u8], n: usize) {
     show_number(n);
 }
 
+// A further number of a line.
+pub fn show_more(n: usize) {
+    show(b" ", n);
+}
+
 // Document 01's refusal.
 pub fn show_refusal(number: usize, item: usize) {
     show(b" refused ", number);
-    show(b" ", item);
+    show_more(item);
 }
 
 fn wide(x: u8) -> usize

@@ -10,6 +10,7 @@ use Rattle.steps.specs.Index.{Given}
 use Rattle.steps.specs.Index.Sound.{sound-few, sound-given, sound-arities}
 use Rattle.steps.specs.Values.Filled.{ArityTable}
 use Rattle.steps.specs.Causes.Good.{GoodSteps}
+use Rattle.case_nodes.specs.declared.Counts.{Counts}
 use Rattle.case_nodes.specs.declared.Ruled.{Ruled}
 use Rattle.case_nodes.specs.declared.Ruled.the-variants.{Good, Refused}
 
@@ -20,13 +21,13 @@ module _ (protocol arities symbols rules : List ℕ) where
     pub given : Given protocol arities rules nr
     pub table : ArityTable protocol arities rules nr (take ns symbols)
 
-  -- and the places of the n nodes of a good step list
-  pub record GoodCase (list nodes : List ℕ) (ns nr n : ℕ) : Type 0 where
-    pub index : Indexed ns nr
-    pub good : GoodSteps (index .given .protocol) list nodes n
+  -- and the places of the nodes of a good step list
+  pub record GoodCase (list nodes : List ℕ) (k : Counts) : Type 0 where
+    pub index : Indexed (k .symbols) (k .rules)
+    pub good : GoodSteps (index .given .protocol) list nodes (k .nodes)
 
   abbrev pub WhereGood : List ℕ → List ℕ → Ruled → Type 0
-  WhereGood list nodes (Good ns nr n) = GoodCase list nodes ns nr n
+  WhereGood list nodes (Good k) = GoodCase list nodes k
   WhereGood list nodes (Refused number item) = Unit {0}
 
   -- as the judgement of the protocol says

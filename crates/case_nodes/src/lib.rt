@@ -21,9 +21,16 @@ const PROTOCOL: usize = 1;
 
 const UNFIT: usize = 4;
 
-// How many fact symbols, rules and nodes there are, or the number and the item of a refusal.
+// How many fact symbols and rules the protocol has, and nodes the list.
+pub struct Counts {
+    pub symbols: usize,
+    pub rules: usize,
+    pub nodes: usize,
+}
+
+// A good case, or the number and the item of a refusal.
 pub enum Ruled {
-    Good(usize, usize, usize),
+    Good(Counts),
     Refused(usize, usize),
 }
 
@@ -43,7 +50,11 @@ fn rule_list(
 {
     let all: &[u8] = symbols;
     match ruling::rule_steps(list, protocol, arities, &all[..ns], rules, nr, nodes) {
-        ruling::Judged::Good(n) => Ruled::Good(ns, nr, n),
+        ruling::Judged::Good(n) => Ruled::Good(Counts {
+            symbols: ns,
+            rules: nr,
+            nodes: n,
+        }),
         ruling::Judged::Refused(number, item) => Ruled::Refused(number, item),
     }
 }

@@ -9,12 +9,13 @@ ghost use Rattle.cases_facts.specs.Table.{FactsListed, ArgumentsListed};
 use crate::table::Argument;
 use crate::table::Arguments;
 use crate::table::Facts;
+use case_file::show_more;
 use facts::compare;
 use term::Public;
 
-fn show_number(n: usize) {
-    io::write_all(1, b" ");
-    io::print_decimal(1, n as u64);
+// Ends a list of numbers.
+pub fn show_bar() {
+    case_file::show_text(b" |");
 }
 
 // The number, from 1, of the first fact that is the same as fact k; 0 if none is.
@@ -61,7 +62,7 @@ pub fn show_facts(
     let n = facts.n;
     let mut k: usize = 0;
     while k < n {
-        show_number(first_fact(facts, k, out, s, protocol, arities, ars, rules, nr));
+        show_more(first_fact(facts, k, out, s, protocol, arities, ars, rules, nr));
         k += 1;
     }
 }
@@ -122,7 +123,7 @@ pub fn show_arguments(
     let n = arguments.n;
     let mut k: usize = 0;
     while k < n {
-        show_number(first_argument(arguments, k, out, s, protocol, arities, ars, rules, nr));
+        show_more(first_argument(arguments, k, out, s, protocol, arities, ars, rules, nr));
         k += 1;
     }
 }
@@ -182,7 +183,7 @@ pub fn show_names(
     let n = arguments.n;
     let mut k: usize = 0;
     while k < n {
-        show_number(public_name(each[k], out, s, protocol, arities, ars, rules, nr));
+        show_more(public_name(each[k], out, s, protocol, arities, ars, rules, nr));
         k += 1;
     }
 }

@@ -21,8 +21,8 @@ fn show_ruling(protocol: &[u8], list: &[u8])
         &mut rules,
         &mut nodes,
     ) {
-        Ruled::Good(_, _, n) => {
-            case_file::show(b" good ", n);
+        Ruled::Good(counts) => {
+            case_file::show(b" good ", counts.nodes);
         }
         Ruled::Refused(number, item) => {
             case_file::show_refusal(number, item);

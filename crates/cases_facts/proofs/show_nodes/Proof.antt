@@ -1,24 +1,29 @@
+use lib.Seq.{length-take-le}
+use mathlib.Core.Path.{sym}
 use native.Mathlib.Omega.{arith}
 use borrow.Author.Needs.{needs}
 use Rattle.cases_facts.proofs.show_nodes.Statement.{statement}
 use Rattle.cases_facts.proofs.show_nodes.Tie as tie
 
+slice-aggregate-ars : tie.Need-slice-aggregate-ars
+slice-aggregate-ars c =
+    sym (length-take-le _ _ (omega arith))
+
 facts-of-requires : tie.Need-facts-of-requires
-facts-of-requires c κs =
-    let c6 = c .before .before .before .before .before .before in
-    (omega (arith, c6 .pre .4 .good .few, c6 .pre .1), c6 .pre .2, c6 .pre .3, c6 .pre .4)
+facts-of-requires c κs = search needs
 
 slice-aggregate-show-facts : tie.Need-slice-aggregate-show-facts
 slice-aggregate-show-facts c = search needs
 
 show-facts-requires : tie.Need-show-facts-requires
-show-facts-requires c κs = search needs
+show-facts-requires c κs =
+    let c3 = c .before .before .before in
+    let c11 = c3 .before .before .before .before .before .before .before .before in
+    let index = c11 .pre .1 .index in
+    (search needs, search needs, index .given, index .table, c3 .facts-of .ensures)
 
-slice-aggregate-write-all : tie.Need-slice-aggregate-write-all
-slice-aggregate-write-all c = search needs
-
-write-all-requires : tie.Need-write-all-requires
-write-all-requires c κs = search needs
+show-bar-requires : tie.Need-show-bar-requires
+show-bar-requires c κs = search needs
 
 arguments-of-requires : tie.Need-arguments-of-requires
 arguments-of-requires c κs = search needs
@@ -28,23 +33,23 @@ slice-aggregate-show-arguments c = search needs
 
 show-arguments-requires : tie.Need-show-arguments-requires
 show-arguments-requires c κs =
-    let c14 = c .before .before .before .before .before .before .before .before .before .before .before .before .before .before in
-    (search needs, c14 .pre .0, c14 .pre .2, c14 .pre .3, c .before .arguments-of .ensures)
+    let c3 = c .before .before .before in
+    let c20 = c3 .before .before .before .before .before .before .before .before .before .before .before .before .before .before .before .before .before in
+    let index = c20 .pre .1 .index in
+    (search needs, omega (arith, c20 .pre .0), index .given, index .table, c3 .arguments-of .ensures)
 
-slice-aggregate-write-all-2 : tie.Need-slice-aggregate-write-all-2
-slice-aggregate-write-all-2 c = search needs
-
-write-all-requires-2 : tie.Need-write-all-requires-2
-write-all-requires-2 c κs = search needs
+show-bar-requires-2 : tie.Need-show-bar-requires-2
+show-bar-requires-2 c κs = search needs
 
 slice-aggregate-show-names : tie.Need-slice-aggregate-show-names
 slice-aggregate-show-names c = search needs
 
 show-names-requires : tie.Need-show-names-requires
 show-names-requires c κs =
-    let c6 = c .before .before .before .before .before .before in
-    let c19 = c6 .before .before .before .before .before .before .before .before .before .before .before .before .before in
-    (search needs, c19 .pre .0, c19 .pre .2, c19 .pre .3, c6 .arguments-of .ensures)
+    let c9 = c .before .before .before .before .before .before .before .before .before in
+    let c26 = c9 .before .before .before .before .before .before .before .before .before .before .before .before .before .before .before .before .before in
+    let index = c26 .pre .1 .index in
+    (search needs, omega (arith, c26 .pre .0), index .given, index .table, c9 .arguments-of .ensures)
 
 returns : tie.Need-returns
 returns c = search needs
@@ -53,16 +58,15 @@ pub show-nodes-spec : {M : Type 1} → statement M
 show-nodes-spec =
     tie.close
     (tie.spec
+    slice-aggregate-ars
     facts-of-requires
     slice-aggregate-show-facts
     show-facts-requires
-    slice-aggregate-write-all
-    write-all-requires
+    show-bar-requires
     arguments-of-requires
     slice-aggregate-show-arguments
     show-arguments-requires
-    slice-aggregate-write-all-2
-    write-all-requires-2
+    show-bar-requires-2
     slice-aggregate-show-names
     show-names-requires
     returns)

@@ -23,8 +23,8 @@ first-fact-requires c κs =
     let c9 = c .before .before .before .before .before .before .before .before .before in
     (search needs, room-kept _ _ _ (search needs) (c9 .pre .0), c9 .pre .1, c9 .pre .2, c9 .pre .3, c9 .pre .4)
 
-show-number-requires : tie.Need-show-number-requires Inv-loop μ-loop
-show-number-requires c κs = search needs
+show-more-requires : tie.Need-show-more-requires Inv-loop μ-loop
+show-more-requires c κs = search needs
 
 add-k : tie.Need-add-k Inv-loop μ-loop
 add-k c =
@@ -50,7 +50,7 @@ show-facts-spec =
     μ-loop
     loop-holds
     first-fact-requires
-    show-number-requires
+    show-more-requires
     add-k
     loop-less
     loop-again

@@ -29,8 +29,8 @@ public-name-requires c κs =
     let c11 = c .before .before .before .before .before .before .before .before .before .before .before in
     (room-kept _ _ _ (search needs) (c11 .pre .0), c11 .pre .1, c11 .pre .2, c11 .pre .3, c11 .pre .4 .each _ (omega arith))
 
-show-number-requires : tie.Need-show-number-requires Inv-loop μ-loop
-show-number-requires c κs = search needs
+show-more-requires : tie.Need-show-more-requires Inv-loop μ-loop
+show-more-requires c κs = search needs
 
 add-k : tie.Need-add-k Inv-loop μ-loop
 add-k c = search needs
@@ -57,7 +57,7 @@ show-names-spec =
     mul-public-name
     array-copy-out-public-name
     public-name-requires
-    show-number-requires
+    show-more-requires
     add-k
     loop-less
     loop-again
