@@ -11,8 +11,14 @@ pub const ROOM: usize = 65536;
 // The kind of a case that is a number.
 pub const NUMBER: u8 = 0;
 
+// The free functions that a protocol may declare.
+pub const MOST_FREE: usize = 16;
+
 // The bytes of a length.
 const LENGTH: usize = 2;
+
+// The values of a byte.
+const BYTE: usize = 256;
 
 // A part of the input: where it begins and ends.
 pub struct Range {
@@ -36,7 +42,7 @@ pub fn show_text(text: &[u8]) {
     io::write_all(libc::STDOUT_FILENO, text);
 }
 
-pub fn show_number(n: usize) {
+fn show_number(n: usize) {
     io::print_decimal(libc::STDOUT_FILENO, n as u64);
 }
 
@@ -46,7 +52,7 @@ pub fn show(words: &[u8], n: usize) {
     show_number(n);
 }
 
-// A further number of a line.
+// A blank and a number.
 pub fn show_more(n: usize) {
     show(b" ", n);
 }
@@ -67,7 +73,7 @@ fn length_at(s: &[u8; ROOM], at: usize) -> usize
     requires { ⌜ at + 2 ≤ room ⌝ }
     ensures { λ r. ⌜ r < 65536 ⌝ }
 {
-    wide(s[at]) + 256 * wide(s[at + 1])
+    wide(s[at]) + BYTE * wide(s[at + 1])
 }
 
 // What stands behind its length at a place; nothing, at the place itself, where it is cut off.

@@ -1,24 +1,29 @@
-// The step list of a case, ruled under the protocol of the case.
+// The step list of a case, ruled under the protocol of the case. The constants are the most that document 01 allows.
 ghost use Prim.Native.Nat.{_^_, _≤_};
 ghost use lib.ListN.{length};
 ghost use Rattle.case_nodes.specs.Good.{Indexed, WhereGood};
 use rules::fit;
 use steps::ruling;
 
-// The lengths of the tables: a slot for each tag, the fact symbols, the rules, the nodes.
+// The arities, a slot for each tag.
 pub const SLOTS: usize = 29;
 
+// The fact symbols, with the four built-in ones.
 pub const SYMBOLS: usize = 36;
 
+// The rules.
 pub const RULES: usize = 64;
 
+// The nodes of a step list.
 pub const NODES: usize = 512;
 
-// Document 01's refusals of a protocol: a fault in the layout of the file with this number, or a rule that breaks a condition.
+// Document 01's refusal of a fault in a file's layout.
 const LAYOUT: usize = 3;
 
+// The protocol file's number.
 const PROTOCOL: usize = 1;
 
+// Document 01's refusal of a rule that breaks a condition.
 const UNFIT: usize = 4;
 
 // How many fact symbols and rules the protocol has, and nodes the list.
@@ -36,8 +41,8 @@ pub enum Ruled {
 
 // The list's causes, under a fit protocol that is given by its index.
 fn rule_list(
-    list: &[u8],
     protocol: &[u8],
+    list: &[u8],
     arities: &[u8; SLOTS],
     symbols: &[u8; SYMBOLS],
     rules: &[usize; RULES],
@@ -74,8 +79,8 @@ pub fn rule_case(
     let mut flags = [0u8; SYMBOLS];
     match fit::judge(protocol, arities, symbols, &mut flags, rules) {
         fit::Judged::Sound(ns, nr) => rule_list(
-            list,
             protocol,
+            list,
             arities,
             symbols,
             rules,

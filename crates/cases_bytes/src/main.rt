@@ -2,17 +2,16 @@
 ghost use Prim.Native.Nat.{_≤_};
 ghost use lib.ListN.{length};
 ghost use Rattle.case_file.specs.Case.{room};
+use case_file::MOST_FREE;
 use case_file::part;
 use number::Number;
 use term::Part;
 
-// The tags of leaves and of built-in functions, and their arities.
+// The tags of leaves and of built-in functions.
 const BUILT_IN: usize = 13;
 
+// Their arities.
 const ARITIES: [u8; BUILT_IN] = *b"\xff\xff\xff\x00\x02\x02\x01\x02\x01\x01\x02\x01\x02";
-
-// The free functions that a protocol may declare.
-const MOST_FREE: usize = 16;
 
 // A slot for each tag.
 const SLOTS: usize = BUILT_IN + MOST_FREE;

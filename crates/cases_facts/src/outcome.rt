@@ -13,6 +13,15 @@ use case_file::show_more;
 use facts::compare;
 use term::Public;
 
+// The least public name, by its number.
+const ONE_GROUP: u32 = 0;
+
+// The least whose number takes two groups.
+const TWO_GROUPS: u32 = 128;
+
+// The least whose number takes three groups.
+const THREE_GROUPS: u32 = 16384;
+
 // Ends a list of numbers.
 pub fn show_bar() {
     case_file::show_text(b" |");
@@ -128,7 +137,7 @@ pub fn show_arguments(
     }
 }
 
-// Which of the public names 0, 128 and 16384 an argument is, from 1; 0 if it is none of them. Their numbers take one, two and three groups.
+// Which of the three public names an argument is, from 1; 0 if it is none of them.
 fn public_name(
     a: Argument,
     out: &mut [u8],
@@ -143,24 +152,16 @@ fn public_name(
 {
     let x = a.place;
     let i = a.number;
-    if compare::is_public(out, s, protocol, arities, ars, rules, nr, x, i, Public(0)) {
+    let one = Public(ONE_GROUP);
+    let two = Public(TWO_GROUPS);
+    let three = Public(THREE_GROUPS);
+    if compare::is_public(out, s, protocol, arities, ars, rules, nr, x, i, one) {
         return 1;
     }
-    if compare::is_public(out, s, protocol, arities, ars, rules, nr, x, i, Public(128)) {
+    if compare::is_public(out, s, protocol, arities, ars, rules, nr, x, i, two) {
         return 2;
     }
-    if compare::is_public(
-        out,
-        s,
-        protocol,
-        arities,
-        ars,
-        rules,
-        nr,
-        x,
-        i,
-        Public(16384),
-    ) {
+    if compare::is_public(out, s, protocol, arities, ars, rules, nr, x, i, three) {
         return 3;
     }
     0

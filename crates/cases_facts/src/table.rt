@@ -10,9 +10,18 @@ use facts::counts;
 use facts::nodes::Place;
 use facts::symbols;
 
-// The places of the first n facts, 64 at most.
+// The room for facts.
+const MOST_FACTS: usize = 64;
+
+// The room for arguments.
+const MOST_ARGUMENTS: usize = 256;
+
+// The lists of facts of a node: premises, actions, conclusions.
+const LISTS: usize = 3;
+
+// The places of the first n facts.
 pub struct Facts {
-    pub places: [Place; 64],
+    pub places: [Place; MOST_FACTS],
     pub n: usize,
 }
 
@@ -31,7 +40,7 @@ fn with_fact(
 {
     let mut places = facts.places;
     let n = facts.n;
-    if n >= 64 {
+    if n >= MOST_FACTS {
         return facts;
     }
     places[n] = x;
@@ -87,7 +96,7 @@ fn with_node(
 {
     let mut facts = before;
     let mut w: usize = 0;
-    while w < 3 {
+    while w < LISTS {
         facts = with_list(facts, s, protocol, arities, ars, rules, nr, node, w);
         w += 1;
     }
@@ -114,7 +123,7 @@ pub fn facts_of(
         number: 0,
     };
     let mut facts = Facts {
-        places: [none; 64],
+        places: [none; MOST_FACTS],
         n: 0,
     };
     let mut k: usize = 0;
@@ -131,9 +140,9 @@ pub struct Argument {
     pub number: usize,
 }
 
-// The first n arguments, 256 at most.
+// The first n arguments.
 pub struct Arguments {
-    pub each: [Argument; 256],
+    pub each: [Argument; MOST_ARGUMENTS],
     pub n: usize,
 }
 
@@ -152,7 +161,7 @@ fn with_argument(
 {
     let mut each = arguments.each;
     let n = arguments.n;
-    if n >= 256 {
+    if n >= MOST_ARGUMENTS {
         return arguments;
     }
     each[n] = a;
@@ -213,7 +222,7 @@ pub fn arguments_of(
         number: 0,
     };
     let mut arguments = Arguments {
-        each: [nothing; 256],
+        each: [nothing; MOST_ARGUMENTS],
         n: 0,
     };
     let places = facts.places;

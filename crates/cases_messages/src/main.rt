@@ -1,22 +1,25 @@
 // Runs the call canonical form on the cases of standard input and writes a line for each: its number, and the bytes of the canonical form.
+use case_file::MOST_FREE;
 use case_file::part;
 use checker::Written;
 
-const DIGITS: [u8; 16] = *b"0123456789ABCDEF";
+// Bytes are written in hexadecimal.
+const BASE: usize = 16;
 
-// The free functions that a protocol may declare.
-const MOST_FREE: usize = 16;
+const DIGITS: [u8; BASE] = *b"0123456789ABCDEF";
 
-// A protocol file of free functions alone: how many, their arities, no fact symbols, no rules.
-const PROTOCOL: usize = MOST_FREE + 3;
+// The counts of a protocol file that has free functions alone, a byte each: those, fact symbols, rules.
+const COUNTS: usize = 3;
 
-// The room for a canonical form, and the work area that the call asks for.
+// The room for a canonical form.
 const OUTPUT: usize = 1024;
 
+// The work area that the call asks for.
 const WORK: usize = 65536;
 
 fn show_byte(x: u8) {
-    let digits = [b' ', DIGITS[(x / 16) as usize], DIGITS[(x % 16) as usize]];
+    let n = x as usize;
+    let digits = [b' ', DIGITS[n / BASE], DIGITS[n % BASE]];
     case_file::show_text(&digits);
 }
 
@@ -33,12 +36,12 @@ fn show_form(free: &[u8], term: &[u8]) {
     if MOST_FREE < free.len() {
         return;
     }
-    let mut protocol = [0u8; PROTOCOL];
+    let mut protocol = [0u8; COUNTS + MOST_FREE];
     protocol[0] = free.len() as u8;
     octets::copy_into(&mut protocol, 1, free);
     let mut output = [0u8; OUTPUT];
     let mut work = [0u8; WORK];
-    let last = free.len() + 3;
+    let last = COUNTS + free.len();
     match checker::canonical_form(&protocol[0..last], term, &mut output, &mut work) {
         Written::Length(n) => {
             let end = n as usize;
