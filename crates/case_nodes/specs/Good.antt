@@ -1,8 +1,11 @@
 -- What is left of a case whose step list is good: the index of its protocol, and the places of its nodes.
-use Prim.Native.Nat.{ℕ, _^_, _≤_}
+use Prim.Native.Nat.{ℕ, _≤_}
 use mathlib.Core.List.{List}
 use mathlib.Core.Path.{_≡_}
 use lib.ListN.{length, take}
+use Rattle.protocol.specs.Figures.{symbolCount, mostRules}
+use Rattle.term.specs.Tags.{tagCount}
+use Rattle.octets.specs.Limits.{longest}
 use Rattle.rules.specs.Fit.Laws.{Indexes}
 use Rattle.rules.specs.declared.fit.Judged.{Judged}
 use Rattle.rules.specs.declared.fit.Judged.the-variants.{Sound}
@@ -17,7 +20,7 @@ use Rattle.case_nodes.specs.declared.Ruled.the-variants.{Good, Refused}
 module _ (protocol arities symbols rules : List ℕ) where
   -- the index of a fit protocol with ns fact symbols and nr rules
   pub record Indexed (ns nr : ℕ) : Type 0 where
-    pub few : ns ≤ 36
+    pub few : ns ≤ symbolCount
     pub given : Given protocol arities rules nr
     pub table : ArityTable protocol arities rules nr (take ns symbols)
 
@@ -33,7 +36,7 @@ module _ (protocol arities symbols rules : List ℕ) where
   -- as the judgement of the protocol says
   pub indexed :
       (flags : List ℕ) (r : Judged) (ns nr : ℕ) → r ≡ Sound ns nr → Indexes protocol r arities symbols flags rules
-      → length protocol ≤ 2 ^ 32 → length arities ≡ 29 → 64 ≤ length rules → Indexed ns nr
+      → length protocol ≤ longest → length arities ≡ tagCount → mostRules ≤ length rules → Indexed ns nr
   indexed flags r ns nr is index short slots many = record {
     few = sound-few protocol arities symbols flags rules r ns nr is index;
     given = sound-given protocol arities symbols flags rules r ns nr is index short slots many;

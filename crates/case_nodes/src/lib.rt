@@ -1,30 +1,23 @@
 // The step list of a case, ruled under the protocol of the case. The constants are the most that document 01 allows.
-ghost use Prim.Native.Nat.{_^_, _≤_};
+ghost use Prim.Native.Nat.{_≤_};
 ghost use lib.ListN.{length};
+ghost use Rattle.octets.specs.Limits.{longest};
 ghost use Rattle.case_nodes.specs.Good.{Indexed, WhereGood};
+use protocol::figures;
 use rules::fit;
 use steps::ruling;
 
 // The arities, a slot for each tag.
-pub const SLOTS: usize = 29;
+pub const SLOTS: usize = term::TAGS;
 
 // The fact symbols, with the four built-in ones.
-pub const SYMBOLS: usize = 36;
+pub const SYMBOLS: usize = figures::SYMBOLS;
 
 // The rules.
-pub const RULES: usize = 64;
+pub const RULES: usize = figures::MOST_RULES;
 
 // The nodes of a step list.
-pub const NODES: usize = 512;
-
-// Document 01's refusal of a fault in a file's layout.
-const LAYOUT: usize = 3;
-
-// The protocol file's number.
-const PROTOCOL: usize = 1;
-
-// Document 01's refusal of a rule that breaks a condition.
-const UNFIT: usize = 4;
+pub const NODES: usize = steps::nodes::MOST_NODES;
 
 // How many fact symbols and rules the protocol has, and nodes the list.
 pub struct Counts {
@@ -50,7 +43,7 @@ fn rule_list(
     nr: usize,
     nodes: &mut [usize; NODES],
 ) -> Ruled
-    requires { ⌜ (length (now list) ≤ 2 ^ 32) × Indexed (now protocol) (now arities) (now symbols) (now rules) ns nr ⌝ }
+    requires { ⌜ (length (now list) ≤ longest) × Indexed (now protocol) (now arities) (now symbols) (now rules) ns nr ⌝ }
     ensures { λ r. ⌜ WhereGood (now (protocol .entry)) (now (arities .entry)) (now (symbols .entry)) (now (rules .entry)) (now (list .entry)) (now (nodes .exit)) r ⌝ }
 {
     let all: &[u8] = symbols;
@@ -73,7 +66,7 @@ pub fn rule_case(
     rules: &mut [usize; RULES],
     nodes: &mut [usize; NODES],
 ) -> Ruled
-    requires { ⌜ (length (now protocol) ≤ 2 ^ 32) × (length (now list) ≤ 2 ^ 32) ⌝ }
+    requires { ⌜ (length (now protocol) ≤ longest) × (length (now list) ≤ longest) ⌝ }
     ensures { λ r. ⌜ WhereGood (now (protocol .entry)) (now (arities .exit)) (now (symbols .exit)) (now (rules .exit)) (now (list .entry)) (now (nodes .exit)) r ⌝ }
 {
     let mut flags = [0u8; SYMBOLS];
@@ -88,7 +81,7 @@ pub fn rule_case(
             nr,
             nodes,
         ),
-        fit::Judged::Broken(k) => Ruled::Refused(UNFIT, k),
-        fit::Judged::Fault => Ruled::Refused(LAYOUT, PROTOCOL),
+        fit::Judged::Broken(k) => Ruled::Refused(rewriting::CONDITION_BROKEN, k),
+        fit::Judged::Fault => Ruled::Refused(rewriting::LAYOUT, rewriting::PROTOCOL_ITEM),
     }
 }

@@ -13,7 +13,7 @@ mod table; // the facts of the nodes, and their arguments
 mod outcome; // which of them are the same
 
 // The room for the canonical bytes of two facts.
-const OUT: usize = 16384;
+const OUT: usize = 2 * facts::writing::FACT_ROOM;
 
 // The nodes of a good case.
 fn show_nodes(

@@ -1,6 +1,7 @@
 // What the calls of crate facts say of the facts and the arguments of a table.
-ghost use Prim.Native.Nat.{_^_, _≤_, _<_};
+ghost use Prim.Native.Nat.{_≤_, _<_};
 ghost use lib.ListN.{length};
+ghost use Rattle.octets.specs.Limits.{longest};
 ghost use Rattle.steps.specs.Index.{Given};
 ghost use Rattle.steps.specs.Values.Filled.{ArityTable};
 ghost use Rattle.facts.specs.Writing.{factRoom};
@@ -39,7 +40,7 @@ fn first_fact(
     rules: &[usize],
     nr: usize,
 ) -> usize
-    requires { ⌜ (k < facts .n) × Room (now out) factRoom × (length (now s) ≤ 2 ^ 32) × Given (now protocol) (now arities) (now rules) nr × ArityTable (now protocol) (now arities) (now rules) nr (now ars) × FactsListed (now protocol) (now arities) (now rules) nr (now s) facts ⌝ }
+    requires { ⌜ (k < facts .n) × Room (now out) factRoom × (length (now s) ≤ longest) × Given (now protocol) (now arities) (now rules) nr × ArityTable (now protocol) (now arities) (now rules) nr (now ars) × FactsListed (now protocol) (now arities) (now rules) nr (now s) facts ⌝ }
 {
     let places = facts.places;
     let n = facts.n;
@@ -66,7 +67,7 @@ pub fn show_facts(
     rules: &[usize],
     nr: usize,
 )
-    requires { ⌜ Room (now out) factRoom × (length (now s) ≤ 2 ^ 32) × Given (now protocol) (now arities) (now rules) nr × ArityTable (now protocol) (now arities) (now rules) nr (now ars) × FactsListed (now protocol) (now arities) (now rules) nr (now s) facts ⌝ }
+    requires { ⌜ Room (now out) factRoom × (length (now s) ≤ longest) × Given (now protocol) (now arities) (now rules) nr × ArityTable (now protocol) (now arities) (now rules) nr (now ars) × FactsListed (now protocol) (now arities) (now rules) nr (now s) facts ⌝ }
 {
     let n = facts.n;
     let mut k: usize = 0;
@@ -88,7 +89,7 @@ fn first_argument(
     rules: &[usize],
     nr: usize,
 ) -> usize
-    requires { ⌜ (k < arguments .n) × Room (now out) factRoom × (length (now s) ≤ 2 ^ 32) × Given (now protocol) (now arities) (now rules) nr × ArityTable (now protocol) (now arities) (now rules) nr (now ars) × ArgumentsListed (now protocol) (now arities) (now rules) nr (now s) arguments ⌝ }
+    requires { ⌜ (k < arguments .n) × Room (now out) factRoom × (length (now s) ≤ longest) × Given (now protocol) (now arities) (now rules) nr × ArityTable (now protocol) (now arities) (now rules) nr (now ars) × ArgumentsListed (now protocol) (now arities) (now rules) nr (now s) arguments ⌝ }
 {
     let each = arguments.each;
     let n = arguments.n;
@@ -127,7 +128,7 @@ pub fn show_arguments(
     rules: &[usize],
     nr: usize,
 )
-    requires { ⌜ Room (now out) factRoom × (length (now s) ≤ 2 ^ 32) × Given (now protocol) (now arities) (now rules) nr × ArityTable (now protocol) (now arities) (now rules) nr (now ars) × ArgumentsListed (now protocol) (now arities) (now rules) nr (now s) arguments ⌝ }
+    requires { ⌜ Room (now out) factRoom × (length (now s) ≤ longest) × Given (now protocol) (now arities) (now rules) nr × ArityTable (now protocol) (now arities) (now rules) nr (now ars) × ArgumentsListed (now protocol) (now arities) (now rules) nr (now s) arguments ⌝ }
 {
     let n = arguments.n;
     let mut k: usize = 0;
@@ -148,7 +149,7 @@ fn public_name(
     rules: &[usize],
     nr: usize,
 ) -> usize
-    requires { ⌜ Room (now out) factRoom × (length (now s) ≤ 2 ^ 32) × Given (now protocol) (now arities) (now rules) nr × ArityTable (now protocol) (now arities) (now rules) nr (now ars) × HasOne (now protocol) (now arities) (now rules) nr (now s) (a .place) (a .number) ⌝ }
+    requires { ⌜ Room (now out) factRoom × (length (now s) ≤ longest) × Given (now protocol) (now arities) (now rules) nr × ArityTable (now protocol) (now arities) (now rules) nr (now ars) × HasOne (now protocol) (now arities) (now rules) nr (now s) (a .place) (a .number) ⌝ }
 {
     let x = a.place;
     let i = a.number;
@@ -178,7 +179,7 @@ pub fn show_names(
     rules: &[usize],
     nr: usize,
 )
-    requires { ⌜ Room (now out) factRoom × (length (now s) ≤ 2 ^ 32) × Given (now protocol) (now arities) (now rules) nr × ArityTable (now protocol) (now arities) (now rules) nr (now ars) × ArgumentsListed (now protocol) (now arities) (now rules) nr (now s) arguments ⌝ }
+    requires { ⌜ Room (now out) factRoom × (length (now s) ≤ longest) × Given (now protocol) (now arities) (now rules) nr × ArityTable (now protocol) (now arities) (now rules) nr (now ars) × ArgumentsListed (now protocol) (now arities) (now rules) nr (now s) arguments ⌝ }
 {
     let each = arguments.each;
     let n = arguments.n;

@@ -17,7 +17,7 @@ const MOST_FACTS: usize = 64;
 const MOST_ARGUMENTS: usize = 256;
 
 // The lists of facts of a node: premises, actions, conclusions.
-const LISTS: usize = 3;
+const LISTS: usize = protocol::figures::LISTS;
 
 // The places of the first n facts.
 pub struct Facts {

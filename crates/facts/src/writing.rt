@@ -15,6 +15,9 @@ ghost use Rattle.steps.specs.Values.Parts.{noTerm};
 ghost use Rattle.facts.specs.Writing.{Put, WantedJob, wantedBytes};
 use term::Part;
 
+// The bytes that are kept free for a fact: as many terms as it can have.
+pub const FACT_ROOM: usize = protocol::figures::MOST_FACT_ARITY * term::TERM_ROOM;
+
 // The arguments of a fact that are written: all of them, or the one of a number, from 0.
 pub enum Wanted {
     All,
