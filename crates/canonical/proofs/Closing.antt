@@ -13,7 +13,7 @@ use Rattle.octets.specs.Splice.Prefix.{Wrote}
 use Rattle.term.specs.Term.{Term, app, Terms, nil, _&_, count, encode}
 use Rattle.term.specs.Arity.{arity}
 use Rattle.message.specs.Table.{rules}
-use Rattle.message.specs.Canon.{as2, mk}
+use Rattle.message.specs.Canon.{asBinary, apply}
 use Rattle.message.specs.Gather.{multiplied, raised}
 use Rattle.message.specs.Made.{made-free, made-exp}
 use Rattle.product.specs.Contracts as product
@@ -24,18 +24,18 @@ use Rattle.canonical.specs.Loose.Laws.{closed-stays, closed-product, clo
 use Rattle.canonical.specs.Inner.{Built}
 use Rattle.canonical.proofs.Parts.{two-args, stays}
 
-module _ (slots out : List ℕ) (o e : ℕ) where
+module _ (arities out : List ℕ) (o e : ℕ) where
   -- the function as it stands
-  as-it-stands : (f : ℕ) (us : Terms) (t : Term) → t ≡ app f us → Built slots out o e f us → Wrote e out o out e (encode t)
+  as-it-stands : (f : ℕ) (us : Terms) (t : Term) → t ≡ app f us → Built arities out o e f us → Wrote e out o out e (encode t)
   as-it-stands f us t q b =
       subst (λ (z : Term). Wrote e out o out e (encode z)) (sym q) (stays out o e (encode (app f us)) (b .here .stands))
 
   -- as products and powers are asked for
-  as-asked : (f : ℕ) (us : Terms) → Built slots out o e f us → product.Whole slots out o e (app f us)
+  as-asked : (f : ℕ) (us : Terms) → Built arities out o e f us → product.Whole arities out o e (app f us)
   as-asked f us b =
       let s = b .small in
       record {
-        group = group slots (b .table);
+        group = group arities (b .table);
         formed = b .here .formed;
         range = b .here .range;
         stands = b .here .stands;
@@ -46,48 +46,48 @@ module _ (slots out : List ℕ) (o e : ℕ) where
 
   -- ── the tag is g ──
   module _ (tag g : ℕ) (is : tag ≡ g) where
-    pub as-tag : Asks (Built slots out o e tag) → Asks (Built slots out o e g)
-    as-tag w = subst (λ (f : ℕ). (Asks (Built slots out o e f))) is w
+    pub as-tag : Asks (Built arities out o e tag) → Asks (Built arities out o e g)
+    as-tag w = subst (λ (f : ℕ). (Asks (Built arities out o e f))) is w
 
-    pub by-tag : (out′ : List ℕ) (r : ℕ) → Promises (Built slots out o e g) (λ (us : Terms). Wrote e out o out′ r (encode (mk rules g us))) → Promises
-        (Built slots out o e tag) (λ (us : Terms). Wrote e out o out′ r (encode (mk rules tag us)))
-    by-tag out′ r h = subst (λ (f : ℕ). (Promises (Built slots out o e f) (λ (us : Terms). Wrote e out o out′ r (encode (mk rules f us))))) (sym is) h
+    pub by-tag : (out′ : List ℕ) (r : ℕ) → Promises (Built arities out o e g) (λ (us : Terms). Wrote e out o out′ r (encode (apply rules g us))) → Promises
+        (Built arities out o e tag) (λ (us : Terms). Wrote e out o out′ r (encode (apply rules tag us)))
+    by-tag out′ r h = subst (λ (f : ℕ). (Promises (Built arities out o e f) (λ (us : Terms). Wrote e out o out′ r (encode (apply rules f us))))) (sym is) h
 
   -- ── exp ──
   record Exp (us : Terms) : Type 0 where
     x : Term
     y : Term
     is : us ≡ x & (y & nil)
-    built : Built slots out o e expTag (x & (y & nil))
+    built : Built arities out o e expTag (x & (y & nil))
 
-  exp-of : (us : Terms) → Built slots out o e expTag us → Exp us
+  exp-of : (us : Terms) → Built arities out o e expTag us → Exp us
   exp-of us b =
-      let n : some (count us) ≡ some 2 = sym (b .here .formed .0) ∙ group slots (b .table) .exp-arity in
+      let n : some (count us) ≡ some 2 = sym (b .here .formed .0) ∙ group arities (b .table) .exp-arity in
       let w = two-args us (cc) in
-      record { x = w .0; y = w .1; is = w .2; built = subst (Built slots out o e expTag) (w .2) b }
+      record { x = w .0; y = w .1; is = w .2; built = subst (Built arities out o e expTag) (w .2) b }
 
-  pub exp-asks : Asks (Built slots out o e expTag) → Asks₃ (product.WholePower slots out o)
+  pub exp-asks : Asks (Built arities out o e expTag) → Asks₃ (product.WholePower arities out o)
   exp-asks (us, b) = let p = exp-of us b in (e, p .x, p .y, as-asked expTag (p .x & (p .y & nil)) (p .built))
 
-  pub exp-done : (out′ : List ℕ) (r : ℕ) → Promises₃ (product.WholePower slots out o)
-      (λ (e : ℕ) (x y : Term). Wrote e out o out′ r (encode (raised (as2 expTag x) x y)))
-      → Promises (Built slots out o e expTag) (λ (us : Terms). Wrote e out o out′ r (encode (mk rules expTag us)))
+  pub exp-done : (out′ : List ℕ) (r : ℕ) → Promises₃ (product.WholePower arities out o)
+      (λ (e : ℕ) (x y : Term). Wrote e out o out′ r (encode (raised (asBinary expTag x) x y)))
+      → Promises (Built arities out o e expTag) (λ (us : Terms). Wrote e out o out′ r (encode (apply rules expTag us)))
   exp-done out′ r h us b =
       let p = exp-of us b in
       let w = p .built .here .formed .1 in
-      let q : mk rules expTag us ≡ raised (as2 expTag (p .x)) (p .x) (p .y) =
-      ap (mk rules expTag) (p .is) ∙ made-exp (arity slots) (group slots (b .table)) (p .x) (p .y) (w .0) (w .1 .0) in
+      let q : apply rules expTag us ≡ raised (asBinary expTag (p .x)) (p .x) (p .y) =
+      ap (apply rules expTag) (p .is) ∙ made-exp (arity arities) (group arities (b .table)) (p .x) (p .y) (w .0) (w .1 .0) in
       subst (λ (t : Term). Wrote e out o out′ r (encode t)) (sym q) (h e (p .x) (p .y) (as-asked expTag (p .x & (p .y & nil)) (p .built)))
 
   -- ── a function without a rule ──
   pub free-done :
-      (tag : ℕ) → isProduct tag ≡ false → tag ≢ decTag → tag ≢ fstTag → tag ≢ sndTag → tag ≢ expTag → Promises (Built slots out o e tag)
-      (λ (us : Terms). Wrote e out o out e (encode (mk rules tag us)))
+      (tag : ℕ) → isProduct tag ≡ false → tag ≢ decTag → tag ≢ fstTag → tag ≢ sndTag → tag ≢ expTag → Promises (Built arities out o e tag)
+      (λ (us : Terms). Wrote e out o out e (encode (apply rules tag us)))
   free-done tag p a b c d us h =
       let other : (g : ℕ) → isProduct g ≡ true → tag ≢ g =
       λ g t q. let z : true ≡ false = sym t ∙ ap isProduct (sym q) ∙ p in clash (cc) in
-      as-it-stands tag us (mk rules tag us)
-      (made-free (arity slots) (group slots (h .table)) tag us (record {
+      as-it-stands tag us (apply rules tag us)
+      (made-free (arity arities) (group arities (h .table)) tag us (record {
         no-one = other oneTag refl;
         no-exp = d;
         no-inv = other invTag refl;
@@ -98,25 +98,26 @@ module _ (slots out : List ℕ) (o e : ℕ) where
 
   -- ── inside a product and outside ──
   module _ (tag : ℕ) (inside : Bool) where
-    pub inner-done : isProduct tag ≡ true → inside ≡ true → Promises (Built slots out o e tag)
+    pub inner-done : isProduct tag ≡ true → inside ≡ true → Promises (Built arities out o e tag)
         (λ (us : Terms). Wrote e out o out e (encode (closed inside tag us)))
     inner-done p i us b =
         as-it-stands tag us (closed inside tag us) (ap (λ (z : Bool). closed z tag us) i ∙ closed-stays true tag us p) b
 
-    pub product-asks : Asks (Built slots out o e tag) → Asks₂ (product.Whole slots out o)
+    pub product-asks : Asks (Built arities out o e tag) → Asks₂ (product.Whole arities out o)
     product-asks (us, b) = (e, app tag us, as-asked tag us b)
 
     pub product-done :
-        isProduct tag ≡ true → inside ≡ false → (out′ : List ℕ) (r : ℕ) → Promises₂ (product.Whole slots out o)
+        isProduct tag ≡ true → inside ≡ false → (out′ : List ℕ) (r : ℕ) → Promises₂ (product.Whole arities out o)
         (λ (e : ℕ) (t : Term). Wrote e out o out′ r (encode (multiplied (t & nil))))
-        → Promises (Built slots out o e tag) (λ (us : Terms). Wrote e out o out′ r (encode (closed inside tag us)))
+        → Promises (Built arities out o e tag) (λ (us : Terms). Wrote e out o out′ r (encode (closed inside tag us)))
     product-done p i out′ r h us b =
         let q : closed inside tag us ≡ multiplied (app tag us & nil) =
         ap (λ (z : Bool). closed z tag us) i ∙ closed-product false tag us p in
         subst (λ (t : Term). Wrote e out o out′ r (encode t)) (sym q) (h e (app tag us) (as-asked tag us b))
 
     pub other-done :
-        isProduct tag ≡ false → (out′ : List ℕ) (r : ℕ) → Promises (Built slots out o e tag) (λ (us : Terms). Wrote e out o out′ r (encode (mk rules tag us)))
-        → Promises (Built slots out o e tag) (λ (us : Terms). Wrote e out o out′ r (encode (closed inside tag us)))
+        isProduct tag ≡ false → (out′ : List ℕ) (r : ℕ) → Promises (Built arities out o e tag)
+        (λ (us : Terms). Wrote e out o out′ r (encode (apply rules tag us)))
+        → Promises (Built arities out o e tag) (λ (us : Terms). Wrote e out o out′ r (encode (closed inside tag us)))
     other-done p out′ r h us b =
         subst (λ (t : Term). Wrote e out o out′ r (encode t)) (sym (closed-other inside tag us p)) (h us b)

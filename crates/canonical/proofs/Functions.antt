@@ -22,37 +22,38 @@ use Rattle.canonical.specs.Loose.{isProduct, closed, mades}
 use Rattle.canonical.specs.Loose.Laws.{sub-range, app-size, sound, sounds}
 use Rattle.canonical.specs.Contract.{Job, Out}
 use Rattle.canonical.specs.Inner.{Built, Here}
-use Rattle.canonical.proofs.Steps.{room-one, next-job, args-job, op-case}
+use Rattle.canonical.proofs.Making.{room-one, next-job, args-job, op-case}
 
-module _ (slots vals starts src : List ℕ) (at k : ℕ) (out : List ℕ) (o : ℕ) (isLeaf : Bool) (tag number next : ℕ)
-    (F : Promises₂ (Here slots src at) (λ (e : ℕ) (t : Term). FirstAt t at isLeaf tag number next)) (more : k ≢ 0) (b : isLeaf ≡ false) where
+module _ (arities vals starts src : List ℕ) (at k : ℕ) (out : List ℕ) (o : ℕ) (isLeaf : Bool) (tag number next : ℕ)
+    (F : Promises₂ (Here arities src at) (λ (e : ℕ) (t : Term). FirstAt t at isLeaf tag number next)) (more : k ≢ 0) (b : isLeaf ≡ false) where
   by-op :
-      (P : Type 0) → Asks₂ (Job slots vals starts src at k (length out) o)
+      (P : Type 0) → Asks₂ (Job arities vals starts src at k (length out) o)
       → ((θ : ℕ → Term) (args us : Terms) → count args ≡ number → next ≡ at + length (groups tag)
-      → Job slots vals starts src at k (length out) o θ (app tag args & us) → P)
+      → Job arities vals starts src at k (length out) o θ (app tag args & us) → P)
       → P
-  by-op P (θ, ts, J) c = op-case slots vals starts src at k (length out) o isLeaf tag number next F more (λ ts. P) θ ts b J (c θ)
+  by-op P (θ, ts, J) c = op-case arities vals starts src at k (length out) o isLeaf tag number next F more (λ ts. P) θ ts b J (c θ)
 
-  pub tag-asks : Asks₂ (Job slots vals starts src at k (length out) o) → (tag < numberLimit) × (o + length (groups tag) ≤ length out)
+  pub tag-asks : Asks₂ (Job arities vals starts src at k (length out) o) → (tag < numberLimit) × (o + length (groups tag) ≤ length out)
   tag-asks R = by-op _ R (λ θ args us c e J.
-      let r = room-one slots vals starts src at k (length out) o θ (app tag args) us J in
+      let r = room-one arities vals starts src at k (length out) o θ (app tag args) us J in
       (J .range .0 .0, omega (arith, r, length-append (groups tag) (encodes (subs θ args)))))
 
   module _ (out₁ : List ℕ) (a : ℕ) (same₁ : length out₁ ≡ length out) (A : Wrote a out o out₁ a (groups tag)) where
     arguments :
         (θ : ℕ → Term) (args us : Terms) → count args ≡ number → next ≡ at + length (groups tag)
-        → Job slots vals starts src at k (length out) o θ (app tag args & us) → Job slots vals starts src next number (length out₁) a θ args
+        → Job arities vals starts src at k (length out) o θ (app tag args & us) → Job arities vals starts src next number (length out₁) a θ args
     arguments θ args us c e J =
-        args-job slots vals starts src at k (length out) o θ tag args us J next number (length out₁) a e c same₁ (A .ends)
+        args-job arities vals starts src at k (length out) o θ tag args us J next number (length out₁) a e c same₁ (A .ends)
 
-    pub args-asks : Asks₂ (Job slots vals starts src at k (length out) o) → Asks₂ (Job slots vals starts src next number (length out₁) a)
+    pub args-asks : Asks₂ (Job arities vals starts src at k (length out) o) → Asks₂ (Job arities vals starts src next number (length out₁) a)
     args-asks R = by-op _ R (λ θ args us c e J. (θ, args, arguments θ args us c e J))
 
     module _ (p : Bool) (is : p ≡ isProduct tag) (out₂ : List ℕ) (at₂ e : ℕ) (same₂ : length out₂ ≡ length out)
-        (M : Promises₂ (Job slots vals starts src next number (length out₁) a) (λ (θ : ℕ → Term) (ts : Terms). Out (a + length (encodes (subs θ ts))) next out₁
+        (M : Promises₂ (Job arities vals starts src next number (length out₁) a) (λ (θ : ℕ → Term) (ts : Terms). Out (a + length (encodes (subs θ ts))) next
+        out₁
         a out₂ at₂ e (encodes ts) (encodes (mades p θ ts)))) where
       record Inner (θ : ℕ → Term) (args us : Terms) : Type 0 where
-        built : Built slots out₂ o e tag (mades (isProduct tag) θ args)
+        built : Built arities out₂ o e tag (mades (isProduct tag) θ args)
         wrote : Wrote (o + length (encodes (subs θ (app tag args & us)))) out o out₂ e (encode (app tag (mades (isProduct tag) θ args)))
         read : at₂ ≡ at + length (encode (app tag args))
         smaller : (inside : Bool) → length (encode (closed inside tag (mades (isProduct tag) θ args))) ≤ length (encode (sub θ (app tag args)))
@@ -60,7 +61,7 @@ module _ (slots vals starts src : List ℕ) (at k : ℕ) (out : List ℕ) (o : �
 
       inner :
           (θ : ℕ → Term) (args us : Terms) → count args ≡ number → next ≡ at + length (groups tag)
-          → Job slots vals starts src at k (length out) o θ (app tag args & us) → Inner θ args us
+          → Job arities vals starts src at k (length out) o θ (app tag args & us) → Inner θ args us
       inner θ args us c d J =
           let vs : Terms = mades (isProduct tag) θ args in
           let m = subst (λ (i : Bool). Out (a + length (encodes (subs θ args))) next out₁ a out₂ at₂ e (encodes args) (encodes (mades i θ args))) is
@@ -71,11 +72,11 @@ module _ (slots vals starts src : List ℕ) (at k : ℕ) (out : List ℕ) (o : �
           let h = length-append (groups tag) (encodes (subs θ args)) in
           let wrote : Wrote w out o out₂ e (encode (app tag vs)) =
           wrote-then (widen w (omega (arith, A .ends, l, h)) A) (widen w (omega (arith, A .ends, l, h)) (m .wrote)) in
-          let formed = sub-formed (arity slots) θ (app tag args) (J .formed .0) (λ v i. J .values v (inl i) .formed) in
+          let formed = sub-formed (arity arities) θ (app tag args) (J .formed .0) (λ v i. J .values v (inl i) .formed) in
           let range = sub-range θ (app tag args) (J .range .0) (λ v i. J .values v (inl i) .range) in
           let own : (v : ℕ) → Occurss variable v args → canon (θ v) ≡ θ v = λ v i. J .values v (inl i) .own in
-          let g = group slots (J .table) in
-          let z = app-size (arity slots) tag vs (subs θ args) (sounds (arity slots) g θ args (isProduct tag) (formed .1) own .sizes) in
+          let g = group arities (J .table) in
+          let z = app-size (arity arities) tag vs (subs θ args) (sounds (arity arities) g θ args (isProduct tag) (formed .1) own .sizes) in
           let s = J .small .0 in
           record {
             built = record {
@@ -90,37 +91,37 @@ module _ (slots vals starts src : List ℕ) (at k : ℕ) (out : List ℕ) (o : �
             };
             wrote = wrote;
             read = omega (arith, m .read, d, length-append (groups tag) (encodes args));
-            smaller = λ inside. sound (arity slots) g θ (app tag args) inside formed own .size .bytes-less;
+            smaller = λ inside. sound (arity arities) g θ (app tag args) inside formed own .size .bytes-less;
             ends = omega (arith, wrote .ends, z .bytes-less);
           }
 
-      pub close-asks : Asks₂ (Job slots vals starts src at k (length out) o) → Asks (Built slots out₂ o e tag)
+      pub close-asks : Asks₂ (Job arities vals starts src at k (length out) o) → Asks (Built arities out₂ o e tag)
       close-asks R = by-op _ R (λ θ args us c d J. (mades (isProduct tag) θ args, inner θ args us c d J .built))
 
-      pub onward : Asks₂ (Job slots vals starts src at k (length out) o) → at < at₂
+      pub onward : Asks₂ (Job arities vals starts src at k (length out) o) → at < at₂
       onward R = by-op _ R (λ θ args us c d J. omega (arith, inner θ args us c d J .read, encode-some (app tag args)))
 
       module _ (inside : Bool) (out₃ : List ℕ) (r : ℕ) (same₃ : length out₃ ≡ length out)
-          (C : Promises (Built slots out₂ o e tag) (λ (us : Terms). Wrote e out₂ o out₃ r (encode (closed inside tag us)))) where
+          (C : Promises (Built arities out₂ o e tag) (λ (us : Terms). Wrote e out₂ o out₃ r (encode (closed inside tag us)))) where
         after-job :
             (θ : ℕ → Term) (args us : Terms) → count args ≡ number → next ≡ at + length (groups tag)
-            → Job slots vals starts src at k (length out) o θ (app tag args & us) → Job slots vals starts src at₂ (k - 1) (length out₃) r θ us
+            → Job arities vals starts src at k (length out) o θ (app tag args & us) → Job arities vals starts src at₂ (k - 1) (length out₃) r θ us
         after-job θ args us c d J =
             let i = inner θ args us c d J in
             let w = C (mades (isProduct tag) θ args) (i .built) in
-            next-job slots vals starts src at k (length out) o θ (app tag args) us J at₂ (length out₃) r (i .read) same₃
+            next-job arities vals starts src at k (length out) o θ (app tag args) us J at₂ (length out₃) r (i .read) same₃
             (omega (arith, w .ends, i .smaller inside))
 
-        pub rest-asks : Asks₂ (Job slots vals starts src at k (length out) o) → Asks₂ (Job slots vals starts src at₂ (k - 1) (length out₃) r)
+        pub rest-asks : Asks₂ (Job arities vals starts src at k (length out) o) → Asks₂ (Job arities vals starts src at₂ (k - 1) (length out₃) r)
         rest-asks R = by-op _ R (λ θ args us c d J. (θ, us, after-job θ args us c d J))
 
         pub op-done :
-            (out′ : List ℕ) (at′ o′ : ℕ) → Promises₂ (Job slots vals starts src at₂ (k - 1) (length out₃) r)
+            (out′ : List ℕ) (at′ o′ : ℕ) → Promises₂ (Job arities vals starts src at₂ (k - 1) (length out₃) r)
             (λ (θ : ℕ → Term) (ts : Terms). Out (r + length (encodes (subs θ ts))) at₂ out₃ r out′ at′ o′ (encodes ts) (encodes (mades inside θ ts)))
-            → Promises₂ (Job slots vals starts src at k (length out) o) (λ (θ : ℕ → Term) (ts : Terms). Out (o + length (encodes (subs θ ts))) at out o out′
+            → Promises₂ (Job arities vals starts src at k (length out) o) (λ (θ : ℕ → Term) (ts : Terms). Out (o + length (encodes (subs θ ts))) at out o out′
             at′ o′ (encodes ts) (encodes (mades inside θ ts)))
         op-done out′ at′ o′ N θ ts J =
-            op-case slots vals starts src at k (length out) o isLeaf tag number next F more
+            op-case arities vals starts src at k (length out) o isLeaf tag number next F more
             (λ ts. Out (o + length (encodes (subs θ ts))) at out o out′ at′ o′ (encodes ts) (encodes (mades inside θ ts))) θ ts b J
             (λ args us c d J.
             let i = inner θ args us c d J in

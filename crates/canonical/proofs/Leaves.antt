@@ -17,21 +17,21 @@ use Rattle.canonical.specs.Inner.{LeafJob}
 use Rattle.canonical.proofs.Writes.{spliced}
 use Rattle.canonical.proofs.Parts.{bytes-are}
 
-module _ (slots vals starts : List ℕ) (n o tag number : ℕ) where
+module _ (arities vals starts : List ℕ) (n o tag number : ℕ) where
   -- ── a variable ──
   pub record Taken (bytes : Bytes vals) (θ : ℕ → Term) (k : Kind) : Type 0 where
     pub is : k ≡ variable
     pub listed : number < length starts
-    pub part-is : bytesOf (term vals slots (getD starts number 0)) ≡ encode (θ number)
+    pub part-is : bytesOf (term vals arities (getD starts number 0)) ≡ encode (θ number)
     pub fits : o + length (encode (θ number)) ≤ n
 
-  pub value-of : (bytes : Bytes vals) (θ : ℕ → Term) (k : Kind) → tag ≡ 0 → LeafJob slots vals starts n o tag number θ k → Taken bytes θ k
+  pub value-of : (bytes : Bytes vals) (θ : ℕ → Term) (k : Kind) → tag ≡ 0 → LeafJob arities vals starts n o tag number θ k → Taken bytes θ k
   value-of bytes θ variable z j =
       let v = j .values number refl in
       record {
         is = refl;
         listed = v .listed;
-        part-is = bytes-are slots vals bytes (getD starts number 0) (θ number) _
+        part-is = bytes-are arities vals bytes (getD starts number 0) (θ number) _
             (record { formed = v .formed; range = v .range; stands = stands-at vals (getD starts number 0) (encode (θ number)) (v .rest) (v .there) });
         fits = j .room;
       }
@@ -46,7 +46,7 @@ module _ (slots vals starts : List ℕ) (n o tag number : ℕ) where
     pub fits : o + length (groups tag) + length (groups number) ≤ n
 
   named : (θ : ℕ → Term) (k : Kind) → encode (sub θ (leaf k number)) ≡ groups tag ++ groups number → tag < 3
-      → LeafJob slots vals starts n o tag number θ k → Named θ k
+      → LeafJob arities vals starts n o tag number θ k → Named θ k
   unfolding numberLimit
   named θ k q l j = record {
     is = q;
@@ -55,25 +55,25 @@ module _ (slots vals starts : List ℕ) (n o tag number : ℕ) where
     fits = omega (arith, j .room, ap length q, length-append (groups tag) (groups number));
   }
 
-  pub name-of : (θ : ℕ → Term) (k : Kind) → (tag ≡ 0 → ⊥) → LeafJob slots vals starts n o tag number θ k → Named θ k
+  pub name-of : (θ : ℕ → Term) (k : Kind) → (tag ≡ 0 → ⊥) → LeafJob arities vals starts n o tag number θ k → Named θ k
   name-of θ variable z j = absurd (z (j .kind))
   name-of θ public z j = named θ public (ap (λ (i : ℕ). groups i ++ groups number) (sym (j .kind))) (omega (arith, j .kind)) j
   name-of θ fresh z j = named θ fresh (ap (λ (i : ℕ). groups i ++ groups number) (sym (j .kind))) (omega (arith, j .kind)) j
 
-module _ (slots vals starts : List ℕ) (bytes : Bytes vals) (out : List ℕ) (o tag number : ℕ) where
+module _ (arities vals starts : List ℕ) (bytes : Bytes vals) (out : List ℕ) (o tag number : ℕ) where
   pub value-done :
-      tag ≡ 0 → (part out′ : List ℕ) (r : ℕ) → part ≡ bytesOf (term vals slots (getD starts number 0)) → r ≡ o + length part
-      → out′ ≡ splice out o part → Promises₂ (LeafJob slots vals starts (length out) o tag number)
+      tag ≡ 0 → (part out′ : List ℕ) (r : ℕ) → part ≡ bytesOf (term vals arities (getD starts number 0)) → r ≡ o + length part
+      → out′ ≡ splice out o part → Promises₂ (LeafJob arities vals starts (length out) o tag number)
       (λ (θ : ℕ → Term) (k : Kind). Wrote r out o out′ r (encode (sub θ (leaf k number))))
   value-done z part out′ r p e w θ k j =
-      let v = value-of slots vals starts (length out) o tag number bytes θ k z j in
+      let v = value-of arities vals starts (length out) o tag number bytes θ k z j in
       let q : part ≡ encode (θ number) = p ∙ v .part-is in
       subst (λ (i : Kind). Wrote r out o out′ r (encode (sub θ (leaf i number)))) (sym (v .is))
       (spliced out o (encode (θ number)) out′ r (v .fits) (e ∙ ap (λ (l : List ℕ). o + length l) q) (w ∙ ap (splice out o) q))
 
   pub name-done :
       (tag ≡ 0 → ⊥) → (out₁ out′ : List ℕ) (a r : ℕ) → Wrote a out o out₁ a (groups tag) → Wrote r out₁ a out′ r (groups number)
-      → Promises₂ (LeafJob slots vals starts (length out) o tag number) (λ (θ : ℕ → Term) (k : Kind). Wrote r out o out′ r (encode (sub θ (leaf k number))))
+      → Promises₂ (LeafJob arities vals starts (length out) o tag number) (λ (θ : ℕ → Term) (k : Kind). Wrote r out o out′ r (encode (sub θ (leaf k number))))
   name-done z out₁ out′ a r v w θ k j =
-      let q = name-of slots vals starts (length out) o tag number θ k z j in
+      let q = name-of arities vals starts (length out) o tag number θ k z j in
       subst (λ (l : List ℕ). Wrote r out o out′ r l) (sym (q .is)) (wrote-then (widen r (omega (arith, w .ends)) v) w)

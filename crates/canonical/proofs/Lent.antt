@@ -22,9 +22,9 @@ use Rattle.canonical.specs.Contract.{Job, Out}
 abbrev part : List ℕ → ℕ → List ℕ
 part out o = take (length out - o) (drop o out)
 
-module _ (slots vals starts src : List ℕ) (at k : ℕ) (out : List ℕ) (o : ℕ) where
-  part-job : (θ : ℕ → Term) (ts : Terms) → Job slots vals starts src at k (length out) o θ ts
-      → Job slots vals starts src at k (length (part out o)) 0 θ ts
+module _ (arities vals starts src : List ℕ) (at k : ℕ) (out : List ℕ) (o : ℕ) where
+  part-job : (θ : ℕ → Term) (ts : Terms) → Job arities vals starts src at k (length out) o θ ts
+      → Job arities vals starts src at k (length (part out o)) 0 θ ts
   part-job θ ts J = record {
     table = J .table;
     many = J .many;
@@ -39,24 +39,24 @@ module _ (slots vals starts src : List ℕ) (at k : ℕ) (out : List ℕ) (o : �
     values-short = J .values-short;
   }
 
-  pub part-ready : Asks₂ (Job slots vals starts src at k (length out) o) → Asks₂ (Job slots vals starts src at k (length (part out o)) 0)
+  pub part-ready : Asks₂ (Job arities vals starts src at k (length out) o) → Asks₂ (Job arities vals starts src at k (length (part out o)) 0)
   part-ready (θ, ts, J) = (θ, ts, part-job θ ts J)
 
   made-sounds :
-      (θ : ℕ → Term) (ts : Terms) (J : Job slots vals starts src at k (length out) o θ ts)
-      → Sounds (arity slots) (group slots (J .table)) θ false ts
+      (θ : ℕ → Term) (ts : Terms) (J : Job arities vals starts src at k (length out) o θ ts)
+      → Sounds (arity arities) (group arities (J .table)) θ false ts
   made-sounds θ ts J =
-      sounds (arity slots) (group slots (J .table)) θ ts false (subs-formed (arity slots) θ ts (J .formed) (λ v i. J .values v i .formed))
+      sounds (arity arities) (group arities (J .table)) θ ts false (subs-formed (arity arities) θ ts (J .formed) (λ v i. J .values v i .formed))
       (λ v i. J .values v i .own)
 
-  module _ (ys : List ℕ) (at′ r : ℕ) (M : Promises₂ (Job slots vals starts src at k (length (part out o)) 0)
+  module _ (ys : List ℕ) (at′ r : ℕ) (M : Promises₂ (Job arities vals starts src at k (length (part out o)) 0)
       (λ (θ : ℕ → Term) (ts : Terms). Out (0 + length (encodes (subs θ ts))) at (part out o) 0 ys at′ r (encodes ts) (encodes (mades false θ ts)))) where
-    pub part-ends : Asks₂ (Job slots vals starts src at k (length out) o) → (o + r ≤ length out) × (length out ≤ longest)
+    pub part-ends : Asks₂ (Job arities vals starts src at k (length out) o) → (o + r ≤ length out) × (length out ≤ longest)
     part-ends (θ, ts, J) =
         let m = M θ ts (part-job θ ts J) in
         (omega (arith, m .wrote .ends, made-sounds θ ts J .sizes .bytess-less, J .room), J .short)
 
-    pub part-done : Promises₂ (Job slots vals starts src at k (length out) o) (λ (θ : ℕ → Term) (ts : Terms). Out (o + length (encodes (subs θ ts))) at out o
+    pub part-done : Promises₂ (Job arities vals starts src at k (length out) o) (λ (θ : ℕ → Term) (ts : Terms). Out (o + length (encodes (subs θ ts))) at out o
         (putMid o (length out - o) out ys) at′ (o + r) (encodes ts) (encodes (filleds θ ts)))
     part-done θ ts J =
         let m = M θ ts (part-job θ ts J) in

@@ -9,7 +9,7 @@ pub mod Leaves
 -- dec, fst and snd
 pub mod Rules
 -- a run of terms, one by one; a leaf in it
-pub mod Steps
+pub mod Making
 -- a function in it
 pub mod Functions
 -- a function of made arguments, by its tag

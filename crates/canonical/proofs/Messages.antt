@@ -34,8 +34,8 @@ filled-message : (t : Term) → Ground t → filled (leaf variable) t ≡ canon 
 filled-message t g = filled-canon (leaf variable) t (λ v o. absurd (g v o)) ∙ ap canon (sub-same t)
 
 -- ── its canonical form ──
-module _ (slots s starts : List ℕ) (at : ℕ) where
-  message-job : (t : Term) → MessageAt slots s at t → (n : ℕ) → n ≡ termRoom → Job slots s starts s at 1 n 0 (leaf variable) (t & nil)
+module _ (arities src starts : List ℕ) (at : ℕ) where
+  message-job : (t : Term) → MessageAt arities src at t → (n : ℕ) → n ≡ termRoom → Job arities src starts src at 1 n 0 (leaf variable) (t & nil)
   message-job t m n l = record {
     table = m .table;
     many = refl;
@@ -50,13 +50,13 @@ module _ (slots s starts : List ℕ) (at : ℕ) where
     values-short = m .short;
   }
 
-  pub message-ready : Asks (MessageAt slots s at) → (n : ℕ) → n ≡ termRoom → Asks₂ (Job slots s starts s at 1 n 0)
+  pub message-ready : Asks (MessageAt arities src at) → (n : ℕ) → n ≡ termRoom → Asks₂ (Job arities src starts src at 1 n 0)
   message-ready (t, m) n l = (leaf variable, (t & nil), message-job t m n l)
 
   pub message-canon :
-      (out out′ : List ℕ) (at′ r : ℕ) → length out ≡ termRoom → Promises₂ (Job slots s starts s at 1 (length out) 0)
+      (out out′ : List ℕ) (at′ r : ℕ) → length out ≡ termRoom → Promises₂ (Job arities src starts src at 1 (length out) 0)
       (λ (θ : ℕ → Term) (ts : Terms). Out (0 + length (encodes (subs θ ts))) at out 0 out′ at′ r (encodes ts) (encodes (filleds θ ts))) → Promises
-      (MessageAt slots s at) (λ (t : Term). Stands out′ 0 (encode (canon t)) r)
+      (MessageAt arities src at) (λ (t : Term). Stands out′ 0 (encode (canon t)) r)
   message-canon out out′ at′ r l D t m =
       let w = D (leaf variable) (t & nil) (message-job t m (length out) l) .wrote in
       let q : encodes (filleds (leaf variable) (t & nil)) ≡ encode (canon t) =
@@ -66,42 +66,43 @@ module _ (slots s starts : List ℕ) (at : ℕ) where
         there = wrote-there (omega arith) w ∙ ap (λ (z : List ℕ). z ++ drop r out′) q;
       }
 
-  pub message-here : (t : Term) → MessageAt slots s at t → Here slots s at (at + length (encode t)) t
-  message-here t m = record { formed = m .formed; range = m .range; stands = stands-at s at (encode t) (m .rest) (m .there) }
+  pub message-here : (t : Term) → MessageAt arities src at t → Here arities src at (at + length (encode t)) t
+  message-here t m = record { formed = m .formed; range = m .range; stands = stands-at src at (encode t) (m .rest) (m .there) }
 
 -- ── what a comparison decides ──
 same-exactly :
-    (slots : List ℕ) (x y : Term) (b : Bool) → Formed (arity slots) x → Formed (arity slots) y → b ≡ isEqual (compareBytes (encode x) (encode y))
+    (arities : List ℕ) (x y : Term) (b : Bool) → Formed (arity arities) x → Formed (arity arities) y → b ≡ isEqual (compareBytes (encode x) (encode y))
     → (b ≡ true) ↔ (x ≡ y)
-same-exactly slots x y b v w e = (
-  λ h. same-term slots x y v w (sym e ∙ h),
+same-exactly arities x y b v w e = (
+  λ h. same-term arities x y v w (sym e ∙ h),
   λ h. e ∙ ap (λ (z : Term). isEqual (compareBytes (encode x) (encode z))) (sym h) ∙ ap isEqual (compare-refl (encode x)),
 )
 
 pub decides-canonical :
-    (slots s : List ℕ) (at : ℕ) (t : Term) (b : Bool) → MessageAt slots s at t → b ≡ isEqual (compareBytes (encode (canon t)) (encode t))
+    (arities src : List ℕ) (at : ℕ) (t : Term) (b : Bool) → MessageAt arities src at t → b ≡ isEqual (compareBytes (encode (canon t)) (encode t))
     → (b ≡ true) ↔ (canon t ≡ t)
-decides-canonical slots s at t b m e =
-    same-exactly slots (canon t) t b (canon-is-formed (arity slots) (group slots (m .table)) t (m .formed)) (m .formed) e
+decides-canonical arities src at t b m e =
+    same-exactly arities (canon t) t b (canon-is-formed (arity arities) (group arities (m .table)) t (m .formed)) (m .formed) e
 
 pub decides-same :
-    (slots s u : List ℕ) (i j : ℕ) (x y : Term) (b : Bool) → MessageAt slots s i x → MessageAt slots u j y
-    → b ≡ isEqual (compareBytes (encode (canon x)) (encode (canon y))) → (b ≡ true) ↔ Same (arity slots) x y
-decides-same slots s u i j x y b m n e =
-    let g = group slots (m .table) in
-    let c = same-canon (arity slots) g x y (m .formed) (n .formed) in
-    let d = same-exactly slots (canon x) (canon y) b (canon-is-formed (arity slots) g x (m .formed)) (canon-is-formed (arity slots) g y (n .formed)) e in
+    (arities src u : List ℕ) (i j : ℕ) (x y : Term) (b : Bool) → MessageAt arities src i x → MessageAt arities u j y
+    → b ≡ isEqual (compareBytes (encode (canon x)) (encode (canon y))) → (b ≡ true) ↔ Same (arity arities) x y
+decides-same arities src u i j x y b m n e =
+    let g = group arities (m .table) in
+    let c = same-canon (arity arities) g x y (m .formed) (n .formed) in
+    let d = same-exactly arities (canon x) (canon y) b (canon-is-formed (arity arities) g x (m .formed)) (canon-is-formed (arity arities) g y (n .formed)) e in
     (λ h. c .1 (d .0 h), λ h. d .1 (c .0 h))
 
 -- ── the buffer's bytes ──
-module _ (slots s : List ℕ) (at : ℕ) (out : List ℕ) (r : ℕ) (C : Promises (MessageAt slots s at) (λ (t : Term). Stands out 0 (encode (canon t)) r)) where
-  pub canon-within : Asks (MessageAt slots s at) → r ≤ length out
-  canon-within (t, m) = stands-within (C t m) (encode-some (canon t))
+module _ (arities src : List ℕ) (at : ℕ) (out : List ℕ) (r : ℕ) (C : Promises (MessageAt arities src at) (λ (t : Term). Stands out 0 (encode (canon t)) r))
+  where
+    pub canon-within : Asks (MessageAt arities src at) → r ≤ length out
+    canon-within (t, m) = stands-within (C t m) (encode-some (canon t))
 
-  pub canon-long : Asks (MessageAt slots s at) → r ≡ length (take r out)
-  canon-long m = sym (length-take-le r out (canon-within m))
+    pub canon-long : Asks (MessageAt arities src at) → r ≡ length (take r out)
+    canon-long m = sym (length-take-le r out (canon-within m))
 
-  pub canon-part : (t : Term) → MessageAt slots s at t → take r out ≡ encode (canon t)
-  canon-part t m =
-      let e : r ≡ r - 0 = omega arith in
-      ap (λ (k : ℕ). take k out) e ∙ stands-part (C t m)
+    pub canon-part : (t : Term) → MessageAt arities src at t → take r out ≡ encode (canon t)
+    canon-part t m =
+        let e : r ≡ r - 0 = omega arith in
+        ap (λ (k : ℕ). take k out) e ∙ stands-part (C t m)

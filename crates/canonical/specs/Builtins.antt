@@ -6,7 +6,7 @@ use mathlib.Core.Option.{some}
 use native.Mathlib.Omega.{arith}
 use lib.ListN.{getD}
 use Rattle.term.specs.Tags.{oneTag, encTag, decTag, pairTag, fstTag, sndTag, expTag, invTag, mulTag}
-use Rattle.term.specs.Arity.{undeclared, arity, builtin, slots}
+use Rattle.term.specs.Arity.{undeclared, arity, builtin, tagArities}
 use Rattle.term.specs.Arity.Laws.{slot-builtin, no-leaf, arity-some}
 use Rattle.message.specs.Rules.{FitArities}
 
@@ -14,7 +14,7 @@ pub record Builtins (table : List ℕ) : Type 0 where
   pub same : (f : ℕ) → f < 13 → getD table f undeclared ≡ getD builtin f undeclared
 
 -- document 01's table is one, whatever free functions are declared
-pub declared : (free : List ℕ) → Builtins (slots free)
+pub declared : (free : List ℕ) → Builtins (tagArities free)
 declared free = record { same = λ f h. slot-builtin free f h }
 
 module _ (table : List ℕ) (b : Builtins table) where

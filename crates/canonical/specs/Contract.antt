@@ -17,24 +17,24 @@ pub mod Laws
 
 -- ── a run of terms ──
 -- the value t of variable v: canonical, its bytes in `vals` from the v-th of `starts` on
-pub record Value (slots vals starts : List ℕ) (v : ℕ) (t : Term) : Type 0 where
+pub record Value (arities vals starts : List ℕ) (v : ℕ) (t : Term) : Type 0 where
   pub listed : v < length starts
   pub rest : List ℕ
   pub there : drop (getD starts v 0) vals ≡ encode t ++ rest
-  pub formed : Formed (arity slots) t
+  pub formed : Formed (arity arities) t
   pub range : InRange t
   pub own : canon t ≡ t
 
 -- the k terms ts stand in src from `at` on, their variables have the values θ, and an output of n bytes has room from o on for the terms
 -- filled in
-pub record Job (slots vals starts src : List ℕ) (at k n o : ℕ) (θ : ℕ → Term) (ts : Terms) : Type 0 where
-  pub table : Builtins slots
+pub record Job (arities vals starts src : List ℕ) (at k n o : ℕ) (θ : ℕ → Term) (ts : Terms) : Type 0 where
+  pub table : Builtins arities
   pub many : count ts ≡ k
-  pub formed : Formeds (arity slots) ts
+  pub formed : Formeds (arity arities) ts
   pub range : InRanges ts
   pub rest : List ℕ
   pub there : drop at src ≡ encodes ts ++ rest
-  pub values : (v : ℕ) → Occurss variable v ts → Value slots vals starts v (θ v)
+  pub values : (v : ℕ) → Occurss variable v ts → Value arities vals starts v (θ v)
   pub small : Each (λ t. symbols (sub θ t) ≤ mostSymbols) ts
   pub room : o + length (encodes (subs θ ts)) ≤ n
   pub short : n ≤ longest
@@ -46,13 +46,13 @@ pub record Out (w at : ℕ) (out : List ℕ) (o : ℕ) (out′ : List ℕ) (at�
   pub wrote : Wrote w out o out′ o′ q
 
 -- ── one message ──
--- the message t stands in s from `at` on
-pub record MessageAt (slots s : List ℕ) (at : ℕ) (t : Term) : Type 0 where
-  pub table : Builtins slots
-  pub formed : Formed (arity slots) t
+-- the message t stands in src from `at` on
+pub record MessageAt (arities src : List ℕ) (at : ℕ) (t : Term) : Type 0 where
+  pub table : Builtins arities
+  pub formed : Formed (arity arities) t
   pub ground : Ground t
   pub range : InRange t
   pub rest : List ℕ
-  pub there : drop at s ≡ encode t ++ rest
+  pub there : drop at src ≡ encode t ++ rest
   pub small : symbols t ≤ mostSymbols
-  pub short : length s ≤ longest
+  pub short : length src ≤ longest

@@ -33,12 +33,12 @@ FirstAt (app f ts) at isLeaf tag number next = First isLeaf tag number next fals
 
 -- where a term stands, the symbol there is its first
 pub first-of :
-    (s slots : List ℕ) (at : ℕ) (t : Term) (e : ℕ) (isLeaf : Bool) (tag number next : ℕ) → Formed (arity slots) t → InRange t
-    → Stands s at (encode t) e → FirstOf (symbolAt s slots at) isLeaf tag number next → FirstAt t at isLeaf tag number next
-first-of s slots at (leaf k n) e isLeaf tag number next w r st h =
-    subst (λ (y : Symbol). FirstOf y isLeaf tag number next) (symbol-of-leaf s slots k n at (drop e s) r (st .there)) h
-first-of s slots at (app f ts) e isLeaf tag number next w r st h =
-    subst (λ (y : Symbol). FirstOf y isLeaf tag number next) (symbol-of-app s slots f ts at (drop e s) (w .0) (r .0) (st .there)) h
+    (src arities : List ℕ) (at : ℕ) (t : Term) (e : ℕ) (isLeaf : Bool) (tag number next : ℕ) → Formed (arity arities) t → InRange t
+    → Stands src at (encode t) e → FirstOf (symbolAt src arities at) isLeaf tag number next → FirstAt t at isLeaf tag number next
+first-of src arities at (leaf k n) e isLeaf tag number next w r st h =
+    subst (λ (y : Symbol). FirstOf y isLeaf tag number next) (symbol-of-leaf src arities k n at (drop e src) r (st .there)) h
+first-of src arities at (app f ts) e isLeaf tag number next w r st h =
+    subst (λ (y : Symbol). FirstOf y isLeaf tag number next) (symbol-of-app src arities f ts at (drop e src) (w .0) (r .0) (st .there)) h
 
 -- ── from an answer ──
 module _ (y : Symbol) where

@@ -15,23 +15,23 @@ use Rattle.canonical.specs.Contract.{Value}
 
 -- ── a leaf ──
 -- the leaf of a kind and a number, its value if it is a variable, and room for it
-pub record LeafJob (slots vals starts : List ℕ) (n o tag number : ℕ) (θ : ℕ → Term) (k : Kind) : Type 0 where
+pub record LeafJob (arities vals starts : List ℕ) (n o tag number : ℕ) (θ : ℕ → Term) (k : Kind) : Type 0 where
   pub kind : tag ≡ tagOf k
   pub range : number < numberLimit
-  pub values : (v : ℕ) → Occurs variable v (leaf k number) → Value slots vals starts v (θ v)
+  pub values : (v : ℕ) → Occurs variable v (leaf k number) → Value arities vals starts v (θ v)
   pub room : o + length (encode (sub θ (leaf k number))) ≤ n
   pub values-short : length vals ≤ longest
 
 -- ── one term ──
--- the term t stands in s from `at` up to e
-pub record Here (slots s : List ℕ) (at e : ℕ) (t : Term) : Type 0 where
-  pub formed : Formed (arity slots) t
+-- the term t stands in src from `at` up to e
+pub record Here (arities src : List ℕ) (at e : ℕ) (t : Term) : Type 0 where
+  pub formed : Formed (arity arities) t
   pub range : InRange t
-  pub stands : Stands s at (encode t) e
+  pub stands : Stands src at (encode t) e
 
 -- ── a function of made arguments, in the output from o up to e ──
-pub record Built (slots out : List ℕ) (o e f : ℕ) (us : Terms) : Type 0 where
-  pub table : Builtins slots
-  pub here : Here slots out o e (app f us)
+pub record Built (arities out : List ℕ) (o e f : ℕ) (us : Terms) : Type 0 where
+  pub table : Builtins arities
+  pub here : Here arities out o e (app f us)
   pub small : symbols (app f us) ≤ mostSymbols
   pub short : length out ≤ longest

@@ -6,7 +6,7 @@ use lib.Dec.{eqb}
 use Rattle.term.specs.Tags.{mulTag, oneTag, invTag}
 use Rattle.term.specs.Term.{variable, public, fresh, Term, leaf, app, Terms, nil, _&_}
 use Rattle.message.specs.Table.{rules}
-use Rattle.message.specs.Canon.{mk}
+use Rattle.message.specs.Canon.{apply}
 use Rattle.message.specs.Gather.{multiplied}
 -- it is the canonical form of the filled-in term, and no larger than that term
 pub mod Laws
@@ -17,7 +17,7 @@ isProduct f = eqb f oneTag || (eqb f invTag || eqb f mulTag)
 
 -- the function f of made arguments, inside a product or not
 unfoldable pub closed : Bool → ℕ → Terms → Term
-closed inside f us = cond (isProduct f) (cond inside (app f us) (multiplied (app f us & nil))) (mk rules f us)
+closed inside f us = cond (isProduct f) (cond inside (app f us) (multiplied (app f us & nil))) (apply rules f us)
 
 -- a term filled in with canonical values
 abbrev mutual

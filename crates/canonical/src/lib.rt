@@ -19,7 +19,7 @@ ghost use Rattle.lists.specs.Asks.{Asks, Asks₂, Promises, Promises₂};
 ghost use Rattle.octets.specs.Splice.Prefix.{Wrote};
 ghost use Rattle.number.specs.Groups.{groups, numberLimit};
 ghost use Rattle.message.specs.Table.{rules};
-ghost use Rattle.message.specs.Canon.{mk, canon};
+ghost use Rattle.message.specs.Canon.{apply, canon};
 ghost use Rattle.canonical.specs.Loose.{isProduct, closed, mades};
 ghost use Rattle.canonical.specs.Contract.{Job, Out, MessageAt};
 ghost use Rattle.canonical.specs.Inner.{LeafJob, Here, Built};
@@ -41,10 +41,10 @@ struct Head {
 }
 
 // The first symbol of the term at a place.
-fn first(s: &[u8], arities: &[u8], at: usize) -> Head
-    ensures { λ r. ⌜ Promises₂ (Here (now (arities .entry)) (now (s .entry)) at) (λ (e : ℕ) (t : Term). FirstAt t at (r .leaf) (r .tag) (r .number) (r .next)) ⌝ }
+fn first(src: &[u8], arities: &[u8], at: usize) -> Head
+    ensures { λ r. ⌜ Promises₂ (Here (now (arities .entry)) (now (src .entry)) at) (λ (e : ℕ) (t : Term). FirstAt t at (r .leaf) (r .tag) (r .number) (r .next)) ⌝ }
 {
-    match term::symbol_at(s, arities, at) {
+    match term::symbol_at(src, arities, at) {
         Symbol::Leaf(t, n, e) => Head {
             leaf: true,
             tag: t,
@@ -67,24 +67,24 @@ fn first(s: &[u8], arities: &[u8], at: usize) -> Head
 }
 
 // The place behind the term at a place.
-fn end_of(s: &[u8], arities: &[u8], at: usize) -> usize
-    requires { ⌜ length (now s) ≤ longest ⌝ }
-    ensures { λ r. ⌜ Promises₂ (Here (now (arities .entry)) (now (s .entry)) at) (λ (e : ℕ) (t : Term). r ≡ e) ⌝ }
+fn end_of(src: &[u8], arities: &[u8], at: usize) -> usize
+    requires { ⌜ length (now src) ≤ longest ⌝ }
+    ensures { λ r. ⌜ Promises₂ (Here (now (arities .entry)) (now (src .entry)) at) (λ (e : ℕ) (t : Term). r ≡ e) ⌝ }
 {
-    match term::term_end(s, arities, at) {
+    match term::term_end(src, arities, at) {
         Part::End(e, _) => e,
         Part::Fault => at,
     }
 }
 
 // Whether the terms at two places are the same.
-fn same_terms(s: &[u8], arities: &[u8], i: usize, j: usize) -> bool
-    requires { ⌜ length (now s) ≤ longest ⌝ }
-    ensures { λ r. ⌜ Promises₂ (Here (now (arities .entry)) (now (s .entry)) i) (λ (d : ℕ) (x : Term). Promises₂ (Here (now (arities .entry)) (now (s .entry)) j) (λ (e : ℕ) (y : Term). r ≡ isEqual (compareBytes (encode x) (encode y)))) ⌝ }
+fn same_terms(src: &[u8], arities: &[u8], i: usize, j: usize) -> bool
+    requires { ⌜ length (now src) ≤ longest ⌝ }
+    ensures { λ r. ⌜ Promises₂ (Here (now (arities .entry)) (now (src .entry)) i) (λ (d : ℕ) (x : Term). Promises₂ (Here (now (arities .entry)) (now (src .entry)) j) (λ (e : ℕ) (y : Term). r ≡ isEqual (compareBytes (encode x) (encode y)))) ⌝ }
 {
     octets::same_bytes(
-        term::term_part(s, arities, i),
-        term::term_part(s, arities, j),
+        term::term_part(src, arities, i),
+        term::term_part(src, arities, j),
     )
 }
 
@@ -136,7 +136,7 @@ fn put_leaf(
 // dec(enc(x, y), y) is x.
 fn unlock(out: &mut [u8], o: usize, e: usize, arities: &[u8]) -> usize
     requires { ⌜ Asks (Built (now arities) (now out) o e decTag) ⌝ }
-    ensures { λ r. ⌜ Promises (Built (now (arities .entry)) (now (out .entry)) o e decTag) (λ (us : Terms). Wrote e (now (out .entry)) o (now (out .exit)) r (encode (mk rules decTag us))) ⌝ }
+    ensures { λ r. ⌜ Promises (Built (now (arities .entry)) (now (out .entry)) o e decTag) (λ (us : Terms). Wrote e (now (out .entry)) o (now (out .exit)) r (encode (apply rules decTag us))) ⌝ }
 {
     let c = first(out, arities, o + 1);
     if c.tag != term::ENC {
@@ -154,7 +154,7 @@ fn unlock(out: &mut [u8], o: usize, e: usize, arities: &[u8]) -> usize
 // fst(pair(x, y)) is x.
 fn left(out: &mut [u8], o: usize, e: usize, arities: &[u8]) -> usize
     requires { ⌜ Asks (Built (now arities) (now out) o e fstTag) ⌝ }
-    ensures { λ r. ⌜ Promises (Built (now (arities .entry)) (now (out .entry)) o e fstTag) (λ (us : Terms). Wrote e (now (out .entry)) o (now (out .exit)) r (encode (mk rules fstTag us))) ⌝ }
+    ensures { λ r. ⌜ Promises (Built (now (arities .entry)) (now (out .entry)) o e fstTag) (λ (us : Terms). Wrote e (now (out .entry)) o (now (out .exit)) r (encode (apply rules fstTag us))) ⌝ }
 {
     let c = first(out, arities, o + 1);
     if c.tag != term::PAIR {
@@ -168,7 +168,7 @@ fn left(out: &mut [u8], o: usize, e: usize, arities: &[u8]) -> usize
 // snd(pair(x, y)) is y.
 fn right(out: &mut [u8], o: usize, e: usize, arities: &[u8]) -> usize
     requires { ⌜ Asks (Built (now arities) (now out) o e sndTag) ⌝ }
-    ensures { λ r. ⌜ Promises (Built (now (arities .entry)) (now (out .entry)) o e sndTag) (λ (us : Terms). Wrote e (now (out .entry)) o (now (out .exit)) r (encode (mk rules sndTag us))) ⌝ }
+    ensures { λ r. ⌜ Promises (Built (now (arities .entry)) (now (out .entry)) o e sndTag) (λ (us : Terms). Wrote e (now (out .entry)) o (now (out .exit)) r (encode (apply rules sndTag us))) ⌝ }
 {
     let c = first(out, arities, o + 1);
     if c.tag != term::PAIR {
@@ -182,7 +182,7 @@ fn right(out: &mut [u8], o: usize, e: usize, arities: &[u8]) -> usize
 // The function of a tag, no product function, of canonical arguments.
 fn reduce(out: &mut [u8], o: usize, e: usize, tag: usize, arities: &[u8]) -> usize
     requires { ⌜ (isProduct tag ≡ false) × Asks (Built (now arities) (now out) o e tag) ⌝ }
-    ensures { λ r. ⌜ Promises (Built (now (arities .entry)) (now (out .entry)) o e tag) (λ (us : Terms). Wrote e (now (out .entry)) o (now (out .exit)) r (encode (mk rules tag us))) ⌝ }
+    ensures { λ r. ⌜ Promises (Built (now (arities .entry)) (now (out .entry)) o e tag) (λ (us : Terms). Wrote e (now (out .entry)) o (now (out .exit)) r (encode (apply rules tag us))) ⌝ }
 {
     if tag == term::DEC {
         return unlock(out, o, e, arities);
@@ -267,33 +267,38 @@ pub fn canonical_into(
 }
 
 // Writes the canonical form of the message at a place to the start of an output.
-pub fn canonical_term(out: &mut [u8; term::TERM_ROOM], s: &[u8], at: usize, arities: &[u8]) -> usize
-    requires { ⌜ Asks (MessageAt (now arities) (now s) at) ⌝ }
-    ensures { λ r. ⌜ Promises (MessageAt (now (arities .entry)) (now (s .entry)) at) (λ (t : Term). Stands (now (out .exit)) 0 (encode (canon t)) r) ⌝ }
+pub fn canonical_term(
+    out: &mut [u8; term::TERM_ROOM],
+    src: &[u8],
+    at: usize,
+    arities: &[u8],
+) -> usize
+    requires { ⌜ Asks (MessageAt (now arities) (now src) at) ⌝ }
+    ensures { λ r. ⌜ Promises (MessageAt (now (arities .entry)) (now (src .entry)) at) (λ (t : Term). Stands (now (out .exit)) 0 (encode (canon t)) r) ⌝ }
 {
     let starts = [0usize; 1];
-    let n = canonical_into(out, 0, s, at, 1, arities, s, &starts);
+    let n = canonical_into(out, 0, src, at, 1, arities, src, &starts);
     n.o
 }
 
 // Whether the message at a place is in canonical form.
-pub fn is_canonical(s: &[u8], at: usize, arities: &[u8]) -> bool
-    requires { ⌜ Asks (MessageAt (now arities) (now s) at) ⌝ }
-    ensures { λ r. ⌜ Promises (MessageAt (now (arities .entry)) (now (s .entry)) at) (λ (t : Term). (r ≡ true) ↔ (canon t ≡ t)) ⌝ }
+pub fn is_canonical(src: &[u8], at: usize, arities: &[u8]) -> bool
+    requires { ⌜ Asks (MessageAt (now arities) (now src) at) ⌝ }
+    ensures { λ r. ⌜ Promises (MessageAt (now (arities .entry)) (now (src .entry)) at) (λ (t : Term). (r ≡ true) ↔ (canon t ≡ t)) ⌝ }
 {
     let mut out = [0u8; term::TERM_ROOM];
-    let n = canonical_term(&mut out, s, at, arities);
-    octets::same_bytes(&out[..n], term::term_part(s, arities, at))
+    let n = canonical_term(&mut out, src, at, arities);
+    octets::same_bytes(&out[..n], term::term_part(src, arities, at))
 }
 
 // Whether two messages are the same: by the bytes of their canonical forms.
-pub fn same_message(s: &[u8], i: usize, u: &[u8], j: usize, arities: &[u8]) -> bool
-    requires { ⌜ Asks (MessageAt (now arities) (now s) i) × Asks (MessageAt (now arities) (now u) j) ⌝ }
-    ensures { λ r. ⌜ Promises (MessageAt (now (arities .entry)) (now (s .entry)) i) (λ (x : Term). Promises (MessageAt (now (arities .entry)) (now (u .entry)) j) (λ (y : Term). (r ≡ true) ↔ Same (arity (now (arities .entry))) x y)) ⌝ }
+pub fn same_message(src: &[u8], i: usize, u: &[u8], j: usize, arities: &[u8]) -> bool
+    requires { ⌜ Asks (MessageAt (now arities) (now src) i) × Asks (MessageAt (now arities) (now u) j) ⌝ }
+    ensures { λ r. ⌜ Promises (MessageAt (now (arities .entry)) (now (src .entry)) i) (λ (x : Term). Promises (MessageAt (now (arities .entry)) (now (u .entry)) j) (λ (y : Term). (r ≡ true) ↔ Same (arity (now (arities .entry))) x y)) ⌝ }
 {
     let mut a = [0u8; term::TERM_ROOM];
     let mut b = [0u8; term::TERM_ROOM];
-    let m = canonical_term(&mut a, s, i, arities);
+    let m = canonical_term(&mut a, src, i, arities);
     let n = canonical_term(&mut b, u, j, arities);
     octets::same_bytes(&a[..m], &b[..n])
 }

@@ -7,8 +7,8 @@ use Rattle.protocol.specs.Figures.{symbolCount, mostRules}
 use Rattle.term.specs.Tags.{tagCount}
 use Rattle.octets.specs.Limits.{longest}
 use Rattle.rules.specs.Fit.Laws.{Indexes}
-use Rattle.rules.specs.declared.fit.Judged.{Judged}
-use Rattle.rules.specs.declared.fit.Judged.the-variants.{Sound}
+use Rattle.rules.specs.declared.fit.FitVerdict.{FitVerdict}
+use Rattle.rules.specs.declared.fit.FitVerdict.the-variants.{Sound}
 use Rattle.steps.specs.Index.{Given}
 use Rattle.steps.specs.Index.Sound.{sound-few, sound-given, sound-arities}
 use Rattle.steps.specs.Values.Filled.{ArityTable}
@@ -35,10 +35,10 @@ module _ (protocol arities symbols rules : List ℕ) where
 
   -- as the judgement of the protocol says
   pub indexed :
-      (flags : List ℕ) (r : Judged) (ns nr : ℕ) → r ≡ Sound ns nr → Indexes protocol r arities symbols flags rules
+      (flags : List ℕ) (r : FitVerdict) (ns nr : ℕ) → r ≡ Sound ns nr → Indexes protocol r arities symbols flags rules
       → length protocol ≤ longest → length arities ≡ tagCount → mostRules ≤ length rules → Indexed ns nr
-  indexed flags r ns nr is index short slots many = record {
+  indexed flags r ns nr is index short full many = record {
     few = sound-few protocol arities symbols flags rules r ns nr is index;
-    given = sound-given protocol arities symbols flags rules r ns nr is index short slots many;
+    given = sound-given protocol arities symbols flags rules r ns nr is index short full many;
     table = sound-arities protocol arities symbols flags rules r ns nr is index;
   }

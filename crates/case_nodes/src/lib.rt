@@ -48,12 +48,12 @@ fn rule_list(
 {
     let all: &[u8] = symbols;
     match ruling::rule_steps(list, protocol, arities, &all[..ns], rules, nr, nodes) {
-        ruling::Judged::Good(n) => Ruled::Good(Counts {
+        ruling::NodesRuling::Good(n) => Ruled::Good(Counts {
             symbols: ns,
             rules: nr,
             nodes: n,
         }),
-        ruling::Judged::Refused(number, item) => Ruled::Refused(number, item),
+        ruling::NodesRuling::Refused(number, item) => Ruled::Refused(number, item),
     }
 }
 
@@ -71,7 +71,7 @@ pub fn rule_case(
 {
     let mut flags = [0u8; SYMBOLS];
     match fit::judge(protocol, arities, symbols, &mut flags, rules) {
-        fit::Judged::Sound(ns, nr) => rule_list(
+        fit::FitVerdict::Sound(ns, nr) => rule_list(
             protocol,
             list,
             arities,
@@ -81,7 +81,7 @@ pub fn rule_case(
             nr,
             nodes,
         ),
-        fit::Judged::Broken(k) => Ruled::Refused(rewriting::CONDITION_BROKEN, k),
-        fit::Judged::Fault => Ruled::Refused(rewriting::LAYOUT, rewriting::PROTOCOL_ITEM),
+        fit::FitVerdict::Broken(k) => Ruled::Refused(rewriting::CONDITION_BROKEN, k),
+        fit::FitVerdict::Fault => Ruled::Refused(rewriting::LAYOUT, rewriting::PROTOCOL_ITEM),
     }
 }

@@ -28,10 +28,10 @@ fn show_number(s: &[u8]) {
     }
 }
 
-fn show_term(s: &[u8], slots: &[u8])
+fn show_term(s: &[u8], arities: &[u8])
     requires { ⌜ length (now s) ≤ room ⌝ }
 {
-    match term::term_end(s, slots, 0) {
+    match term::term_end(s, arities, 0) {
         Part::End(e, n) => {
             case_file::show(b" end ", e);
             case_file::show(b" symbols ", n);
@@ -54,10 +54,10 @@ fn slotted(free: &[u8]) -> &[u8]
 
 // The table of slots for these free functions.
 fn declare(free: &[u8]) -> [u8; SLOTS] {
-    let mut slots = [term::UNDECLARED; SLOTS];
-    octets::copy_into(&mut slots, 0, &ARITIES);
-    octets::copy_into(&mut slots, BUILT_IN, slotted(free));
-    slots
+    let mut arities = [term::UNDECLARED; SLOTS];
+    octets::copy_into(&mut arities, 0, &ARITIES);
+    octets::copy_into(&mut arities, BUILT_IN, slotted(free));
+    arities
 }
 
 fn show(kind: u8, free: &[u8], s: &[u8])

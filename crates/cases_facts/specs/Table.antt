@@ -7,7 +7,7 @@ use borrow.Author.Count.{below-more}
 use lib.ListN.{length, getD, set, replicate, length-set, length-replicate}
 use lib.Seq.{getD-set-same, getD-set-other}
 use Rattle.steps.specs.Nodes.{node}
-use Rattle.facts.specs.declared.nodes.Place.{Place}
+use Rattle.facts.specs.declared.nodes.FactId.{FactId}
 use Rattle.facts.specs.Calls.{HasFact, HasOne}
 use Rattle.cases_facts.specs.declared.table.Facts.{Facts}
 use Rattle.cases_facts.specs.declared.table.Argument.{Argument}
@@ -33,20 +33,20 @@ module _ {A : Type 0} (P : A → Type 0) (d : A) (most : ℕ) where
   }
 
 -- ── facts and their arguments ──
-abbrev pub noPlace : Place
-noPlace = record { node = 0; part = 0; number = 0 }
+abbrev pub noPlace : FactId
+noPlace = record { node = 0; list = 0; number = 0 }
 
 abbrev pub noArgument : Argument
 noArgument = record { place = noPlace; number = 0 }
 
-module _ (protocol table rules : List ℕ) (nr : ℕ) (s : List ℕ) where
+module _ (protocol table rules : List ℕ) (nr : ℕ) (file : List ℕ) where
   -- each fact of the table is one of such a node
   abbrev pub FactsListed : Facts → Type 0
-  FactsListed t = Filled (HasFact protocol table rules nr s) noPlace 64 (t .places) (t .n)
+  FactsListed t = Filled (HasFact protocol table rules nr file) noPlace 64 (t .places) (t .n)
 
   -- likewise each argument
   abbrev pub IsArgument : Argument → Type 0
-  IsArgument a = HasOne protocol table rules nr s (a .place) (a .number)
+  IsArgument a = HasOne protocol table rules nr file (a .place) (a .number)
 
   abbrev pub ArgumentsListed : Arguments → Type 0
   ArgumentsListed t = Filled IsArgument noArgument 256 (t .each) (t .n)

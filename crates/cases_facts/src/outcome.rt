@@ -33,14 +33,14 @@ fn first_fact(
     facts: Facts,
     k: usize,
     out: &mut [u8],
-    s: &[u8],
+    file: &[u8],
     protocol: &[u8],
     arities: &[u8],
     ars: &[u8],
     rules: &[usize],
     nr: usize,
 ) -> usize
-    requires { ⌜ (k < facts .n) × Room (now out) factRoom × (length (now s) ≤ longest) × Given (now protocol) (now arities) (now rules) nr × ArityTable (now protocol) (now arities) (now rules) nr (now ars) × FactsListed (now protocol) (now arities) (now rules) nr (now s) facts ⌝ }
+    requires { ⌜ (k < facts .n) × Room (now out) factRoom × (length (now file) ≤ longest) × Given (now protocol) (now arities) (now rules) nr × ArityTable (now protocol) (now arities) (now rules) nr (now ars) × FactsListed (now protocol) (now arities) (now rules) nr (now file) facts ⌝ }
 {
     let places = facts.places;
     let n = facts.n;
@@ -48,7 +48,7 @@ fn first_fact(
     let mut i: usize = 0;
     while i < n {
         let y = places[i];
-        if compare::same_fact(out, s, protocol, arities, ars, rules, nr, y, x) {
+        if compare::same_fact(out, file, protocol, arities, ars, rules, nr, y, x) {
             return i + 1;
         }
         i += 1;
@@ -60,19 +60,19 @@ fn first_fact(
 pub fn show_facts(
     facts: Facts,
     out: &mut [u8],
-    s: &[u8],
+    file: &[u8],
     protocol: &[u8],
     arities: &[u8],
     ars: &[u8],
     rules: &[usize],
     nr: usize,
 )
-    requires { ⌜ Room (now out) factRoom × (length (now s) ≤ longest) × Given (now protocol) (now arities) (now rules) nr × ArityTable (now protocol) (now arities) (now rules) nr (now ars) × FactsListed (now protocol) (now arities) (now rules) nr (now s) facts ⌝ }
+    requires { ⌜ Room (now out) factRoom × (length (now file) ≤ longest) × Given (now protocol) (now arities) (now rules) nr × ArityTable (now protocol) (now arities) (now rules) nr (now ars) × FactsListed (now protocol) (now arities) (now rules) nr (now file) facts ⌝ }
 {
     let n = facts.n;
     let mut k: usize = 0;
     while k < n {
-        show_more(first_fact(facts, k, out, s, protocol, arities, ars, rules, nr));
+        show_more(first_fact(facts, k, out, file, protocol, arities, ars, rules, nr));
         k += 1;
     }
 }
@@ -82,14 +82,14 @@ fn first_argument(
     arguments: Arguments,
     k: usize,
     out: &mut [u8],
-    s: &[u8],
+    file: &[u8],
     protocol: &[u8],
     arities: &[u8],
     ars: &[u8],
     rules: &[usize],
     nr: usize,
 ) -> usize
-    requires { ⌜ (k < arguments .n) × Room (now out) factRoom × (length (now s) ≤ longest) × Given (now protocol) (now arities) (now rules) nr × ArityTable (now protocol) (now arities) (now rules) nr (now ars) × ArgumentsListed (now protocol) (now arities) (now rules) nr (now s) arguments ⌝ }
+    requires { ⌜ (k < arguments .n) × Room (now out) factRoom × (length (now file) ≤ longest) × Given (now protocol) (now arities) (now rules) nr × ArityTable (now protocol) (now arities) (now rules) nr (now ars) × ArgumentsListed (now protocol) (now arities) (now rules) nr (now file) arguments ⌝ }
 {
     let each = arguments.each;
     let n = arguments.n;
@@ -99,7 +99,7 @@ fn first_argument(
         let y = each[i];
         if compare::same_argument(
             out,
-            s,
+            file,
             protocol,
             arities,
             ars,
@@ -121,19 +121,19 @@ fn first_argument(
 pub fn show_arguments(
     arguments: Arguments,
     out: &mut [u8],
-    s: &[u8],
+    file: &[u8],
     protocol: &[u8],
     arities: &[u8],
     ars: &[u8],
     rules: &[usize],
     nr: usize,
 )
-    requires { ⌜ Room (now out) factRoom × (length (now s) ≤ longest) × Given (now protocol) (now arities) (now rules) nr × ArityTable (now protocol) (now arities) (now rules) nr (now ars) × ArgumentsListed (now protocol) (now arities) (now rules) nr (now s) arguments ⌝ }
+    requires { ⌜ Room (now out) factRoom × (length (now file) ≤ longest) × Given (now protocol) (now arities) (now rules) nr × ArityTable (now protocol) (now arities) (now rules) nr (now ars) × ArgumentsListed (now protocol) (now arities) (now rules) nr (now file) arguments ⌝ }
 {
     let n = arguments.n;
     let mut k: usize = 0;
     while k < n {
-        show_more(first_argument(arguments, k, out, s, protocol, arities, ars, rules, nr));
+        show_more(first_argument(arguments, k, out, file, protocol, arities, ars, rules, nr));
         k += 1;
     }
 }
@@ -142,27 +142,27 @@ pub fn show_arguments(
 fn public_name(
     a: Argument,
     out: &mut [u8],
-    s: &[u8],
+    file: &[u8],
     protocol: &[u8],
     arities: &[u8],
     ars: &[u8],
     rules: &[usize],
     nr: usize,
 ) -> usize
-    requires { ⌜ Room (now out) factRoom × (length (now s) ≤ longest) × Given (now protocol) (now arities) (now rules) nr × ArityTable (now protocol) (now arities) (now rules) nr (now ars) × HasOne (now protocol) (now arities) (now rules) nr (now s) (a .place) (a .number) ⌝ }
+    requires { ⌜ Room (now out) factRoom × (length (now file) ≤ longest) × Given (now protocol) (now arities) (now rules) nr × ArityTable (now protocol) (now arities) (now rules) nr (now ars) × HasOne (now protocol) (now arities) (now rules) nr (now file) (a .place) (a .number) ⌝ }
 {
     let x = a.place;
     let i = a.number;
     let one = Public(ONE_GROUP);
     let two = Public(TWO_GROUPS);
     let three = Public(THREE_GROUPS);
-    if compare::is_public(out, s, protocol, arities, ars, rules, nr, x, i, one) {
+    if compare::is_public(out, file, protocol, arities, ars, rules, nr, x, i, one) {
         return 1;
     }
-    if compare::is_public(out, s, protocol, arities, ars, rules, nr, x, i, two) {
+    if compare::is_public(out, file, protocol, arities, ars, rules, nr, x, i, two) {
         return 2;
     }
-    if compare::is_public(out, s, protocol, arities, ars, rules, nr, x, i, three) {
+    if compare::is_public(out, file, protocol, arities, ars, rules, nr, x, i, three) {
         return 3;
     }
     0
@@ -172,20 +172,20 @@ fn public_name(
 pub fn show_names(
     arguments: Arguments,
     out: &mut [u8],
-    s: &[u8],
+    file: &[u8],
     protocol: &[u8],
     arities: &[u8],
     ars: &[u8],
     rules: &[usize],
     nr: usize,
 )
-    requires { ⌜ Room (now out) factRoom × (length (now s) ≤ longest) × Given (now protocol) (now arities) (now rules) nr × ArityTable (now protocol) (now arities) (now rules) nr (now ars) × ArgumentsListed (now protocol) (now arities) (now rules) nr (now s) arguments ⌝ }
+    requires { ⌜ Room (now out) factRoom × (length (now file) ≤ longest) × Given (now protocol) (now arities) (now rules) nr × ArityTable (now protocol) (now arities) (now rules) nr (now ars) × ArgumentsListed (now protocol) (now arities) (now rules) nr (now file) arguments ⌝ }
 {
     let each = arguments.each;
     let n = arguments.n;
     let mut k: usize = 0;
     while k < n {
-        show_more(public_name(each[k], out, s, protocol, arities, ars, rules, nr));
+        show_more(public_name(each[k], out, file, protocol, arities, ars, rules, nr));
         k += 1;
     }
 }

@@ -7,7 +7,7 @@ ghost use Rattle.facts.specs.Calls.{HasFact, HasOne};
 ghost use Rattle.facts.specs.Owed.{RightNode, RightNodes};
 ghost use Rattle.cases_facts.specs.Table.{FactsListed, ArgumentsListed};
 use facts::counts;
-use facts::nodes::Place;
+use facts::nodes::FactId;
 use facts::symbols;
 
 // The room for facts.
@@ -21,22 +21,22 @@ const LISTS: usize = protocol::figures::LISTS;
 
 // The places of the first n facts.
 pub struct Facts {
-    pub places: [Place; MOST_FACTS],
+    pub places: [FactId; MOST_FACTS],
     pub n: usize,
 }
 
 // One more, where there is room.
 fn with_fact(
     facts: Facts,
-    x: Place,
-    s: &[u8],
+    x: FactId,
+    file: &[u8],
     protocol: &[u8],
     arities: &[u8],
     rules: &[usize],
     nr: usize,
 ) -> Facts
-    requires { ⌜ FactsListed (now protocol) (now arities) (now rules) nr (now s) facts × HasFact (now protocol) (now arities) (now rules) nr (now s) x ⌝ }
-    ensures { λ r. ⌜ FactsListed (now (protocol .entry)) (now (arities .entry)) (now (rules .entry)) nr (now (s .entry)) r ⌝ }
+    requires { ⌜ FactsListed (now protocol) (now arities) (now rules) nr (now file) facts × HasFact (now protocol) (now arities) (now rules) nr (now file) x ⌝ }
+    ensures { λ r. ⌜ FactsListed (now (protocol .entry)) (now (arities .entry)) (now (rules .entry)) nr (now (file .entry)) r ⌝ }
 {
     let mut places = facts.places;
     let n = facts.n;
@@ -53,28 +53,28 @@ fn with_fact(
 // And those of list w of the node at a place.
 fn with_list(
     before: Facts,
-    s: &[u8],
+    file: &[u8],
     protocol: &[u8],
     arities: &[u8],
     ars: &[u8],
     rules: &[usize],
     nr: usize,
     node: usize,
-    w: usize,
+    list: usize,
 ) -> Facts
-    requires { ⌜ (w < 3) × Given (now protocol) (now arities) (now rules) nr × ArityTable (now protocol) (now arities) (now rules) nr (now ars) × RightNode (now protocol) (now arities) (now rules) nr (now s) node × FactsListed (now protocol) (now arities) (now rules) nr (now s) before ⌝ }
-    ensures { λ r. ⌜ FactsListed (now (protocol .entry)) (now (arities .entry)) (now (rules .entry)) nr (now (s .entry)) r ⌝ }
+    requires { ⌜ (list < 3) × Given (now protocol) (now arities) (now rules) nr × ArityTable (now protocol) (now arities) (now rules) nr (now ars) × RightNode (now protocol) (now arities) (now rules) nr (now file) node × FactsListed (now protocol) (now arities) (now rules) nr (now file) before ⌝ }
+    ensures { λ r. ⌜ FactsListed (now (protocol .entry)) (now (arities .entry)) (now (rules .entry)) nr (now (file .entry)) r ⌝ }
 {
-    let count = counts::fact_count(s, protocol, arities, ars, rules, nr, node, w);
+    let count = counts::fact_count(file, protocol, arities, ars, rules, nr, node, list);
     let mut facts = before;
     let mut i: usize = 0;
     while i < count {
-        let x = Place {
+        let x = FactId {
             node: node,
-            part: w,
+            list: list,
             number: i,
         };
-        facts = with_fact(facts, x, s, protocol, arities, rules, nr);
+        facts = with_fact(facts, x, file, protocol, arities, rules, nr);
         i += 1;
     }
     facts
@@ -83,7 +83,7 @@ fn with_list(
 // And those of all lists of the node.
 fn with_node(
     before: Facts,
-    s: &[u8],
+    file: &[u8],
     protocol: &[u8],
     arities: &[u8],
     ars: &[u8],
@@ -91,21 +91,21 @@ fn with_node(
     nr: usize,
     node: usize,
 ) -> Facts
-    requires { ⌜ Given (now protocol) (now arities) (now rules) nr × ArityTable (now protocol) (now arities) (now rules) nr (now ars) × RightNode (now protocol) (now arities) (now rules) nr (now s) node × FactsListed (now protocol) (now arities) (now rules) nr (now s) before ⌝ }
-    ensures { λ r. ⌜ FactsListed (now (protocol .entry)) (now (arities .entry)) (now (rules .entry)) nr (now (s .entry)) r ⌝ }
+    requires { ⌜ Given (now protocol) (now arities) (now rules) nr × ArityTable (now protocol) (now arities) (now rules) nr (now ars) × RightNode (now protocol) (now arities) (now rules) nr (now file) node × FactsListed (now protocol) (now arities) (now rules) nr (now file) before ⌝ }
+    ensures { λ r. ⌜ FactsListed (now (protocol .entry)) (now (arities .entry)) (now (rules .entry)) nr (now (file .entry)) r ⌝ }
 {
     let mut facts = before;
-    let mut w: usize = 0;
-    while w < LISTS {
-        facts = with_list(facts, s, protocol, arities, ars, rules, nr, node, w);
-        w += 1;
+    let mut list: usize = 0;
+    while list < LISTS {
+        facts = with_list(facts, file, protocol, arities, ars, rules, nr, node, list);
+        list += 1;
     }
     facts
 }
 
 // The facts of the n nodes at their places.
 pub fn facts_of(
-    s: &[u8],
+    file: &[u8],
     protocol: &[u8],
     arities: &[u8],
     ars: &[u8],
@@ -114,12 +114,12 @@ pub fn facts_of(
     nodes: &[usize],
     n: usize,
 ) -> Facts
-    requires { ⌜ (n ≤ length (now nodes)) × Given (now protocol) (now arities) (now rules) nr × ArityTable (now protocol) (now arities) (now rules) nr (now ars) × RightNodes (now protocol) (now arities) (now rules) nr (now s) (now nodes) n ⌝ }
-    ensures { λ r. ⌜ FactsListed (now (protocol .entry)) (now (arities .entry)) (now (rules .entry)) nr (now (s .entry)) r ⌝ }
+    requires { ⌜ (n ≤ length (now nodes)) × Given (now protocol) (now arities) (now rules) nr × ArityTable (now protocol) (now arities) (now rules) nr (now ars) × RightNodes (now protocol) (now arities) (now rules) nr (now file) (now nodes) n ⌝ }
+    ensures { λ r. ⌜ FactsListed (now (protocol .entry)) (now (arities .entry)) (now (rules .entry)) nr (now (file .entry)) r ⌝ }
 {
-    let none = Place {
+    let none = FactId {
         node: 0,
-        part: 0,
+        list: 0,
         number: 0,
     };
     let mut facts = Facts {
@@ -128,7 +128,7 @@ pub fn facts_of(
     };
     let mut k: usize = 0;
     while k < n {
-        facts = with_node(facts, s, protocol, arities, ars, rules, nr, nodes[k]);
+        facts = with_node(facts, file, protocol, arities, ars, rules, nr, nodes[k]);
         k += 1;
     }
     facts
@@ -136,7 +136,7 @@ pub fn facts_of(
 
 // An argument of a fact, by its number from 0.
 pub struct Argument {
-    pub place: Place,
+    pub place: FactId,
     pub number: usize,
 }
 
@@ -150,14 +150,14 @@ pub struct Arguments {
 fn with_argument(
     arguments: Arguments,
     a: Argument,
-    s: &[u8],
+    file: &[u8],
     protocol: &[u8],
     arities: &[u8],
     rules: &[usize],
     nr: usize,
 ) -> Arguments
-    requires { ⌜ ArgumentsListed (now protocol) (now arities) (now rules) nr (now s) arguments × HasOne (now protocol) (now arities) (now rules) nr (now s) (a .place) (a .number) ⌝ }
-    ensures { λ r. ⌜ ArgumentsListed (now (protocol .entry)) (now (arities .entry)) (now (rules .entry)) nr (now (s .entry)) r ⌝ }
+    requires { ⌜ ArgumentsListed (now protocol) (now arities) (now rules) nr (now file) arguments × HasOne (now protocol) (now arities) (now rules) nr (now file) (a .place) (a .number) ⌝ }
+    ensures { λ r. ⌜ ArgumentsListed (now (protocol .entry)) (now (arities .entry)) (now (rules .entry)) nr (now (file .entry)) r ⌝ }
 {
     let mut each = arguments.each;
     let n = arguments.n;
@@ -174,18 +174,18 @@ fn with_argument(
 // And those of a fact.
 fn with_arguments(
     before: Arguments,
-    s: &[u8],
+    file: &[u8],
     protocol: &[u8],
     arities: &[u8],
     ars: &[u8],
     rules: &[usize],
     nr: usize,
-    x: Place,
+    x: FactId,
 ) -> Arguments
-    requires { ⌜ Given (now protocol) (now arities) (now rules) nr × ArityTable (now protocol) (now arities) (now rules) nr (now ars) × HasFact (now protocol) (now arities) (now rules) nr (now s) x × ArgumentsListed (now protocol) (now arities) (now rules) nr (now s) before ⌝ }
-    ensures { λ r. ⌜ ArgumentsListed (now (protocol .entry)) (now (arities .entry)) (now (rules .entry)) nr (now (s .entry)) r ⌝ }
+    requires { ⌜ Given (now protocol) (now arities) (now rules) nr × ArityTable (now protocol) (now arities) (now rules) nr (now ars) × HasFact (now protocol) (now arities) (now rules) nr (now file) x × ArgumentsListed (now protocol) (now arities) (now rules) nr (now file) before ⌝ }
+    ensures { λ r. ⌜ ArgumentsListed (now (protocol .entry)) (now (arities .entry)) (now (rules .entry)) nr (now (file .entry)) r ⌝ }
 {
-    let count = symbols::argument_count(s, protocol, arities, ars, rules, nr, x);
+    let count = symbols::argument_count(file, protocol, arities, ars, rules, nr, x);
     let mut arguments = before;
     let mut i: usize = 0;
     while i < count {
@@ -193,7 +193,7 @@ fn with_arguments(
             place: x,
             number: i,
         };
-        arguments = with_argument(arguments, a, s, protocol, arities, rules, nr);
+        arguments = with_argument(arguments, a, file, protocol, arities, rules, nr);
         i += 1;
     }
     arguments
@@ -202,19 +202,19 @@ fn with_arguments(
 // The arguments of the facts of a table.
 pub fn arguments_of(
     facts: Facts,
-    s: &[u8],
+    file: &[u8],
     protocol: &[u8],
     arities: &[u8],
     ars: &[u8],
     rules: &[usize],
     nr: usize,
 ) -> Arguments
-    requires { ⌜ Given (now protocol) (now arities) (now rules) nr × ArityTable (now protocol) (now arities) (now rules) nr (now ars) × FactsListed (now protocol) (now arities) (now rules) nr (now s) facts ⌝ }
-    ensures { λ r. ⌜ ArgumentsListed (now (protocol .entry)) (now (arities .entry)) (now (rules .entry)) nr (now (s .entry)) r ⌝ }
+    requires { ⌜ Given (now protocol) (now arities) (now rules) nr × ArityTable (now protocol) (now arities) (now rules) nr (now ars) × FactsListed (now protocol) (now arities) (now rules) nr (now file) facts ⌝ }
+    ensures { λ r. ⌜ ArgumentsListed (now (protocol .entry)) (now (arities .entry)) (now (rules .entry)) nr (now (file .entry)) r ⌝ }
 {
-    let none = Place {
+    let none = FactId {
         node: 0,
-        part: 0,
+        list: 0,
         number: 0,
     };
     let nothing = Argument {
@@ -229,7 +229,16 @@ pub fn arguments_of(
     let n = facts.n;
     let mut k: usize = 0;
     while k < n {
-        arguments = with_arguments(arguments, s, protocol, arities, ars, rules, nr, places[k]);
+        arguments = with_arguments(
+            arguments,
+            file,
+            protocol,
+            arities,
+            ars,
+            rules,
+            nr,
+            places[k],
+        );
         k += 1;
     }
     arguments

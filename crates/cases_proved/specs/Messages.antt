@@ -11,7 +11,7 @@ use Rattle.octets.specs.declared.Order.{Order}
 use Rattle.octets.specs.declared.Order.the-variants.{Less, Equal, Greater}
 use Rattle.number.specs.Groups.{groups, groupsIn}
 use Rattle.term.specs.Term.{public, fresh, Kind, Term, leaf, app, nil, _&_, Formed}
-use Rattle.term.specs.Arity.{arity, slots}
+use Rattle.term.specs.Arity.{arity, tagArities}
 use Rattle.message.specs.Functions.{one, enc, dec, exp, inv, mul}
 use Rattle.message.specs.Equations.{Same, equation, reflexive, transitive, congruent, same-none, same-more, dec-enc}
 use Rattle.message.specs.Equations.Laws.{same-formed, widen}
@@ -22,7 +22,7 @@ use Rattle.message.specs.Rules.{Theory, tower, SameIn}
 use Rattle.message.specs.Table.Laws.{theory, tabled-figure}
 use Rattle.message.specs.Parts.Ascending.{order-flip}
 use Rattle.message.specs.Parts.Laws.{order-eq, formed-exp}
-use Rattle.message.specs.Canon.{mk, canon}
+use Rattle.message.specs.Canon.{apply, canon}
 use Rattle.message.specs.Canon.Views.{tag}
 use Rattle.message.specs.Canon.Group.{W, _⊗_, i, rf, cg, cge, ⊗-comm, ⊗-cancel, i-i, i-⊗, i-one}
 use Rattle.message.specs.Theorems.{same-canon, canonical-stays, declared}
@@ -73,17 +73,17 @@ over-canonical m n Greater e h =
 
 module _ (free : List ℕ) where
   abbrev σ : Theory
-  σ = theory (arity (slots free)) (declared free)
+  σ = theory (arity (tagArities free)) (declared free)
 
   -- u is the canonical form of t
   pub record Form (t u : Term) : Type 0 where
-    pub same : Same (arity (slots free)) t u
+    pub same : Same (arity (tagArities free)) t u
     pub canonical : Canonical u
 
   -- there is no other
   pub form-canon : (t u : Term) → Form t u → canon t ≡ u
   form-canon t u f =
-      let ar = arity (slots free) in
+      let ar = arity (tagArities free) in
       let w = same-formed (f .same) in
       same-canon ar (declared free) t u (w .0) (w .1) .0 (f .same) ∙ canonical-stays ar (declared free) u (w .1) (f .canonical)
 
@@ -131,7 +131,7 @@ module _ (free : List ℕ) where
         }
 
     pub decrypted : Form (dec (enc m (mul a b)) (mul b a)) m
-    unfolding arity slots
+    unfolding arity tagArities
     decrypted =
         let w : Formed (σ .arity) (enc m (mul a b)) = (refl, (tt, (_⊗_ σ A B .1, tt))) in
         let v : Formed (σ .arity) (dec (enc m (mul a b)) (mul b a)) = (refl, (w, (_⊗_ σ B A .1, tt))) in
@@ -143,7 +143,7 @@ module _ (free : List ℕ) where
         }
 
     pub locked : ai ≢ bi → Form (dec (enc m a) b) (dec (enc m a) b)
-    unfolding arity slots
+    unfolding arity tagArities
     locked n =
         let w : Formed (σ .arity) (dec (enc m a) b) = (refl, ((refl, (tt, (tt, tt))), (tt, tt))) in
         record {
@@ -165,11 +165,11 @@ module _ (free : List ℕ) where
       clash (cc)
 
   -- "reading mul as the product in the DH group, so that exp spreads over it"
-  pub no-spread : Same (arity (slots free)) (exp (mul (fn 0) (fn 1)) (fn 2)) (mul (exp (fn 0) (fn 2)) (exp (fn 1) (fn 2))) → ⊥
-  unfolding mk groups groupsIn
+  pub no-spread : Same (arity (tagArities free)) (exp (mul (fn 0) (fn 1)) (fn 2)) (mul (exp (fn 0) (fn 2)) (exp (fn 1) (fn 2))) → ⊥
+  unfolding apply groups groupsIn
   no-spread d =
       let w = same-formed d in
       let e : exp (mul (fn 0) (fn 1)) (fn 2) ≡ mul (exp (fn 0) (fn 2)) (exp (fn 1) (fn 2)) =
-      same-canon (arity (slots free)) (declared free) (exp (mul (fn 0) (fn 1)) (fn 2)) (mul (exp (fn 0) (fn 2)) (exp (fn 1) (fn 2)))
+      same-canon (arity (tagArities free)) (declared free) (exp (mul (fn 0) (fn 1)) (fn 2)) (mul (exp (fn 0) (fn 2)) (exp (fn 1) (fn 2)))
       (w .0) (w .1) .0 d in
       clash (cc)

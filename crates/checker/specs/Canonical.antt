@@ -3,7 +3,7 @@ use Prim.Native.Nat.{ℕ, _<_}
 use mathlib.Core.List.{List, [], _∷_, _++_}
 use lib.ListN.{length}
 use Rattle.term.specs.Term.{Term, encode}
-use Rattle.term.specs.Arity.{slots}
+use Rattle.term.specs.Arity.{tagArities}
 use Rattle.message.specs.Canon.{canon}
 use Rattle.rewriting.specs.Table.{Ruling, passed, refused, Row, fixedRow, Pass, rulingOf, rulingThen, rowsThen, andThen, rowsAfter}
 use Rattle.rewriting.specs.Table.Passes.{lessPass, needPass}
@@ -30,7 +30,7 @@ pub mod Bounds
 
 -- the protocol and the term that the files hold, or the refusal of one of them
 abbrev pub termOf : List ℕ → List ℕ → Ruling Term
-termOf protocol term = andThen (protocolRuling protocol) (λ p. termRuling (slots (p .functions)) term)
+termOf protocol term = andThen (protocolRuling protocol) (λ p. termRuling (tagArities (p .functions)) term)
 
 abbrev pub need : Term → ℕ
 need t = length (encode (canon t))
@@ -57,7 +57,7 @@ canonicalOutcome protocol term output work =
 
 -- the same as rows of the table
 abbrev pub readRows : List ℕ → List ℕ → List Row
-readRows protocol term = protocolRows protocol ++ rowsAfter (protocolRuling protocol) (λ p. termRows (slots (p .functions)) term)
+readRows protocol term = protocolRows protocol ++ rowsAfter (protocolRuling protocol) (λ p. termRows (tagArities (p .functions)) term)
 
 abbrev pub canonicalRows : List ℕ → List ℕ → ℕ → ℕ → List Row
 canonicalRows protocol term output work =

@@ -56,17 +56,17 @@ abbrev pub fitRows : Protocol → List Row
 fitRows p = row 4 (Fails (λ k r. fits r) (p .rules)) ∷ []
 
 abbrev pub protocolRuling : List ℕ → Ruling Protocol
-protocolRuling s = andThen (layout protocolItem (protocol s)) fitRuling
+protocolRuling file = andThen (layout protocolItem (protocol file)) fitRuling
 
 abbrev pub protocolRows : List ℕ → List Row
-protocolRows s = layoutRows protocolItem (protocol s) ++ rowsAfter (layout protocolItem (protocol s)) fitRows
+protocolRows file = layoutRows protocolItem (protocol file) ++ rowsAfter (layout protocolItem (protocol file)) fitRows
 
 -- ── the term: 3, then 8 ──
 -- "Term (1,024 bytes): one term without variables", and no leftover bytes
 unfoldable pub termFile : List ℕ → List ℕ → Read Term
-termFile slots s =
-    reading.andThen (term s slots 0)
-    (λ t e. pick (eqb e (length s) && not (holds t 0 0 numberLimit)) (got t e) fault)
+termFile arities file =
+    reading.andThen (term file arities 0)
+    (λ t e. pick (eqb e (length file) && not (holds t 0 0 numberLimit)) (got t e) fault)
 
 -- "at most 256 symbols"
 abbrev pub sizeRuling : Term → Ruling Term
@@ -76,7 +76,7 @@ abbrev pub sizeRows : Term → List Row
 sizeRows t = fixedRow 8 0 (mostSymbols < symbols t) ∷ []
 
 abbrev pub termRuling : List ℕ → List ℕ → Ruling Term
-termRuling slots s = andThen (layout termItem (termFile slots s)) sizeRuling
+termRuling arities file = andThen (layout termItem (termFile arities file)) sizeRuling
 
 abbrev pub termRows : List ℕ → List ℕ → List Row
-termRows slots s = layoutRows termItem (termFile slots s) ++ rowsAfter (layout termItem (termFile slots s)) sizeRows
+termRows arities file = layoutRows termItem (termFile arities file) ++ rowsAfter (layout termItem (termFile arities file)) sizeRows

@@ -10,7 +10,7 @@ ghost use Rattle.checker.specs.Files.Answers.{fileOf};
 ghost use Rattle.checker.specs.Canonical.{canonicalOutcome, canonicalOutput, canonicalWork};
 ghost use Rattle.checker.specs.Canonical.Contracts.{Forms, FormedAs, Unders, UnderAs, InsideAs};
 use protocol::figures;
-use rules::fit::Judged;
+use rules::fit::FitVerdict;
 use term::Walk;
 
 // "Protocol (4,096 bytes)", "Term (1,024 bytes)", and the work area that no call needs more of.
@@ -140,9 +140,9 @@ fn canonical_inside(protocol: &[u8], term: &[u8], output: &mut [u8]) -> Written
         &mut flags,
         &mut places,
     ) {
-        Judged::Sound(_, _) => under_protocol(term, &arities, output),
-        Judged::Broken(k) => refused(CONDITION_BROKEN, k as u32),
-        Judged::Fault => refused(LAYOUT, PROTOCOL_ITEM),
+        FitVerdict::Sound(_, _) => under_protocol(term, &arities, output),
+        FitVerdict::Broken(k) => refused(CONDITION_BROKEN, k as u32),
+        FitVerdict::Fault => refused(LAYOUT, PROTOCOL_ITEM),
     }
 }
 
@@ -161,10 +161,10 @@ pub fn canonical_form(protocol: &[u8], term: &[u8], output: &mut [u8], work: &mu
 }
 
 // The answer as one number.
-fn pack(w: Written) -> u64
-    ensures { λ r. ⌜ r ≡ packed (written w) ⌝ }
+fn pack(answer: Written) -> u64
+    ensures { λ r. ⌜ r ≡ packed (written answer) ⌝ }
 {
-    match w {
+    match answer {
         Written::Length(n) => WRITTEN + n as u64,
         Written::Refused(r) => r.number as u64 * NUMBER + r.item as u64,
     }

@@ -29,10 +29,10 @@ room-kept :
     → Room S′ E′ P′
 room-kept a b c R = record { starts = rw a (R .starts); ends = rw b (R .ends); powers = rw c (R .powers) }
 
-module _ (slots s S E : List ℕ) (P : List ℤ) (n at k : ℕ) (minus : Bool) where
+module _ (arities src S E : List ℕ) (P : List ℤ) (n at k : ℕ) (minus : Bool) where
   -- no term
-  pub collect-none : k ≡ 0 → (r : Filled) → r .at ≡ at → r .n ≡ n → Promises₂ (Collect slots s S E P n at k)
-      (λ (l : Exps) (ts : Terms). Collected s S E P (at + length (encodes ts)) r (pours minus ts l))
+  pub collect-none : k ≡ 0 → (r : Filled) → r .at ≡ at → r .n ≡ n → Promises₂ (Collect arities src S E P n at k)
+      (λ (l : Exps) (ts : Terms). Collected src S E P (at + length (encodes ts)) r (pours minus ts l))
   unfolding pour
   collect-none h r e₁ e₂ l nil C = record { table = rw e₂ (C .table); next = e₁ ∙ sym (add-zero at) }
   collect-none h r e₁ e₂ l (t & us) C = absurd (let q : suc (count us) ≡ k = C .many in omega arith)
@@ -43,26 +43,26 @@ module _ (slots s S E : List ℕ) (P : List ℤ) (n at k : ℕ) (minus : Bool) w
       pub t : Term
       pub us : Terms
       pub is : ts ≡ t & us
-      pub one : OneAt slots s at (at + length (encode t)) t
-      pub rest : Laid slots s (at + length (encode t)) us
+      pub one : OneAt arities src at (at + length (encode t)) t
+      pub rest : Laid arities src (at + length (encode t)) us
       pub left : count us ≡ k - 1
       pub some : 0 < k
       pub mass-left : mass l + (symbols t + symbolss us) ≤ mostSymbols
 
-    pub head : (l : Exps) (ts : Terms) → Collect slots s S E P n at k l ts → Head l ts
+    pub head : (l : Exps) (ts : Terms) → Collect arities src S E P n at k l ts → Head l ts
     head l nil C = absurd (h (sym (C .many)))
     head l (t & us) C =
         let q : suc (count us) ≡ k = C .many in
         record { t = t; us = us; is = refl; one = first-of (C .laid); rest = others-of (C .laid); left = omega arith; some = omega arith; mass-left = C .few }
 
-    pub collect-more : Asks₂ (Collect slots s S E P n at k) → 0 < k
+    pub collect-more : Asks₂ (Collect arities src S E P n at k) → 0 < k
     collect-more J = head (J .0) (J .1) (J .2) .some
 
     -- the others, after the first went into the table
     module _ (S₁ E₁ : List ℕ) (P₁ : List ℤ) (f : Filled) (lS : length S₁ ≡ length S) (lE : length E₁ ≡ length E) (lP : length P₁ ≡ length P)
-        (D : (l : Exps) (ts : Terms) (C : Collect slots s S E P n at k l ts)
-        → Collected s S₁ E₁ P₁ (at + length (encode (head l ts C .t))) f (pour minus (head l ts C .t) l)) where
-      others : (l : Exps) (ts : Terms) (C : Collect slots s S E P n at k l ts) → Collect slots s S₁ E₁ P₁ (f .n) (f .at) (k - 1)
+        (D : (l : Exps) (ts : Terms) (C : Collect arities src S E P n at k l ts)
+        → Collected src S₁ E₁ P₁ (at + length (encode (head l ts C .t))) f (pour minus (head l ts C .t) l)) where
+      others : (l : Exps) (ts : Terms) (C : Collect arities src S E P n at k l ts) → Collect arities src S₁ E₁ P₁ (f .n) (f .at) (k - 1)
           (pour minus (head l ts C .t) l) (head l ts C .us)
       others l ts C =
           let X = head l ts C in
@@ -77,16 +77,16 @@ module _ (slots s S E : List ℕ) (P : List ℤ) (n at k : ℕ) (minus : Bool) w
             short = C .short;
           }
 
-      pub others-asks : (t : ℕ) → length s - at ≡ t → (J : Asks₂ (Collect slots s S E P n at k)) → (length s - f .at < t) × Asks₂
-          (Collect slots s S₁ E₁ P₁ (f .n) (f .at) (k - 1))
+      pub others-asks : (t : ℕ) → length src - at ≡ t → (J : Asks₂ (Collect arities src S E P n at k)) → (length src - f .at < t) × Asks₂
+          (Collect arities src S₁ E₁ P₁ (f .n) (f .at) (k - 1))
       others-asks t μ J =
           let X = head (J .0) (J .1) (J .2) in
           (omega (arith, D (J .0) (J .1) (J .2) .next, one-after (X .one), one-within (X .one)), (_, _, others (J .0) (J .1) (J .2)))
 
       pub others-returns :
-          (S₂ E₂ : List ℕ) (P₂ : List ℤ) (r : Filled) → Promises₂ (Collect slots s S₁ E₁ P₁ (f .n) (f .at) (k - 1))
-          (λ (l : Exps) (ts : Terms). Collected s S₂ E₂ P₂ ((f .at) + length (encodes ts)) r (pours minus ts l))
-          → Promises₂ (Collect slots s S E P n at k) (λ (l : Exps) (ts : Terms). Collected s S₂ E₂ P₂ (at + length (encodes ts)) r (pours minus ts l))
+          (S₂ E₂ : List ℕ) (P₂ : List ℤ) (r : Filled) → Promises₂ (Collect arities src S₁ E₁ P₁ (f .n) (f .at) (k - 1))
+          (λ (l : Exps) (ts : Terms). Collected src S₂ E₂ P₂ ((f .at) + length (encodes ts)) r (pours minus ts l))
+          → Promises₂ (Collect arities src S E P n at k) (λ (l : Exps) (ts : Terms). Collected src S₂ E₂ P₂ (at + length (encodes ts)) r (pours minus ts l))
       unfolding pour
       others-returns S₂ E₂ P₂ r G l ts C =
           let X = head l ts C in
@@ -100,11 +100,11 @@ module _ (slots s S E : List ℕ) (P : List ℤ) (n at k : ℕ) (minus : Bool) w
           }
 
     -- ── the first is gone into ──
-    module _ (m : Bool) (c next : ℕ) (w : wayOf minus (symbolAt s slots at) ≡ way.Into m c next) where
-      into : (l : Exps) (ts : Terms) (C : Collect slots s S E P n at k l ts) → GoneInto slots s at minus m c next (head l ts C .t)
+    module _ (m : Bool) (c next : ℕ) (w : wayOf minus (symbolAt src arities at) ≡ way.Into m c next) where
+      into : (l : Exps) (ts : Terms) (C : Collect arities src S E P n at k l ts) → GoneInto arities src at minus m c next (head l ts C .t)
       into l ts C = way-into minus m c next (head l ts C .t) (head l ts C .one) w
 
-      inner : (l : Exps) (ts : Terms) (C : Collect slots s S E P n at k l ts) → Collect slots s S E P n next c l (into l ts C .args)
+      inner : (l : Exps) (ts : Terms) (C : Collect arities src S E P n at k l ts) → Collect arities src S E P n next c l (into l ts C .args)
       inner l ts C =
           let X = head l ts C in
           let I = into l ts C in
@@ -118,25 +118,26 @@ module _ (slots s S E : List ℕ) (P : List ℤ) (n at k : ℕ) (minus : Bool) w
             short = C .short;
           }
 
-      pub into-asks : (t : ℕ) → length s - at ≡ t → (J : Asks₂ (Collect slots s S E P n at k)) → (length s - next < t) × Asks₂ (Collect slots s S E P n next c)
+      pub into-asks : (t : ℕ) → length src - at ≡ t → (J : Asks₂ (Collect arities src S E P n at k)) → (length src - next < t) × Asks₂
+          (Collect arities src S E P n next c)
       into-asks t μ J =
           let X = head (J .0) (J .1) (J .2) in
           let I = into (J .0) (J .1) (J .2) in
           (omega (arith, I .after, one-after (X .one), one-within (X .one)), (_, _, inner (J .0) (J .1) (J .2)))
 
       pub into-done :
-          (S₁ E₁ : List ℕ) (P₁ : List ℤ) (f : Filled) → Promises₂ (Collect slots s S E P n next c)
-          (λ (l : Exps) (ts : Terms). Collected s S₁ E₁ P₁ (next + length (encodes ts)) f (pours m ts l))
-          → (l : Exps) (ts : Terms) (C : Collect slots s S E P n at k l ts)
-          → Collected s S₁ E₁ P₁ (at + length (encode (head l ts C .t))) f (pour minus (head l ts C .t) l)
+          (S₁ E₁ : List ℕ) (P₁ : List ℤ) (f : Filled) → Promises₂ (Collect arities src S E P n next c)
+          (λ (l : Exps) (ts : Terms). Collected src S₁ E₁ P₁ (next + length (encodes ts)) f (pours m ts l))
+          → (l : Exps) (ts : Terms) (C : Collect arities src S E P n at k l ts)
+          → Collected src S₁ E₁ P₁ (at + length (encode (head l ts C .t))) f (pour minus (head l ts C .t) l)
       into-done S₁ E₁ P₁ f G l ts C =
           let I = into l ts C in
           let M = G _ _ (inner l ts C) in
           record { table = rw (I .same l) (M .table); next = M .next ∙ I .ends }
 
     -- ── the first is a factor ──
-    module _ (w : wayOf minus (symbolAt s slots at) ≡ way.Factor) where
-      factor : (l : Exps) (ts : Terms) (C : Collect slots s S E P n at k l ts) → EnterAt slots s S E P n at l (head l ts C .t)
+    module _ (w : wayOf minus (symbolAt src arities at) ≡ way.Factor) where
+      factor : (l : Exps) (ts : Terms) (C : Collect arities src S E P n at k l ts) → EnterAt arities src S E P n at l (head l ts C .t)
       factor l ts C =
           let X = head l ts C in
           record { table = C .table; room = C .room; few = omega (arith, X .mass-left, some-symbol (X .t)); one = X .one; short = C .short }
@@ -145,14 +146,14 @@ module _ (slots s S E : List ℕ) (P : List ℤ) (n at k : ℕ) (minus : Bool) w
           some-symbol (Term.leaf q i) = omega arith
           some-symbol (Term.app q us) = omega arith
 
-      pub factor-asks : Asks₂ (Collect slots s S E P n at k) → Asks₂ (EnterAt slots s S E P n at)
+      pub factor-asks : Asks₂ (Collect arities src S E P n at k) → Asks₂ (EnterAt arities src S E P n at)
       factor-asks J = (_, _, factor (J .0) (J .1) (J .2))
 
       pub factor-done :
-          (S₁ E₁ : List ℕ) (P₁ : List ℤ) (f : Filled) → Promises₂ (EnterAt slots s S E P n at)
-          (λ (l : Exps) (t : Term). Collected s S₁ E₁ P₁ (at + length (encode t)) f (enter t (sign minus) l))
-          → (l : Exps) (ts : Terms) (C : Collect slots s S E P n at k l ts)
-          → Collected s S₁ E₁ P₁ (at + length (encode (head l ts C .t))) f (pour minus (head l ts C .t) l)
+          (S₁ E₁ : List ℕ) (P₁ : List ℤ) (f : Filled) → Promises₂ (EnterAt arities src S E P n at)
+          (λ (l : Exps) (t : Term). Collected src S₁ E₁ P₁ (at + length (encode t)) f (enter t (sign minus) l))
+          → (l : Exps) (ts : Terms) (C : Collect arities src S E P n at k l ts)
+          → Collected src S₁ E₁ P₁ (at + length (encode (head l ts C .t))) f (pour minus (head l ts C .t) l)
       factor-done S₁ E₁ P₁ f G l ts C =
           let X = head l ts C in
           let M = G _ _ (factor l ts C) in

@@ -21,33 +21,33 @@ pub record Room (S E : List ℕ) (P : List ℤ) : Type 0 where
   pub powers : mostSymbols ≤ length P
 
 -- ── entering a factor ──
--- the factor t, whose bytes are the key, stands in s from a on
-pub record Enter (key s S E : List ℕ) (P : List ℤ) (n a : ℕ) (l : Exps) (t : Term) : Type 0 where
-  pub table : Table s S E P n l
+-- the factor t, whose bytes are the key, stands in src from a on
+pub record Enter (key src S E : List ℕ) (P : List ℤ) (n a : ℕ) (l : Exps) (t : Term) : Type 0 where
+  pub table : Table src S E P n l
   pub room : Room S E P
   pub few : mass l < mostSymbols
   pub bytes : key ≡ encode t
-  pub there : Stands s a (encode t) (a + length key)
+  pub there : Stands src a (encode t) (a + length key)
 
 -- ── the k terms ts at a place, their factors to be entered ──
-pub record Collect (slots s S E : List ℕ) (P : List ℤ) (n at k : ℕ) (l : Exps) (ts : Terms) : Type 0 where
-  pub table : Table s S E P n l
+pub record Collect (arities src S E : List ℕ) (P : List ℤ) (n at k : ℕ) (l : Exps) (ts : Terms) : Type 0 where
+  pub table : Table src S E P n l
   pub room : Room S E P
   pub few : mass l + symbolss ts ≤ mostSymbols
-  pub laid : Laid slots s at ts
+  pub laid : Laid arities src at ts
   pub many : count ts ≡ k
-  pub inside : at ≤ length s
-  pub short : length s ≤ longest
+  pub inside : at ≤ length src
+  pub short : length src ≤ longest
 
 -- the table has the factors l, and the walk stands at e
-pub record Collected (s S E : List ℕ) (P : List ℤ) (e : ℕ) (r : Filled) (l : Exps) : Type 0 where
-  pub table : Table s S E P (r .n) l
+pub record Collected (src S E : List ℕ) (P : List ℤ) (e : ℕ) (r : Filled) (l : Exps) : Type 0 where
+  pub table : Table src S E P (r .n) l
   pub next : r .at ≡ e
 
 -- ── one term at a place that is a factor ──
-pub record EnterAt (slots s S E : List ℕ) (P : List ℤ) (n at : ℕ) (l : Exps) (t : Term) : Type 0 where
-  pub table : Table s S E P n l
+pub record EnterAt (arities src S E : List ℕ) (P : List ℤ) (n at : ℕ) (l : Exps) (t : Term) : Type 0 where
+  pub table : Table src S E P n l
   pub room : Room S E P
   pub few : mass l < mostSymbols
-  pub one : OneAt slots s at (at + length (encode t)) t
-  pub short : length s ≤ longest
+  pub one : OneAt arities src at (at + length (encode t)) t
+  pub short : length src ≤ longest

@@ -8,14 +8,14 @@ use Rattle.term.specs.Arity.{arity}
 -- the first of them, the others, the arguments of one
 pub mod Laws
 
--- the terms ts stand in s from `at` on, formed and in range
-pub record Laid (slots s : List ℕ) (at : ℕ) (ts : Terms) : Type 0 where
-  pub formed : Formeds (arity slots) ts
+-- the terms ts stand in src from `at` on, formed and in range
+pub record Laid (arities src : List ℕ) (at : ℕ) (ts : Terms) : Type 0 where
+  pub formed : Formeds (arity arities) ts
   pub range : InRanges ts
-  pub there : Stands s at (encodes ts) (at + length (encodes ts))
+  pub there : Stands src at (encodes ts) (at + length (encodes ts))
 
--- the term t stands in s from `at` up to e
-pub record OneAt (slots s : List ℕ) (at e : ℕ) (t : Term) : Type 0 where
-  pub formed : Formed (arity slots) t
+-- the term t stands in src from `at` up to e
+pub record OneAt (arities src : List ℕ) (at e : ℕ) (t : Term) : Type 0 where
+  pub formed : Formed (arity arities) t
   pub range : InRange t
-  pub there : Stands s at (encode t) e
+  pub there : Stands src at (encode t) e

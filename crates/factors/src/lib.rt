@@ -16,7 +16,7 @@ use octets::Order;
 use term::Symbol;
 
 // Where a factor belongs among the entries, and whether it stands there already.
-pub struct Place {
+pub struct Position {
     pub at: usize,
     pub same: bool,
 }
@@ -34,33 +34,33 @@ pub struct Filled {
 }
 
 // The order of a factor's bytes and a part.
-fn compare_at(key: &[u8], s: &[u8], a: usize, e: usize) -> Order
-    requires { ⌜ (a ≤ e) × (e ≤ length (now s)) ⌝ }
-    ensures { λ r. ⌜ r ≡ compareBytes (now (key .entry)) (take (e - a) (drop a (now (s .entry)))) ⌝ }
+fn compare_at(key: &[u8], src: &[u8], a: usize, e: usize) -> Order
+    requires { ⌜ (a ≤ e) × (e ≤ length (now src)) ⌝ }
+    ensures { λ r. ⌜ r ≡ compareBytes (now (key .entry)) (take (e - a) (drop a (now (src .entry)))) ⌝ }
 {
-    octets::compare_bytes(key, &s[a..e])
+    octets::compare_bytes(key, &src[a..e])
 }
 
 // Where these bytes belong among n entries: past those that come before them.
-fn find_place(key: &[u8], s: &[u8], starts: &[usize], ends: &[usize], n: usize) -> Place
-    requires { ⌜ (n ≤ length (now starts)) × (n ≤ length (now ends)) × Bounds (now s) (now starts) (now ends) n ⌝ }
-    ensures { λ r. ⌜ FoundAt (now (key .entry)) (now (s .entry)) (now (starts .entry)) (now (ends .entry)) n r ⌝ }
+fn find_place(key: &[u8], src: &[u8], starts: &[usize], ends: &[usize], n: usize) -> Position
+    requires { ⌜ (n ≤ length (now starts)) × (n ≤ length (now ends)) × Bounds (now src) (now starts) (now ends) n ⌝ }
+    ensures { λ r. ⌜ FoundAt (now (key .entry)) (now (src .entry)) (now (starts .entry)) (now (ends .entry)) n r ⌝ }
 {
     let mut i = 0;
     while i < n {
-        match compare_at(key, s, starts[i], ends[i]) {
+        match compare_at(key, src, starts[i], ends[i]) {
             Order::Less => {
-                return Place { at: i, same: false };
+                return Position { at: i, same: false };
             }
             Order::Equal => {
-                return Place { at: i, same: true };
+                return Position { at: i, same: true };
             }
             Order::Greater => {
                 i += 1;
             }
         }
     }
-    Place { at: n, same: false }
+    Position { at: n, same: false }
 }
 
 // Makes room for an entry at i among n: those from i on move up by one.
@@ -101,16 +101,16 @@ fn enter(
     ends: &mut [usize],
     powers: &mut [i32],
     n: usize,
-    s: &[u8],
+    src: &[u8],
     key: &[u8],
     a: usize,
     minus: bool,
 ) -> usize
-    requires { ⌜ Asks₂ (Enter (now key) (now s) (now starts) (now ends) (now powers) n a) ⌝ }
-    ensures { λ r. ⌜ Promises₂ (Enter (now (key .entry)) (now (s .entry)) (now (starts .entry)) (now (ends .entry)) (now (powers .entry)) n a) (λ (l : Exps) (t : Term). Table (now (s .entry)) (now (starts .exit)) (now (ends .exit)) (now (powers .exit)) r (enter t (sign minus) l)) ⌝ }
+    requires { ⌜ Asks₂ (Enter (now key) (now src) (now starts) (now ends) (now powers) n a) ⌝ }
+    ensures { λ r. ⌜ Promises₂ (Enter (now (key .entry)) (now (src .entry)) (now (starts .entry)) (now (ends .entry)) (now (powers .entry)) n a) (λ (l : Exps) (t : Term). Table (now (src .entry)) (now (starts .exit)) (now (ends .exit)) (now (powers .exit)) r (enter t (sign minus) l)) ⌝ }
 {
     let e = a + key.len();
-    let p = find_place(key, s, starts, ends, n);
+    let p = find_place(key, src, starts, ends, n);
     let i = p.at;
     let same = p.same;
     let u = unit(minus);
@@ -130,10 +130,10 @@ fn enter(
 }
 
 // The way of the term at a place.
-fn way_at(s: &[u8], arities: &[u8], at: usize, minus: bool) -> Way
-    ensures { λ r. ⌜ r ≡ wayOf minus (symbolAt (now (s .entry)) (now (arities .entry)) at) ⌝ }
+fn way_at(src: &[u8], arities: &[u8], at: usize, minus: bool) -> Way
+    ensures { λ r. ⌜ r ≡ wayOf minus (symbolAt (now (src .entry)) (now (arities .entry)) at) ⌝ }
 {
-    match term::symbol_at(s, arities, at) {
+    match term::symbol_at(src, arities, at) {
         Symbol::Leaf(_, _, _) => Way::Factor,
         Symbol::Op(t, k, e) => {
             if t == term::ONE {
@@ -157,16 +157,16 @@ fn enter_at(
     ends: &mut [usize],
     powers: &mut [i32],
     n: usize,
-    s: &[u8],
+    src: &[u8],
     at: usize,
     arities: &[u8],
     minus: bool,
 ) -> Filled
-    requires { ⌜ Asks₂ (EnterAt (now arities) (now s) (now starts) (now ends) (now powers) n at) ⌝ }
-    ensures { λ r. ⌜ Promises₂ (EnterAt (now (arities .entry)) (now (s .entry)) (now (starts .entry)) (now (ends .entry)) (now (powers .entry)) n at) (λ (l : Exps) (t : Term). Collected (now (s .entry)) (now (starts .exit)) (now (ends .exit)) (now (powers .exit)) (at + length (encode t)) r (enter t (sign minus) l)) ⌝ }
+    requires { ⌜ Asks₂ (EnterAt (now arities) (now src) (now starts) (now ends) (now powers) n at) ⌝ }
+    ensures { λ r. ⌜ Promises₂ (EnterAt (now (arities .entry)) (now (src .entry)) (now (starts .entry)) (now (ends .entry)) (now (powers .entry)) n at) (λ (l : Exps) (t : Term). Collected (now (src .entry)) (now (starts .exit)) (now (ends .exit)) (now (powers .exit)) (at + length (encode t)) r (enter t (sign minus) l)) ⌝ }
 {
-    let key = term::term_part(s, arities, at);
-    let m = enter(starts, ends, powers, n, s, key, at, minus);
+    let key = term::term_part(src, arities, at);
+    let m = enter(starts, ends, powers, n, src, key, at, minus);
     Filled {
         at: at + key.len(),
         n: m,
@@ -179,26 +179,26 @@ pub fn collect(
     ends: &mut [usize],
     powers: &mut [i32],
     n: usize,
-    s: &[u8],
+    src: &[u8],
     at: usize,
     k: usize,
     arities: &[u8],
     minus: bool,
 ) -> Filled
-    requires { ⌜ Asks₂ (Collect (now arities) (now s) (now starts) (now ends) (now powers) n at k) ⌝ }
-    ensures { λ r. ⌜ Promises₂ (Collect (now (arities .entry)) (now (s .entry)) (now (starts .entry)) (now (ends .entry)) (now (powers .entry)) n at k) (λ (l : Exps) (ts : Terms). Collected (now (s .entry)) (now (starts .exit)) (now (ends .exit)) (now (powers .exit)) (at + length (encodes ts)) r (pours minus ts l)) ⌝ }
+    requires { ⌜ Asks₂ (Collect (now arities) (now src) (now starts) (now ends) (now powers) n at k) ⌝ }
+    ensures { λ r. ⌜ Promises₂ (Collect (now (arities .entry)) (now (src .entry)) (now (starts .entry)) (now (ends .entry)) (now (powers .entry)) n at k) (λ (l : Exps) (ts : Terms). Collected (now (src .entry)) (now (starts .exit)) (now (ends .exit)) (now (powers .exit)) (at + length (encodes ts)) r (pours minus ts l)) ⌝ }
 {
     if k == 0 {
         return Filled { at: at, n: n };
     }
-    match way_at(s, arities, at, minus) {
+    match way_at(src, arities, at, minus) {
         Way::Into(m, c, next) => {
-            let f = collect(starts, ends, powers, n, s, next, c, arities, m);
-            collect(starts, ends, powers, f.n, s, f.at, k - 1, arities, minus)
+            let f = collect(starts, ends, powers, n, src, next, c, arities, m);
+            collect(starts, ends, powers, f.n, src, f.at, k - 1, arities, minus)
         }
         Way::Factor => {
-            let f = enter_at(starts, ends, powers, n, s, at, arities, minus);
-            collect(starts, ends, powers, f.n, s, f.at, k - 1, arities, minus)
+            let f = enter_at(starts, ends, powers, n, src, at, arities, minus);
+            collect(starts, ends, powers, f.n, src, f.at, k - 1, arities, minus)
         }
     }
 }

@@ -45,22 +45,22 @@ marks-differ f g n = go (sameFact f g) refl
     go false e = e
 
 -- ── the loop: h is the mark of what was passed ──
-module _ (from : ℕ) (s : List ℕ) where
+module _ (from : ℕ) (file : List ℕ) where
   abbrev pub Marked : ℕ → ℕ → Type 0
-  Marked h i = markFrom from s ≡ markFrom h (drop i s)
+  Marked h i = markFrom from file ≡ markFrom h (drop i file)
 
   pub marked-none : Marked from 0
   marked-none = refl
 
-  pub marked-more : (h i : ℕ) → i < length s → Marked h i → Marked ((h * markBase + getD s i 0) % markLimit) (i + 1)
+  pub marked-more : (h i : ℕ) → i < length file → Marked h i → Marked ((h * markBase + getD file i 0) % markLimit) (i + 1)
   unfolding markFrom
   marked-more h i l e =
       let o : suc i ≡ i + 1 = omega arith in
-      e ∙ ap (markFrom h) (drop-cons s i 0 l) ∙ ap (λ (j : ℕ). markFrom ((h * markBase + getD s i 0) % markLimit) (drop j s)) o
+      e ∙ ap (markFrom h) (drop-cons file i 0 l) ∙ ap (λ (j : ℕ). markFrom ((h * markBase + getD file i 0) % markLimit) (drop j file)) o
 
-  pub marked-all : (h i : ℕ) → length s ≤ i → Marked h i → h ≡ markFrom from s
+  pub marked-all : (h i : ℕ) → length file ≤ i → Marked h i → h ≡ markFrom from file
   unfolding markFrom
-  marked-all h i l e = sym (e ∙ ap (markFrom h) (drop-of-length-le s l))
+  marked-all h i l e = sym (e ∙ ap (markFrom h) (drop-of-length-le file l))
 
 -- ── a fact that was written ──
 pub fact-marked :

@@ -56,10 +56,10 @@ abbrev pub factRoom : ℕ
 factRoom = mostFactArity * termRoom
 
 -- the fact f stands in src at a place, its variables have the values vs, and an output of n bytes has room for a fact from o on
-pub record FactJob (slots ars vals starts src : List ℕ) (place n o : ℕ) (vs : List Term) (f : Fact) : Type 0 where
-  pub table : Builtins slots
-  pub here : Here (fact src slots ars) f place
-  pub values : (v : ℕ) → Occurss variable v (terms (f .terms)) → Value slots vals starts v (valueAt vs v)
+pub record FactJob (arities ars vals starts src : List ℕ) (place n o : ℕ) (vs : List Term) (f : Fact) : Type 0 where
+  pub table : Builtins arities
+  pub here : Here (fact src arities ars) f place
+  pub values : (v : ℕ) → Occurss variable v (terms (f .terms)) → Value arities vals starts v (valueAt vs v)
   pub small : All (λ t. symbols (sub (valueAt vs) t) ≤ mostSymbols) (f .terms)
   pub few : length (plainBytes (filledFact vs f)) ≤ factRoom
   pub room : o + factRoom ≤ n
@@ -73,6 +73,6 @@ pub record Put (out : List ℕ) (o : ℕ) (out′ : List ℕ) (o′ : ℕ) (q : 
   pub few : length q ≤ factRoom
 
 -- and the fact has the arguments that are wanted
-pub record WantedJob (slots ars vals starts src : List ℕ) (place n o : ℕ) (q : Wanted) (vs : List Term) (f : Fact) : Type 0 where
-  pub job : FactJob slots ars vals starts src place n o vs f
+pub record WantedJob (arities ars vals starts src : List ℕ) (place n o : ℕ) (q : Wanted) (vs : List Term) (f : Fact) : Type 0 where
+  pub job : FactJob arities ars vals starts src place n o vs f
   pub has : Has q f

@@ -13,7 +13,7 @@ ghost use Rattle.steps.specs.Values.Filled.{ArityTable};
 ghost use Rattle.facts.specs.Writing.{factRoom, Put};
 ghost use Rattle.facts.specs.Calls.{Room, FactOf, SomeFact, WholeFact, HasFact, OneOf, HasOne, factAt, argumentAt, Compared};
 use crate::nodes;
-use crate::nodes::Place;
+use crate::nodes::FactId;
 use crate::writing::Wanted;
 use term::Public;
 
@@ -27,32 +27,32 @@ pub struct Both {
 }
 
 // Whether the first m bytes are those from m on up to n.
-fn same_parts(s: &[u8], m: usize, n: usize) -> bool
-    requires { ⌜ (m ≤ n) × (n ≤ length (now s)) ⌝ }
-    ensures { λ r. ⌜ r ≡ isEqual (compareBytes (take m (now (s .entry))) (take (n - m) (drop m (now (s .entry))))) ⌝ }
+fn same_parts(file: &[u8], m: usize, n: usize) -> bool
+    requires { ⌜ (m ≤ n) × (n ≤ length (now file)) ⌝ }
+    ensures { λ r. ⌜ r ≡ isEqual (compareBytes (take m (now (file .entry))) (take (n - m) (drop m (now (file .entry))))) ⌝ }
 {
-    octets::same_bytes(&s[..m], &s[m..n])
+    octets::same_bytes(&file[..m], &file[m..n])
 }
 
 // Two facts of nodes, written one behind the other.
 fn compare(
     out: &mut [u8],
-    s: &[u8],
+    file: &[u8],
     protocol: &[u8],
     arities: &[u8],
     ars: &[u8],
     rules: &[usize],
     nr: usize,
-    x: Place,
+    x: FactId,
     wx: Wanted,
-    y: Place,
+    y: FactId,
     wy: Wanted,
 ) -> Both
-    requires { ⌜ Room (now out) factRoom × (length (now s) ≤ longest) × Given (now protocol) (now arities) (now rules) nr × ArityTable (now protocol) (now arities) (now rules) nr (now ars) × SomeFact (now protocol) (now arities) (now rules) nr (now s) x wx × SomeFact (now protocol) (now arities) (now rules) nr (now s) y wy ⌝ }
-    ensures { λ r. ⌜ ((p : Protocol) (m n : Node) → IndexOf (now (protocol .entry)) (now (arities .entry)) (now (rules .entry)) nr p → FactOf p (now (s .entry)) x wx m → FactOf p (now (s .entry)) y wy n → Compared wx (factAt p (x .part) (x .number) m) wy (factAt p (y .part) (y .number) n) r) ⌝ }
+    requires { ⌜ Room (now out) factRoom × (length (now file) ≤ longest) × Given (now protocol) (now arities) (now rules) nr × ArityTable (now protocol) (now arities) (now rules) nr (now ars) × SomeFact (now protocol) (now arities) (now rules) nr (now file) x wx × SomeFact (now protocol) (now arities) (now rules) nr (now file) y wy ⌝ }
+    ensures { λ r. ⌜ ((p : Protocol) (m n : Node) → IndexOf (now (protocol .entry)) (now (arities .entry)) (now (rules .entry)) nr p → FactOf p (now (file .entry)) x wx m → FactOf p (now (file .entry)) y wy n → Compared wx (factAt p (x .list) (x .number) m) wy (factAt p (y .list) (y .number) n) r) ⌝ }
 {
-    let a = nodes::node_fact(out, 0, s, protocol, arities, ars, rules, nr, x, wx);
-    let b = nodes::node_fact(out, a.end, s, protocol, arities, ars, rules, nr, y, wy);
+    let a = nodes::node_fact(out, 0, file, protocol, arities, ars, rules, nr, x, wx);
+    let b = nodes::node_fact(out, a.end, file, protocol, arities, ars, rules, nr, y, wy);
     let same = same_parts(out, a.end, b.end);
     Both {
         symbols: a.symbol == b.symbol,
@@ -63,21 +63,21 @@ fn compare(
 // Whether two facts of nodes are the same. Their canonical bytes go into the output.
 pub fn same_fact(
     out: &mut [u8],
-    s: &[u8],
+    file: &[u8],
     protocol: &[u8],
     arities: &[u8],
     ars: &[u8],
     rules: &[usize],
     nr: usize,
-    x: Place,
-    y: Place,
+    x: FactId,
+    y: FactId,
 ) -> bool
-    requires { ⌜ Room (now out) factRoom × (length (now s) ≤ longest) × Given (now protocol) (now arities) (now rules) nr × ArityTable (now protocol) (now arities) (now rules) nr (now ars) × HasFact (now protocol) (now arities) (now rules) nr (now s) x × HasFact (now protocol) (now arities) (now rules) nr (now s) y ⌝ }
-    ensures { λ r. ⌜ ((p : Protocol) (m n : Node) → IndexOf (now (protocol .entry)) (now (arities .entry)) (now (rules .entry)) nr p → WholeFact p (now (s .entry)) x m → WholeFact p (now (s .entry)) y n → r ≡ sameFact (factAt p (x .part) (x .number) m) (factAt p (y .part) (y .number) n)) ⌝ }
+    requires { ⌜ Room (now out) factRoom × (length (now file) ≤ longest) × Given (now protocol) (now arities) (now rules) nr × ArityTable (now protocol) (now arities) (now rules) nr (now ars) × HasFact (now protocol) (now arities) (now rules) nr (now file) x × HasFact (now protocol) (now arities) (now rules) nr (now file) y ⌝ }
+    ensures { λ r. ⌜ ((p : Protocol) (m n : Node) → IndexOf (now (protocol .entry)) (now (arities .entry)) (now (rules .entry)) nr p → WholeFact p (now (file .entry)) x m → WholeFact p (now (file .entry)) y n → r ≡ sameFact (factAt p (x .list) (x .number) m) (factAt p (y .list) (y .number) n)) ⌝ }
 {
     let b = compare(
         out,
-        s,
+        file,
         protocol,
         arities,
         ars,
@@ -94,23 +94,23 @@ pub fn same_fact(
 // Whether argument i of a node's fact and argument j of another are the same.
 pub fn same_argument(
     out: &mut [u8],
-    s: &[u8],
+    file: &[u8],
     protocol: &[u8],
     arities: &[u8],
     ars: &[u8],
     rules: &[usize],
     nr: usize,
-    x: Place,
+    x: FactId,
     i: usize,
-    y: Place,
+    y: FactId,
     j: usize,
 ) -> bool
-    requires { ⌜ Room (now out) factRoom × (length (now s) ≤ longest) × Given (now protocol) (now arities) (now rules) nr × ArityTable (now protocol) (now arities) (now rules) nr (now ars) × HasOne (now protocol) (now arities) (now rules) nr (now s) x i × HasOne (now protocol) (now arities) (now rules) nr (now s) y j ⌝ }
-    ensures { λ r. ⌜ ((p : Protocol) (m n : Node) → IndexOf (now (protocol .entry)) (now (arities .entry)) (now (rules .entry)) nr p → OneOf p (now (s .entry)) x i m → OneOf p (now (s .entry)) y j n → r ≡ sameTerm (argumentAt p (x .part) (x .number) i m) (argumentAt p (y .part) (y .number) j n)) ⌝ }
+    requires { ⌜ Room (now out) factRoom × (length (now file) ≤ longest) × Given (now protocol) (now arities) (now rules) nr × ArityTable (now protocol) (now arities) (now rules) nr (now ars) × HasOne (now protocol) (now arities) (now rules) nr (now file) x i × HasOne (now protocol) (now arities) (now rules) nr (now file) y j ⌝ }
+    ensures { λ r. ⌜ ((p : Protocol) (m n : Node) → IndexOf (now (protocol .entry)) (now (arities .entry)) (now (rules .entry)) nr p → OneOf p (now (file .entry)) x i m → OneOf p (now (file .entry)) y j n → r ≡ sameTerm (argumentAt p (x .list) (x .number) i m) (argumentAt p (y .list) (y .number) j n)) ⌝ }
 {
     let b = compare(
         out,
-        s,
+        file,
         protocol,
         arities,
         ars,
@@ -136,23 +136,23 @@ fn put_public(out: &mut [u8], o: usize, name: Public) -> usize
 // Whether argument i of a node's fact is a public name.
 pub fn is_public(
     out: &mut [u8],
-    s: &[u8],
+    file: &[u8],
     protocol: &[u8],
     arities: &[u8],
     ars: &[u8],
     rules: &[usize],
     nr: usize,
-    x: Place,
+    x: FactId,
     i: usize,
     name: Public,
 ) -> bool
-    requires { ⌜ Room (now out) factRoom × (length (now s) ≤ longest) × Given (now protocol) (now arities) (now rules) nr × ArityTable (now protocol) (now arities) (now rules) nr (now ars) × HasOne (now protocol) (now arities) (now rules) nr (now s) x i ⌝ }
-    ensures { λ r. ⌜ ((p : Protocol) (m : Node) → IndexOf (now (protocol .entry)) (now (arities .entry)) (now (rules .entry)) nr p → OneOf p (now (s .entry)) x i m → r ≡ sameTerm (argumentAt p (x .part) (x .number) i m) (leaf public (name .0))) ⌝ }
+    requires { ⌜ Room (now out) factRoom × (length (now file) ≤ longest) × Given (now protocol) (now arities) (now rules) nr × ArityTable (now protocol) (now arities) (now rules) nr (now ars) × HasOne (now protocol) (now arities) (now rules) nr (now file) x i ⌝ }
+    ensures { λ r. ⌜ ((p : Protocol) (m : Node) → IndexOf (now (protocol .entry)) (now (arities .entry)) (now (rules .entry)) nr p → OneOf p (now (file .entry)) x i m → r ≡ sameTerm (argumentAt p (x .list) (x .number) i m) (leaf public (name .0))) ⌝ }
 {
     let a = nodes::node_fact(
         out,
         0,
-        s,
+        file,
         protocol,
         arities,
         ars,

@@ -6,7 +6,7 @@ ghost use lib.ListN.{length};
 ghost use Rattle.protocol.specs.Figures.{listCount};
 ghost use Rattle.octets.specs.Limits.{longest};
 ghost use Rattle.octets.specs.Head.{Bytes};
-ghost use Rattle.protocol.specs.Protocol.{Rule, Protocol, part, rule};
+ghost use Rattle.protocol.specs.Protocol.{Rule, Protocol, listOf, rule};
 ghost use Rattle.protocol.specs.Places.{Here};
 ghost use Rattle.rules.specs.Numbered.{ruleOf};
 ghost use Rattle.steps.specs.Nodes.{Node, node};
@@ -16,12 +16,12 @@ ghost use Rattle.steps.specs.Values.Filled.{ArityTable};
 use number::Number;
 
 // How many facts list w of the rule at a place has.
-fn rule_count(src: &[u8], arities: &[u8], ars: &[u8], place: usize, w: usize) -> usize
-    requires { ⌜ (length (now src) ≤ longest) × (w < listCount) ⌝ }
-    ensures { λ r. ⌜ Bytes (now (src .entry)) × ((u : Rule) → Here (rule (now (src .entry)) (now (arities .entry)) (now (ars .entry))) u place → r ≡ length (part w u)) ⌝ }
+fn rule_count(src: &[u8], arities: &[u8], ars: &[u8], place: usize, list: usize) -> usize
+    requires { ⌜ (length (now src) ≤ longest) × (list < listCount) ⌝ }
+    ensures { λ r. ⌜ Bytes (now (src .entry)) × ((u : Rule) → Here (rule (now (src .entry)) (now (arities .entry)) (now (ars .entry))) u place → r ≡ length (listOf list u)) ⌝ }
 {
-    let list = protocol::places::list_at(src, arities, ars, place, w);
-    protocol::places::count_of(src, list)
+    let start = protocol::places::list_at(src, arities, ars, place, list);
+    protocol::places::count_of(src, start)
 }
 
 // Of the rule of a number.
@@ -32,33 +32,33 @@ fn count_from(
     rules: &[usize],
     nr: usize,
     number: usize,
-    w: usize,
+    list: usize,
 ) -> usize
-    requires { ⌜ (w < listCount) × Given (now protocol) (now arities) (now rules) nr × ArityTable (now protocol) (now arities) (now rules) nr (now ars) ⌝ }
-    ensures { λ r. ⌜ ((p : Protocol) (u : Rule) → IndexOf (now (protocol .entry)) (now (arities .entry)) (now (rules .entry)) nr p → ruleOf p number ≡ some u → r ≡ length (part w u)) ⌝ }
+    requires { ⌜ (list < listCount) × Given (now protocol) (now arities) (now rules) nr × ArityTable (now protocol) (now arities) (now rules) nr (now ars) ⌝ }
+    ensures { λ r. ⌜ ((p : Protocol) (u : Rule) → IndexOf (now (protocol .entry)) (now (arities .entry)) (now (rules .entry)) nr p → ruleOf p number ≡ some u → r ≡ length (listOf list u)) ⌝ }
 {
     let mut own = [0u8; rules::numbered::RULE_ROOM];
     let found = rules::numbered::find_rule(arities, rules, nr, number, &mut own);
     let src = rules::numbered::rule_part(protocol, &own, found);
-    rule_count(src, arities, ars, 0, w)
+    rule_count(src, arities, ars, 0, list)
 }
 
 // Of the node at a place: 0 premises, 1 actions, 2 conclusions.
 pub fn fact_count(
-    s: &[u8],
+    file: &[u8],
     protocol: &[u8],
     arities: &[u8],
     ars: &[u8],
     rules: &[usize],
     nr: usize,
     place: usize,
-    w: usize,
+    list: usize,
 ) -> usize
-    requires { ⌜ (w < listCount) × Given (now protocol) (now arities) (now rules) nr × ArityTable (now protocol) (now arities) (now rules) nr (now ars) ⌝ }
-    ensures { λ r. ⌜ ((p : Protocol) (x : Node) → IndexOf (now (protocol .entry)) (now (arities .entry)) (now (rules .entry)) nr p → Here (node p (now (s .entry))) x place → r ≡ length (factsOf p w x)) ⌝ }
+    requires { ⌜ (list < listCount) × Given (now protocol) (now arities) (now rules) nr × ArityTable (now protocol) (now arities) (now rules) nr (now ars) ⌝ }
+    ensures { λ r. ⌜ ((p : Protocol) (x : Node) → IndexOf (now (protocol .entry)) (now (arities .entry)) (now (rules .entry)) nr p → Here (node p (now (file .entry))) x place → r ≡ length (factsOf p list x)) ⌝ }
 {
-    match number::read_number(s, place) {
-        Number::Value(r, _) => count_from(protocol, arities, ars, rules, nr, r as usize, w),
+    match number::read_number(file, place) {
+        Number::Value(r, _) => count_from(protocol, arities, ars, rules, nr, r as usize, list),
         Number::Fault => 0,
     }
 }

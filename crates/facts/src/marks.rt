@@ -10,7 +10,7 @@ ghost use Rattle.steps.specs.Values.Filled.{ArityTable};
 ghost use Rattle.facts.specs.Calls.{Room, HasFact, WholeFact, factAt};
 ghost use Rattle.facts.specs.Marks.{markLimit, markFrom, markOf};
 use crate::nodes;
-use crate::nodes::Place;
+use crate::nodes::FactId;
 use crate::writing::Wanted;
 
 // A mark is a number below the limit, a prime below 2 to the 16th.
@@ -19,14 +19,14 @@ const BASE: u32 = 257;
 pub const LIMIT: u32 = 65521;
 
 // The mark of some bytes, from a number on.
-fn mark_bytes(s: &[u8], from: u32) -> u32
+fn mark_bytes(file: &[u8], from: u32) -> u32
     requires { ⌜ from < markLimit ⌝ }
-    ensures { λ r. ⌜ r ≡ markFrom from (now (s .entry)) ⌝ }
+    ensures { λ r. ⌜ r ≡ markFrom from (now (file .entry)) ⌝ }
 {
     let mut h = from;
     let mut i = 0;
-    while i < s.len() {
-        h = (h * BASE + s[i] as u32) % LIMIT;
+    while i < file.len() {
+        h = (h * BASE + file[i] as u32) % LIMIT;
         i += 1;
     }
     h
@@ -35,17 +35,28 @@ fn mark_bytes(s: &[u8], from: u32) -> u32
 // The mark of a node's fact, of its symbol and canonical bytes.
 pub fn fact_mark(
     out: &mut [u8],
-    s: &[u8],
+    file: &[u8],
     protocol: &[u8],
     arities: &[u8],
     ars: &[u8],
     rules: &[usize],
     nr: usize,
-    x: Place,
+    x: FactId,
 ) -> u32
-    requires { ⌜ Room (now out) 0 × (length (now s) ≤ longest) × Given (now protocol) (now arities) (now rules) nr × ArityTable (now protocol) (now arities) (now rules) nr (now ars) × HasFact (now protocol) (now arities) (now rules) nr (now s) x ⌝ }
-    ensures { λ r. ⌜ ((p : Protocol) (m : Node) → IndexOf (now (protocol .entry)) (now (arities .entry)) (now (rules .entry)) nr p → WholeFact p (now (s .entry)) x m → r ≡ markOf (factAt p (x .part) (x .number) m)) ⌝ }
+    requires { ⌜ Room (now out) 0 × (length (now file) ≤ longest) × Given (now protocol) (now arities) (now rules) nr × ArityTable (now protocol) (now arities) (now rules) nr (now ars) × HasFact (now protocol) (now arities) (now rules) nr (now file) x ⌝ }
+    ensures { λ r. ⌜ ((p : Protocol) (m : Node) → IndexOf (now (protocol .entry)) (now (arities .entry)) (now (rules .entry)) nr p → WholeFact p (now (file .entry)) x m → r ≡ markOf (factAt p (x .list) (x .number) m)) ⌝ }
 {
-    let a = nodes::node_fact(out, 0, s, protocol, arities, ars, rules, nr, x, Wanted::All);
+    let a = nodes::node_fact(
+        out,
+        0,
+        file,
+        protocol,
+        arities,
+        ars,
+        rules,
+        nr,
+        x,
+        Wanted::All,
+    );
     mark_bytes(&out[..a.end], a.symbol as u32)
 }

@@ -25,15 +25,15 @@ pub enum Wanted {
 }
 
 // The places of k values that stand one behind the other from a place on, each into its entry.
-pub fn value_places(s: &[u8], arities: &[u8], at: usize, k: usize, starts: &mut [usize])
-    requires { ⌜ (length (now s) ≤ longest) × (k ≤ length (now starts)) ⌝ }
+pub fn value_places(file: &[u8], arities: &[u8], at: usize, k: usize, starts: &mut [usize])
+    requires { ⌜ (length (now file) ≤ longest) × (k ≤ length (now starts)) ⌝ }
     ensures kept { λ r. ⌜ length (now (starts .exit)) ≡ length (now (starts .entry)) ⌝ }
-    ensures told { λ r. ⌜ ((vs : List Term) (e : ℕ) → many (term (now (s .entry)) (now (arities .entry))) k at ≡ got vs e → Placed (term (now (s .entry)) (now (arities .entry))) noTerm (now (starts .exit)) vs k) ⌝ }
+    ensures told { λ r. ⌜ ((vs : List Term) (e : ℕ) → many (term (now (file .entry)) (now (arities .entry))) k at ≡ got vs e → Placed (term (now (file .entry)) (now (arities .entry))) noTerm (now (starts .exit)) vs k) ⌝ }
 {
     let mut i = at;
     let mut v: usize = 0;
     while v < k {
-        match term::term_end(s, arities, i) {
+        match term::term_end(file, arities, i) {
             Part::End(e, _) => {
                 starts[v] = i;
                 i = e;

@@ -12,7 +12,7 @@ use Rattle.message.specs.Rules.{Rule, Ordinary, FitArities}
 use Rattle.message.specs.Table.{x, y, rules}
 use Rattle.message.specs.Table.Laws.{values, figure-fit, theory, no-rule}
 use Rattle.message.specs.Parts.{Role}
-use Rattle.message.specs.Canon.{as2, reduceAt, mkAt, mk}
+use Rattle.message.specs.Canon.{asBinary, reduceAt, applyAt, apply}
 use Rattle.message.specs.Canon.Views.{ordinary-role, reduce-hit, Plainly, stays, reduces, plainly}
 use Rattle.message.specs.Canon.Size.{mk-bytes}
 use Rattle.message.specs.Gather.{multiplied, raised}
@@ -21,16 +21,16 @@ use Rattle.message.specs.Gather.Same.{same-term, same-exp}
 module _ (ar : ℕ → Option ℕ) (g : FitArities ar) where
   -- ── a function with a rule ──
   module _ (f : ℕ) (r : Rule) (e : rules f ≡ some r) where
-    made-plain : (ts : Terms) → mk rules f ts ≡ reduceAt (some r) f ts
-    unfolding mk
+    made-plain : (ts : Terms) → apply rules f ts ≡ reduceAt (some r) f ts
+    unfolding apply
     made-plain ts =
-        ap (λ (k : Role). mkAt rules k f ts) (ordinary-role f (figure-fit ar f r e .head))
+        ap (λ (k : Role). applyAt rules k f ts) (ordinary-role f (figure-fit ar f r e .head))
         ∙ ap (λ (z : Option Rule). reduceAt z f ts) e
 
-    made-rule : (θ : ℕ → Term) → mk rules f (subs θ (r .args)) ≡ sub θ (r .result)
+    made-rule : (θ : ℕ → Term) → apply rules f (subs θ (r .args)) ≡ sub θ (r .result)
     made-rule θ = made-plain (subs θ (r .args)) ∙ reduce-hit r f θ (figure-fit ar f r e .bound)
 
-    made-stays : (ts : Terms) → ((θ : ℕ → Term) → ts ≢ subs θ (r .args)) → mk rules f ts ≡ app f ts
+    made-stays : (ts : Terms) → ((θ : ℕ → Term) → ts ≢ subs θ (r .args)) → apply rules f ts ≡ app f ts
     made-stays ts h = made-plain ts ∙ ap (λ (z : Option Rule). reduceAt z f ts) (sym e) ∙ go (reduceAt (rules f) f ts) (plainly rules f ts)
       where
         go : (t : Term) → Plainly rules f ts t → t ≡ app f ts
@@ -41,52 +41,52 @@ module _ (ar : ℕ → Option ℕ) (g : FitArities ar) where
             absurd (h θ (m ∙ ap (λ (z : Rule). subs θ (z .args)) (sym p)))
 
   -- ── dec, fst and snd ──
-  pub made-dec : (m k : Term) → mk rules decTag (enc m k & k & nil) ≡ m
+  pub made-dec : (m k : Term) → apply rules decTag (enc m k & k & nil) ≡ m
   made-dec m k = made-rule decTag (record { args = enc x y & y & nil; result = x }) refl (values m k)
 
   -- the key is another, or it is no ciphertext
-  pub made-dec-stays : (c k : Term) → ((m : Term) → c ≢ enc m k) → mk rules decTag (c & k & nil) ≡ dec c k
+  pub made-dec-stays : (c k : Term) → ((m : Term) → c ≢ enc m k) → apply rules decTag (c & k & nil) ≡ dec c k
   made-dec-stays c k h =
       made-stays decTag (record { args = enc x y & y & nil; result = x }) refl (c & k & nil)
       (λ θ e. let p : c ≡ enc (θ 0) (θ 1) = cc in let q : k ≡ θ 1 = cc in h (θ 0) (p ∙ ap (enc (θ 0)) (sym q)))
 
-  pub made-fst : (a b : Term) → mk rules fstTag (pair a b & nil) ≡ a
+  pub made-fst : (a b : Term) → apply rules fstTag (pair a b & nil) ≡ a
   made-fst a b = made-rule fstTag (record { args = pair x y & nil; result = x }) refl (values a b)
 
-  pub made-fst-stays : (c : Term) → ((a b : Term) → c ≢ pair a b) → mk rules fstTag (c & nil) ≡ fst c
+  pub made-fst-stays : (c : Term) → ((a b : Term) → c ≢ pair a b) → apply rules fstTag (c & nil) ≡ fst c
   made-fst-stays c h =
       made-stays fstTag (record { args = pair x y & nil; result = x }) refl (c & nil) (λ θ e. h (θ 0) (θ 1) (cc))
 
-  pub made-snd : (a b : Term) → mk rules sndTag (pair a b & nil) ≡ b
+  pub made-snd : (a b : Term) → apply rules sndTag (pair a b & nil) ≡ b
   made-snd a b = made-rule sndTag (record { args = pair x y & nil; result = y }) refl (values a b)
 
-  pub made-snd-stays : (c : Term) → ((a b : Term) → c ≢ pair a b) → mk rules sndTag (c & nil) ≡ snd c
+  pub made-snd-stays : (c : Term) → ((a b : Term) → c ≢ pair a b) → apply rules sndTag (c & nil) ≡ snd c
   made-snd-stays c h =
       made-stays sndTag (record { args = pair x y & nil; result = y }) refl (c & nil) (λ θ e. h (θ 0) (θ 1) (cc))
 
   -- ── a function without a rule, of any arity ──
-  pub made-free : (f : ℕ) (ts : Terms) → Ordinary f → f ≢ decTag → f ≢ fstTag → f ≢ sndTag → mk rules f ts ≡ app f ts
-  unfolding mk
+  pub made-free : (f : ℕ) (ts : Terms) → Ordinary f → f ≢ decTag → f ≢ fstTag → f ≢ sndTag → apply rules f ts ≡ app f ts
+  unfolding apply
   made-free f ts o a b c =
-      ap (λ (k : Role). mkAt rules k f ts) (ordinary-role f o) ∙ ap (λ (z : Option Rule). reduceAt z f ts) (no-rule f a b c)
+      ap (λ (k : Role). applyAt rules k f ts) (ordinary-role f o) ∙ ap (λ (z : Option Rule). reduceAt z f ts) (no-rule f a b c)
 
   -- ── products and exp, as gathered ──
-  pub made-one : (ts : Terms) → Formed ar (app oneTag ts) → mk rules oneTag ts ≡ multiplied (app oneTag ts & nil)
-  unfolding mk
+  pub made-one : (ts : Terms) → Formed ar (app oneTag ts) → apply rules oneTag ts ≡ multiplied (app oneTag ts & nil)
+  unfolding apply
   made-one ts w = sym (same-term (theory ar g) (app oneTag ts) w)
 
-  pub made-inv : (ts : Terms) → Formed ar (app invTag ts) → mk rules invTag ts ≡ multiplied (app invTag ts & nil)
-  unfolding mk
+  pub made-inv : (ts : Terms) → Formed ar (app invTag ts) → apply rules invTag ts ≡ multiplied (app invTag ts & nil)
+  unfolding apply
   made-inv ts w = sym (same-term (theory ar g) (app invTag ts) w)
 
-  pub made-mul : (ts : Terms) → Formed ar (app mulTag ts) → mk rules mulTag ts ≡ multiplied (app mulTag ts & nil)
-  unfolding mk
+  pub made-mul : (ts : Terms) → Formed ar (app mulTag ts) → apply rules mulTag ts ≡ multiplied (app mulTag ts & nil)
+  unfolding apply
   made-mul ts w = sym (same-term (theory ar g) (app mulTag ts) w)
 
-  pub made-exp : (a b : Term) → Formed ar a → Formed ar b → mk rules expTag (a & b & nil) ≡ raised (as2 expTag a) a b
-  unfolding mk
+  pub made-exp : (a b : Term) → Formed ar a → Formed ar b → apply rules expTag (a & b & nil) ≡ raised (asBinary expTag a) a b
+  unfolding apply
   made-exp a b w v = sym (same-exp (theory ar g) a b w v)
 
   -- ── the size ──
-  pub made-bytes : (f : ℕ) (ts : Terms) → Formed ar (app f ts) → length (encode (mk rules f ts)) ≤ length (encode (app f ts))
+  pub made-bytes : (f : ℕ) (ts : Terms) → Formed ar (app f ts) → length (encode (apply rules f ts)) ≤ length (encode (app f ts))
   made-bytes f ts w = mk-bytes (theory ar g) f ts w

@@ -13,7 +13,7 @@ use Rattle.octets.specs.Compare.Laws.{compare-refl, compare-same}
 use Rattle.octets.specs.declared.Order.{Order}
 use Rattle.octets.specs.declared.Order.the-variants.{Less, Equal, Greater}
 use Rattle.term.specs.Term.{public, fresh, Term, leaf, app, Terms, nil, _&_, count, Formed, Formeds, encode}
-use Rattle.term.specs.Arity.{arity, slots}
+use Rattle.term.specs.Arity.{arity, tagArities}
 use Rattle.message.specs.Equations.{Figure2, Same, Congruences, reflexive, symmetric, transitive, congruent, same-none, same-more}
 use Rattle.message.specs.Substitution.{Ground, Grounds}
 use Rattle.message.specs.Substitution.Laws.{public-ground, fresh-ground}
@@ -128,5 +128,5 @@ module _ (ar : ℕ → Option ℕ) (g : FitArities ar) where
   }
 
 -- document 01's messages, for the declared arities of the free functions
-pub messages : (free : List ℕ) → Promise (arity (slots free))
-messages free = promised (arity (slots free)) (declared free)
+pub messages : (free : List ℕ) → Promise (arity (tagArities free))
+messages free = promised (arity (tagArities free)) (declared free)

@@ -6,7 +6,7 @@ use mathlib.Core.List.{List}
 use mathlib.Core.Option.{Option}
 use lib.ListN.{length}
 use Rattle.term.specs.Term.{Term, Formed, InRange, encode, symbols}
-use Rattle.term.specs.Arity.{arity, slots}
+use Rattle.term.specs.Arity.{arity, tagArities}
 use Rattle.term.specs.Arity.Laws.{no-leaf}
 use Rattle.message.specs.Encoding.{encode-same}
 use Rattle.message.specs.Equations.{Same}
@@ -80,10 +80,10 @@ module _ (ar : ℕ → Option ℕ) (g : FitArities ar) where
   fewer-bytes t w = canon-bytes σ t w
 
 -- document 01's table, whatever free functions are declared
-pub declared : (free : List ℕ) → FitArities (arity (slots free))
-unfolding arity slots
+pub declared : (free : List ℕ) → FitArities (arity (tagArities free))
+unfolding arity tagArities
 declared free = record {
-  no-leaf = λ f n e. no-leaf (slots free) f n e;
+  no-leaf = λ f n e. no-leaf (tagArities free) f n e;
   one-arity = refl;
   exp-arity = refl;
   inv-arity = refl;

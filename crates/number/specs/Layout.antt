@@ -20,8 +20,8 @@ module _ {A : Type 0} where
   listed code xs = groups (length xs) ++ flat code xs
 
   -- exact in both directions
-  pub record Exact (s : List ℕ) (p : ℕ → Read A) (Good : A → Type 0) (code : A → List ℕ) : Type 0 where
+  pub record Exact (file : List ℕ) (p : ℕ → Read A) (Good : A → Type 0) (code : A → List ℕ) : Type 0 where
     -- what is good reads back from its bytes
-    pub back : (x : A) (at : ℕ) (rest : List ℕ) → Good x → drop at s ≡ code x ++ rest → p at ≡ got x (at + length (code x))
+    pub back : (x : A) (at : ℕ) (rest : List ℕ) → Good x → drop at file ≡ code x ++ rest → p at ≡ got x (at + length (code x))
     -- what reads is good, and its bytes stand there
-    pub form : (x : A) (at e : ℕ) → p at ≡ got x e → Good x × Stands s at (code x) e
+    pub form : (x : A) (at e : ℕ) → p at ≡ got x e → Good x × Stands file at (code x) e

@@ -34,19 +34,19 @@ longer b fault = fault
 
 -- a number of at most k groups
 unfoldable pub readIn : ℕ → List ℕ → ℕ → Read ℕ
-readIn zero s at = fault
-readIn (suc k) s at =
-    pick (ltb at (length s))
-    (pick (ltb (getD s at 0) base) (got (getD s at 0) (at + 1)) (longer (getD s at 0) (readIn k s (at + 1))))
+readIn zero file at = fault
+readIn (suc k) file at =
+    pick (ltb at (length file))
+    (pick (ltb (getD file at 0) base) (got (getD file at 0) (at + 1)) (longer (getD file at 0) (readIn k file (at + 1))))
     fault
 
 -- a number
 unfoldable pub readNumber : List ℕ → ℕ → Read ℕ
-readNumber s at = readIn mostGroups s at
+readNumber file at = readIn mostGroups file at
 
 -- a number below n
 unfoldable pub below : List ℕ → ℕ → ℕ → Read ℕ
-below s n at = andThen (readNumber s at) (λ v e. pick (ltb v n) (got v e) fault)
+below file n at = andThen (readNumber file at) (λ v e. pick (ltb v n) (got v e) fault)
 
 module _ {A : Type 0} where
   -- n of them, one after another
@@ -56,7 +56,7 @@ module _ {A : Type 0} where
 
   -- a count, `limit` at most, and that many
   unfoldable pub counted : List ℕ → ℕ → (ℕ → Read A) → ℕ → Read (List A)
-  counted s limit p at = andThen (below s (limit + 1) at) (λ n e. many p n e)
+  counted file limit p at = andThen (below file (limit + 1) at) (λ n e. many p n e)
 
   -- ── what code answers of a reading ──
   -- the place behind it, and a test of what was read

@@ -42,21 +42,21 @@ fn longer(b: u8, v: u32, e: usize) -> Number
 }
 
 // A number of at most `left` groups.
-fn read_groups(s: &[u8], at: usize, left: usize) -> Number
+fn read_groups(file: &[u8], at: usize, left: usize) -> Number
     requires { ⌜ left ≤ roomGroups ⌝ }
-    ensures { λ r. ⌜ asRead r ≡ readIn left (now (s .entry)) at ⌝ }
+    ensures { λ r. ⌜ asRead r ≡ readIn left (now (file .entry)) at ⌝ }
 {
     if left == 0 {
         return Number::Fault;
     }
-    if s.len() <= at {
+    if file.len() <= at {
         return Number::Fault;
     }
-    let b = s[at];
+    let b = file[at];
     if b < TOP_BIT {
         return Number::Value(b as u32, at + 1);
     }
-    match read_groups(s, at + 1, left - 1) {
+    match read_groups(file, at + 1, left - 1) {
         Number::Value(v, e) => longer(b, v, e),
         Number::Fault => Number::Fault,
     }
@@ -64,24 +64,24 @@ fn read_groups(s: &[u8], at: usize, left: usize) -> Number
 
 // The number at a place. A fault: the end of the slice, a group past the last, a form that is not the shortest.
 // Most numbers are one group: these are read without the recursion.
-pub fn read_number(s: &[u8], at: usize) -> Number
-    ensures { λ r. ⌜ asRead r ≡ readNumber (now (s .entry)) at ⌝ }
+pub fn read_number(file: &[u8], at: usize) -> Number
+    ensures { λ r. ⌜ asRead r ≡ readNumber (now (file .entry)) at ⌝ }
 {
-    if s.len() <= at {
+    if file.len() <= at {
         return Number::Fault;
     }
-    let b = s[at];
+    let b = file[at];
     if b < TOP_BIT {
         return Number::Value(b as u32, at + 1);
     }
-    read_groups(s, at, MOST_GROUPS)
+    read_groups(file, at, MOST_GROUPS)
 }
 
 // A number below n.
-pub fn below(s: &[u8], at: usize, n: usize) -> Number
-    ensures { λ r. ⌜ asRead r ≡ below (now (s .entry)) n at ⌝ }
+pub fn below(file: &[u8], at: usize, n: usize) -> Number
+    ensures { λ r. ⌜ asRead r ≡ below (now (file .entry)) n at ⌝ }
 {
-    match read_number(s, at) {
+    match read_number(file, at) {
         Number::Value(v, e) => {
             if (v as usize) < n {
                 return Number::Value(v, e);

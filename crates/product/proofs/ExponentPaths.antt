@@ -12,7 +12,7 @@ use Rattle.term.specs.Term.{Term, Terms, nil, _&_, count, encode, encodes, symb
 use Rattle.term.specs.Arity.{arity}
 use Rattle.term.specs.Reader.{symbolAt}
 use Rattle.message.specs.Functions.{exp}
-use Rattle.message.specs.Canon.{Two, as2}
+use Rattle.message.specs.Canon.{Binary, asBinary}
 use Rattle.message.specs.Gather.{powered, raised}
 use Rattle.factors.specs.Laid.{Laid, OneAt}
 use Rattle.factors.specs.Laid.Laws.{one-after, one-within, laid-one, laid-more}
@@ -26,24 +26,24 @@ use Rattle.product.specs.Contracts.{Whole, WholePower}
 use Rattle.product.specs.Inner.{Power, Behind}
 use Rattle.product.proofs.ProductPaths.{one}
 
-module _ (slots out : List ℕ) (o : ℕ) where
-  module _ (e : ℕ) (x y : Term) (R : Whole slots out o e (exp x y)) where
-    args : Args slots out o e x y
-    args = args-two x y (one slots out o e (exp x y) R)
+module _ (arities out : List ℕ) (o : ℕ) where
+  module _ (e : ℕ) (x y : Term) (R : Whole arities out o e (exp x y)) where
+    args : Args arities out o e x y
+    args = args-two x y (one arities out o e (exp x y) R)
 
     tag : getD out o 0 ≡ expTag
     tag = head-at out o 10 _ (R .stands .there ∙ ap (λ (l : List ℕ). l ++ drop e out) (encode-two 10 (omega arith) x y)) .here
 
-  pub raise-inside : Asks₃ (WholePower slots out o) → o + 1 < length out
+  pub raise-inside : Asks₃ (WholePower arities out o) → o + 1 < length out
   raise-inside J =
       let A = args (J .0) (J .1) (J .2) (J .3) in
       omega (arith, one-after (A .first), one-within (A .first))
 
   -- a power at o whose factors end at e
   power :
-      (e : ℕ) (x y : Term) (R : Whole slots out o e (exp x y)) (b z k : ℕ) (t : Term) (ts : Terms) → o < b → OneAt slots out b z t → Laid slots out z ts
+      (e : ℕ) (x y : Term) (R : Whole arities out o e (exp x y)) (b z k : ℕ) (t : Term) (ts : Terms) → o < b → OneAt arities out b z t → Laid arities out z ts
       → count ts ≡ k → z + length (encodes ts) ≡ e → symbolss ts ≤ symbols (exp x y)
-      → raised (as2 expTag x) x y ≡ powered t ts → Power slots out o b z k t ts
+      → raised (asBinary expTag x) x y ≡ powered t ts → Power arities out o b z k t ts
   power e x y R b z k t ts h O L c q f s = record {
     tag = tag e x y R;
     before = h;
@@ -54,7 +54,7 @@ module _ (slots out : List ℕ) (o : ℕ) where
     short = R .short;
     fits = omega (
       arith,
-      power-short (arity slots) (R .group) x y (R .formed .1 .0) (R .formed .1 .1 .0),
+      power-short (arity arities) (R .group) x y (R .formed .1 .0) (R .formed .1 .1 .0),
       ap (λ (u : Term). length (encode u)) s,
       R .stands
           .ends,
@@ -63,35 +63,35 @@ module _ (slots out : List ℕ) (o : ℕ) where
   }
 
   powered-raised :
-      (e : ℕ) (x y : Term) (b z k : ℕ) (t : Term) (ts : Terms) (out′ : List ℕ) (r : ℕ) → Promises₂ (Power slots out o b z k)
+      (e : ℕ) (x y : Term) (b z k : ℕ) (t : Term) (ts : Terms) (out′ : List ℕ) (r : ℕ) → Promises₂ (Power arities out o b z k)
       (λ (t : Term) (ts : Terms). Wrote (z + length (encodes ts)) out o out′ r (encode (powered t ts)))
-      → Power slots out o b z k t ts → z + length (encodes ts) ≡ e → raised (as2 expTag x) x y ≡ powered t ts
-      → Wrote e out o out′ r (encode (raised (as2 expTag x) x y))
+      → Power arities out o b z k t ts → z + length (encodes ts) ≡ e → raised (asBinary expTag x) x y ≡ powered t ts
+      → Wrote e out o out′ r (encode (raised (asBinary expTag x) x y))
   powered-raised e x y b z k t ts out′ r D P q s =
-      subst (λ (j : ℕ). Wrote j out o out′ r (encode (raised (as2 expTag x) x y))) q (wrote-same (ap encode (sym s)) (D t ts P))
+      subst (λ (j : ℕ). Wrote j out o out′ r (encode (raised (asBinary expTag x) x y))) q (wrote-same (ap encode (sym s)) (D t ts P))
 
   -- ── the base is an exp ──
-  module _ (b : ℕ) (w : baseOf (symbolAt out slots (o + 1)) ≡ base.Power b) where
-    inner : (e : ℕ) (x y : Term) (R : Whole slots out o e (exp x y)) → Inner slots out (o + 1) (args e x y R .middle) b x
+  module _ (b : ℕ) (w : baseOf (symbolAt out arities (o + 1)) ≡ base.Power b) where
+    inner : (e : ℕ) (x y : Term) (R : Whole arities out o e (exp x y)) → Inner arities out (o + 1) (args e x y R .middle) b x
     inner e x y R = base-power (R .group) b x (args e x y R .first) w
 
-    inner-base : (e : ℕ) (x y : Term) (R : Whole slots out o e (exp x y)) → OneAt slots out b (inner e x y R .args .middle) (inner e x y R .x)
+    inner-base : (e : ℕ) (x y : Term) (R : Whole arities out o e (exp x y)) → OneAt arities out b (inner e x y R .args .middle) (inner e x y R .x)
     inner-base e x y R =
         let I = inner e x y R in
-        subst (λ (j : ℕ). OneAt slots out j (I .args .middle) (I .x)) (sym (I .start)) (I .args .first)
+        subst (λ (j : ℕ). OneAt arities out j (I .args .middle) (I .x)) (sym (I .start)) (I .args .first)
 
-    pub inner-asks : Asks₃ (WholePower slots out o) → Asks₂ (Behind slots out b)
+    pub inner-asks : Asks₃ (WholePower arities out o) → Asks₂ (Behind arities out b)
     inner-asks J = (_, _, record { one = inner-base (J .0) (J .1) (J .2) (J .3); short = J .3 .short })
 
-    module _ (z : ℕ) (K : Promises₂ (Behind slots out b) (λ (e : ℕ) (t : Term). z ≡ e)) where
-      module _ (e : ℕ) (x y : Term) (R : Whole slots out o e (exp x y)) where
-        abbrev I : Inner slots out (o + 1) (args e x y R .middle) b x
+    module _ (z : ℕ) (K : Promises₂ (Behind arities out b) (λ (e : ℕ) (t : Term). z ≡ e)) where
+      module _ (e : ℕ) (x y : Term) (R : Whole arities out o e (exp x y)) where
+        abbrev I : Inner arities out (o + 1) (args e x y R .middle) b x
         I = inner e x y R
 
         z-is : z ≡ I .args .middle
         z-is = K _ _ (record { one = inner-base e x y R; short = R .short })
 
-        laid : Laid slots out z (I .y & y & nil)
+        laid : Laid arities out z (I .y & y & nil)
         laid = rw z-is (laid-more (I .args .second) (laid-one (args e x y R .second)))
 
         inner-end : z + length (encodes (I .y & y & nil)) ≡ e
@@ -105,32 +105,32 @@ module _ (slots out : List ℕ) (o : ℕ) where
               length-append (encode y) (encodes nil),
             )
 
-        same : raised (as2 expTag x) x y ≡ powered (I .x) (I .y & y & nil)
+        same : raised (asBinary expTag x) x y ≡ powered (I .x) (I .y & y & nil)
         unfolding raised
-        same = ap (λ (u : Term). raised (as2 expTag u) u y) (I .is)
+        same = ap (λ (u : Term). raised (asBinary expTag u) u y) (I .is)
 
-        inner-power : Power slots out o b z 2 (I .x) (I .y & y & nil)
+        inner-power : Power arities out o b z 2 (I .x) (I .y & y & nil)
         inner-power =
             power e x y R b z 2 (I .x) (I .y & y & nil) (omega (arith, I .start)) (rw z-is (inner-base e x y R)) laid refl inner-end
             (omega (arith, ap symbols (I .is))) same
 
-      pub inner-powers : Asks₃ (WholePower slots out o) → Asks₂ (Power slots out o b z 2)
+      pub inner-powers : Asks₃ (WholePower arities out o) → Asks₂ (Power arities out o b z 2)
       inner-powers J = (_, _, inner-power (J .0) (J .1) (J .2) (J .3))
 
-      pub inner-raised : (out′ : List ℕ) (r : ℕ) → Promises₂ (Power slots out o b z 2)
-          (λ (t : Term) (ts : Terms). Wrote (z + length (encodes ts)) out o out′ r (encode (powered t ts))) → Promises₃ (WholePower slots out o)
-          (λ (e : ℕ) (x y : Term). Wrote e out o out′ r (encode (raised (as2 expTag x) x y)))
+      pub inner-raised : (out′ : List ℕ) (r : ℕ) → Promises₂ (Power arities out o b z 2)
+          (λ (t : Term) (ts : Terms). Wrote (z + length (encodes ts)) out o out′ r (encode (powered t ts))) → Promises₃ (WholePower arities out o)
+          (λ (e : ℕ) (x y : Term). Wrote e out o out′ r (encode (raised (asBinary expTag x) x y)))
       inner-raised out′ r D e x y R =
           powered-raised e x y b z 2 _ _ out′ r D (inner-power e x y R) (inner-end e x y R) (same e x y R)
 
   -- ── it is none ──
-  module _ (w : baseOf (symbolAt out slots (o + 1)) ≡ base.Plain) where
-    pub outer-asks : Asks₃ (WholePower slots out o) → Asks₂ (Behind slots out (o + 1))
+  module _ (w : baseOf (symbolAt out arities (o + 1)) ≡ base.Plain) where
+    pub outer-asks : Asks₃ (WholePower arities out o) → Asks₂ (Behind arities out (o + 1))
     outer-asks J = (_, _, record { one = args (J .0) (J .1) (J .2) (J .3) .first; short = J .3 .short })
 
-    module _ (z : ℕ) (K : Promises₂ (Behind slots out (o + 1)) (λ (e : ℕ) (t : Term). z ≡ e)) where
-      module _ (e : ℕ) (x y : Term) (R : Whole slots out o e (exp x y)) where
-        abbrev A : Args slots out o e x y
+    module _ (z : ℕ) (K : Promises₂ (Behind arities out (o + 1)) (λ (e : ℕ) (t : Term). z ≡ e)) where
+      module _ (e : ℕ) (x y : Term) (R : Whole arities out o e (exp x y)) where
+        abbrev A : Args arities out o e x y
         A = args e x y R
 
         y-at : z ≡ A .middle
@@ -139,20 +139,20 @@ module _ (slots out : List ℕ) (o : ℕ) where
         to-e : z + length (encodes (y & nil)) ≡ e
         to-e = omega (arith, y-at, A .second .there .ends, length-append (encode y) (encodes nil))
 
-        plain : raised (as2 expTag x) x y ≡ powered x (y & nil)
+        plain : raised (asBinary expTag x) x y ≡ powered x (y & nil)
         unfolding raised
-        plain = ap (λ (u : Two). raised u x y) (base-plain (R .group) x (A .first) w)
+        plain = ap (λ (u : Binary). raised u x y) (base-plain (R .group) x (A .first) w)
 
-        outer-power : Power slots out o (o + 1) z 1 x (y & nil)
+        outer-power : Power arities out o (o + 1) z 1 x (y & nil)
         outer-power =
             power e x y R (o + 1) z 1 x (y & nil) (omega arith) (rw y-at (A .first)) (rw y-at (laid-one (A .second))) refl to-e
             (omega arith) plain
 
-      pub outer-powers : Asks₃ (WholePower slots out o) → Asks₂ (Power slots out o (o + 1) z 1)
+      pub outer-powers : Asks₃ (WholePower arities out o) → Asks₂ (Power arities out o (o + 1) z 1)
       outer-powers J = (_, _, outer-power (J .0) (J .1) (J .2) (J .3))
 
-      pub outer-raised : (out′ : List ℕ) (r : ℕ) → Promises₂ (Power slots out o (o + 1) z 1)
-          (λ (t : Term) (ts : Terms). Wrote (z + length (encodes ts)) out o out′ r (encode (powered t ts))) → Promises₃ (WholePower slots out o)
-          (λ (e : ℕ) (x y : Term). Wrote e out o out′ r (encode (raised (as2 expTag x) x y)))
+      pub outer-raised : (out′ : List ℕ) (r : ℕ) → Promises₂ (Power arities out o (o + 1) z 1)
+          (λ (t : Term) (ts : Terms). Wrote (z + length (encodes ts)) out o out′ r (encode (powered t ts))) → Promises₃ (WholePower arities out o)
+          (λ (e : ℕ) (x y : Term). Wrote e out o out′ r (encode (raised (asBinary expTag x) x y)))
       outer-raised out′ r D e x y R =
           powered-raised e x y (o + 1) z 1 _ _ out′ r D (outer-power e x y R) (to-e e x y R) (plain e x y R)

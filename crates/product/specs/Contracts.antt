@@ -11,9 +11,9 @@ use Rattle.message.specs.Functions.{exp}
 use Rattle.message.specs.Rules.{FitArities}
 
 -- the term t stands in out from o up to e; the built-in functions have their arities
-pub record Whole (slots out : List ℕ) (o e : ℕ) (t : Term) : Type 0 where
-  pub group : FitArities (arity slots)
-  pub formed : Formed (arity slots) t
+pub record Whole (arities out : List ℕ) (o e : ℕ) (t : Term) : Type 0 where
+  pub group : FitArities (arity arities)
+  pub formed : Formed (arity arities) t
   pub range : InRange t
   pub stands : Stands out o (encode t) e
   pub few : symbols t ≤ mostSymbols
@@ -22,4 +22,4 @@ pub record Whole (slots out : List ℕ) (o e : ℕ) (t : Term) : Type 0 where
 
 -- the same of exp(x, y)
 abbrev pub WholePower : List ℕ → List ℕ → ℕ → ℕ → Term → Term → Type 0
-WholePower slots out o e x y = Whole slots out o e (exp x y)
+WholePower arities out o e x y = Whole arities out o e (exp x y)

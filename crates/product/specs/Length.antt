@@ -9,7 +9,7 @@ use Rattle.term.specs.Term.{Term, leaf, app, nil, _&_, encode, Formed}
 use Rattle.message.specs.Functions.{exp}
 use Rattle.message.specs.Rules.{FitArities}
 use Rattle.message.specs.Parts.{Role, role}
-use Rattle.message.specs.Canon.{as2}
+use Rattle.message.specs.Canon.{asBinary}
 use Rattle.message.specs.Canon.Views.{RoleOf, is-one, is-exp, is-inv, is-mul, is-plain, roleOf}
 use Rattle.message.specs.Made.{made-one, made-inv, made-mul, made-exp, made-bytes}
 use Rattle.message.specs.Gather.{enter, pours, multiplied, raised}
@@ -28,6 +28,6 @@ module _ (ar : ℕ → Option ℕ) (g : FitArities ar) where
       go f k (is-plain p) e w = rw e (omega arith)
 
   pub power-short :
-      (x y : Term) → Formed ar x → Formed ar y → length (encode (raised (as2 expTag x) x y)) ≤ length (encode (exp x y))
+      (x y : Term) → Formed ar x → Formed ar y → length (encode (raised (asBinary expTag x) x y)) ≤ length (encode (exp x y))
   power-short x y v w =
       omega (arith, made-bytes ar g expTag (x & y & nil) (g .exp-arity, (v, (w, tt))), ap (λ (t : Term). length (encode t)) (made-exp ar g x y v w))

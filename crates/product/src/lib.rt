@@ -5,7 +5,7 @@ ghost use lib.ListN.{length};
 ghost use lib.IntN.{natAbs};
 ghost use mathlib.Core.List.{_∷_};
 ghost use mathlib.Core.Bool.{true, false};
-ghost use Rattle.message.specs.Canon.{as2};
+ghost use Rattle.message.specs.Canon.{asBinary};
 ghost use Rattle.message.specs.Gather.{multiplied, raised, powered};
 ghost use Rattle.term.specs.Term.{Term, Terms, encode, encodes, nil, _&_};
 ghost use Rattle.message.specs.Product.{Exps};
@@ -103,26 +103,26 @@ fn put_factor(out: &mut [u8], o: usize, x: &[u8], n: usize, more: bool) -> usize
 // Writes the entries that stand on the side as a product.
 fn write_rows(
     out: &mut [u8],
-    s: &[u8],
+    src: &[u8],
     starts: &[usize],
     ends: &[usize],
     powers: &[i32],
     n: usize,
     minus: bool,
 ) -> usize
-    requires { ⌜ Asks (Lay (now s) (now starts) (now ends) (now powers) n minus 0 (length (now out))) ⌝ }
-    ensures { λ r. ⌜ Promises (Lay (now (s .entry)) (now (starts .entry)) (now (ends .entry)) (now (powers .entry)) n minus 0 (length (now (out .entry)))) (λ (l : Exps). Wrote (length (now (out .entry))) (now (out .entry)) 0 (now (out .exit)) r (row (side minus l))) ⌝ }
+    requires { ⌜ Asks (Lay (now src) (now starts) (now ends) (now powers) n minus 0 (length (now out))) ⌝ }
+    ensures { λ r. ⌜ Promises (Lay (now (src .entry)) (now (starts .entry)) (now (ends .entry)) (now (powers .entry)) n minus 0 (length (now (out .entry)))) (λ (l : Exps). Wrote (length (now (out .entry))) (now (out .entry)) 0 (now (out .exit)) r (row (side minus l))) ⌝ }
 {
     let mut i = next_row(powers, 0, n, minus);
     let mut p = 0;
     while i < n {
         let a = starts[i];
         let e = ends[i];
-        let w = powers[i];
-        let c = rises(w, minus);
+        let power = powers[i];
+        let c = rises(power, minus);
         let j = next_row(powers, i + 1, n, minus);
         let more = j < n;
-        p = put_factor(out, p, &s[a..e], c, more);
+        p = put_factor(out, p, &src[a..e], c, more);
         i = j;
     }
     p
@@ -133,50 +133,50 @@ fn write_tagged(
     out: &mut [u8],
     at: usize,
     tag: u8,
-    s: &[u8],
+    src: &[u8],
     starts: &[usize],
     ends: &[usize],
     powers: &[i32],
     n: usize,
     minus: bool,
 ) -> usize
-    requires { ⌜ Asks (Lay (now s) (now starts) (now ends) (now powers) n minus (at + 1) (length (now out))) ⌝ }
-    ensures { λ r. ⌜ Promises (Lay (now (s .entry)) (now (starts .entry)) (now (ends .entry)) (now (powers .entry)) n minus (at + 1) (length (now (out .entry)))) (λ (l : Exps). Wrote (length (now (out .entry))) (now (out .entry)) at (now (out .exit)) r (tag ∷ row (side minus l))) ⌝ }
+    requires { ⌜ Asks (Lay (now src) (now starts) (now ends) (now powers) n minus (at + 1) (length (now out))) ⌝ }
+    ensures { λ r. ⌜ Promises (Lay (now (src .entry)) (now (starts .entry)) (now (ends .entry)) (now (powers .entry)) n minus (at + 1) (length (now (out .entry)))) (λ (l : Exps). Wrote (length (now (out .entry))) (now (out .entry)) at (now (out .exit)) r (tag ∷ row (side minus l))) ⌝ }
 {
     out[at] = tag;
     let i = at + 1;
-    let r = write_rows(&mut out[i..], s, starts, ends, powers, n, minus);
+    let r = write_rows(&mut out[i..], src, starts, ends, powers, n, minus);
     i + r
 }
 
 // Writes the table's product as P, inv(N) or mul(P, inv(N)), and nothing where no factor is left.
 fn write_table(
     out: &mut [u8],
-    s: &[u8],
+    src: &[u8],
     starts: &[usize],
     ends: &[usize],
     powers: &[i32],
     n: usize,
 ) -> usize
-    requires { ⌜ Asks (Both (now s) (now starts) (now ends) (now powers) n (length (now out))) ⌝ }
-    ensures { λ r. ⌜ Promises (Both (now (s .entry)) (now (starts .entry)) (now (ends .entry)) (now (powers .entry)) n (length (now (out .entry)))) (λ (l : Exps). Wrote (length (now (out .entry))) (now (out .entry)) 0 (now (out .exit)) r (sides (side false l) (side true l))) ⌝ }
+    requires { ⌜ Asks (Both (now src) (now starts) (now ends) (now powers) n (length (now out))) ⌝ }
+    ensures { λ r. ⌜ Promises (Both (now (src .entry)) (now (starts .entry)) (now (ends .entry)) (now (powers .entry)) n (length (now (out .entry)))) (λ (l : Exps). Wrote (length (now (out .entry))) (now (out .entry)) 0 (now (out .exit)) r (sides (side false l) (side true l))) ⌝ }
 {
     let d = next_row(powers, 0, n, true);
     if n <= d {
-        return write_rows(out, s, starts, ends, powers, n, false);
+        return write_rows(out, src, starts, ends, powers, n, false);
     }
     let u = next_row(powers, 0, n, false);
     if n <= u {
-        return write_tagged(out, 0, INV, s, starts, ends, powers, n, true);
+        return write_tagged(out, 0, INV, src, starts, ends, powers, n, true);
     }
-    let i = write_tagged(out, 0, MUL, s, starts, ends, powers, n, false);
-    write_tagged(out, i, INV, s, starts, ends, powers, n, true)
+    let i = write_tagged(out, 0, MUL, src, starts, ends, powers, n, false);
+    write_tagged(out, i, INV, src, starts, ends, powers, n, true)
 }
 
 // Writes the product of the k terms at a place, and nothing where no factor is left.
-fn write_product(out: &mut [u8], s: &[u8], at: usize, k: usize, arities: &[u8]) -> usize
-    requires { ⌜ Asks (Prod (now arities) (now s) at k (length (now out))) ⌝ }
-    ensures { λ r. ⌜ Promises (Prod (now (arities .entry)) (now (s .entry)) at k (length (now (out .entry)))) (λ (ts : Terms). Wrote (length (now (out .entry))) (now (out .entry)) 0 (now (out .exit)) r (written ts)) ⌝ }
+fn write_product(out: &mut [u8], src: &[u8], at: usize, k: usize, arities: &[u8]) -> usize
+    requires { ⌜ Asks (Prod (now arities) (now src) at k (length (now out))) ⌝ }
+    ensures { λ r. ⌜ Promises (Prod (now (arities .entry)) (now (src .entry)) at k (length (now (out .entry)))) (λ (ts : Terms). Wrote (length (now (out .entry))) (now (out .entry)) 0 (now (out .exit)) r (written ts)) ⌝ }
 {
     let mut starts = [0usize; term::MOST_SYMBOLS];
     let mut ends = [0usize; term::MOST_SYMBOLS];
@@ -186,13 +186,13 @@ fn write_product(out: &mut [u8], s: &[u8], at: usize, k: usize, arities: &[u8]) 
         &mut ends,
         &mut powers,
         0,
-        s,
+        src,
         at,
         k,
         arities,
         false,
     );
-    write_table(out, s, &starts, &ends, &powers, f.n)
+    write_table(out, src, &starts, &ends, &powers, f.n)
 }
 
 // The term at o becomes the product of its factors: returns where that ends.
@@ -225,10 +225,10 @@ fn power_at(out: &mut [u8], o: usize, b: usize, z: usize, k: usize, arities: &[u
 }
 
 // What the first argument of an exp is.
-fn base_at(s: &[u8], arities: &[u8], at: usize) -> Base
-    ensures { λ r. ⌜ r ≡ baseOf (symbolAt (now (s .entry)) (now (arities .entry)) at) ⌝ }
+fn base_at(src: &[u8], arities: &[u8], at: usize) -> Base
+    ensures { λ r. ⌜ r ≡ baseOf (symbolAt (now (src .entry)) (now (arities .entry)) at) ⌝ }
 {
-    match term::symbol_at(s, arities, at) {
+    match term::symbol_at(src, arities, at) {
         Symbol::Leaf(_, _, _) => Base::Plain,
         Symbol::Op(t, _, e) => {
             if t == term::EXP {
@@ -241,17 +241,17 @@ fn base_at(s: &[u8], arities: &[u8], at: usize) -> Base
 }
 
 // The place behind the term at a place.
-fn behind(s: &[u8], arities: &[u8], at: usize) -> usize
-    requires { ⌜ Asks₂ (Behind (now arities) (now s) at) ⌝ }
-    ensures { λ r. ⌜ Promises₂ (Behind (now (arities .entry)) (now (s .entry)) at) (λ (e : ℕ) (t : Term). r ≡ e) ⌝ }
+fn behind(src: &[u8], arities: &[u8], at: usize) -> usize
+    requires { ⌜ Asks₂ (Behind (now arities) (now src) at) ⌝ }
+    ensures { λ r. ⌜ Promises₂ (Behind (now (arities .entry)) (now (src .entry)) at) (λ (e : ℕ) (t : Term). r ≡ e) ⌝ }
 {
-    at + term::term_part(s, arities, at).len()
+    at + term::term_part(src, arities, at).len()
 }
 
 // exp(x, y) at o becomes the power: returns where that ends.
 pub fn exponent(out: &mut [u8], o: usize, arities: &[u8]) -> usize
     requires { ⌜ Asks₃ (WholePower (now arities) (now out) o) ⌝ }
-    ensures { λ r. ⌜ Promises₃ (WholePower (now (arities .entry)) (now (out .entry)) o) (λ (e : ℕ) (x y : Term). Wrote e (now (out .entry)) o (now (out .exit)) r (encode (raised (as2 expTag x) x y))) ⌝ }
+    ensures { λ r. ⌜ Promises₃ (WholePower (now (arities .entry)) (now (out .entry)) o) (λ (e : ℕ) (x y : Term). Wrote e (now (out .entry)) o (now (out .exit)) r (encode (raised (asBinary expTag x) x y))) ⌝ }
 {
     let a = o + 1;
     match base_at(out, arities, a) {

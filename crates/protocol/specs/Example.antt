@@ -5,7 +5,7 @@ use mathlib.Core.Path.{_≡_, refl}
 use Rattle.number.specs.Groups.{numberLimit}
 use Rattle.number.specs.Reading.{got, fault, readIn, readNumber, below, many, counted}
 use Rattle.term.specs.Term.{leaf, variable}
-use Rattle.term.specs.Arity.{arity, slots}
+use Rattle.term.specs.Arity.{arity, tagArities}
 use Rattle.term.specs.Reader.{symbolAt, term, termIn}
 use Rattle.protocol.specs.Protocol.{Rule, fact-of, rule-of, own-of, protocol-of, ruleTerm, fact, facts, layout, rule, own, protocol}
 
@@ -19,7 +19,7 @@ its-rule =
     ((fact-of 0 (leaf variable 0 ∷ []) ∷ []) ∷ (fact-of 4 (leaf variable 0 ∷ []) ∷ []) ∷ (fact-of 2 (leaf variable 0 ∷ []) ∷ []) ∷ [])
 
 pub reads : protocol printed ≡ got (protocol-of [] (own-of 1 0 ∷ []) (its-rule ∷ [])) 19
-unfolding protocol rule layout facts fact own ruleTerm term termIn symbolAt arity slots many counted below readNumber readIn numberLimit
+unfolding protocol rule layout facts fact own ruleTerm term termIn symbolAt arity tagArities many counted below readNumber readIn numberLimit
 reads = refl
 
 -- no function, no symbol, no rule
@@ -41,5 +41,5 @@ empty = refl
 
 -- a rule without variables that names one
 undeclared : protocol (0 ∷ 0 ∷ 1 ∷ 0 ∷ 1 ∷ 0 ∷ 0 ∷ 0 ∷ 0 ∷ 0 ∷ []) ≡ fault
-unfolding protocol rule layout facts fact own ruleTerm term termIn symbolAt arity slots many counted below readNumber readIn numberLimit
+unfolding protocol rule layout facts fact own ruleTerm term termIn symbolAt arity tagArities many counted below readNumber readIn numberLimit
 undeclared = refl

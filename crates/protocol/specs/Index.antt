@@ -8,10 +8,10 @@ use Rattle.protocol.specs.Figures.{mostOwn, firstOwn, symbolCount, mostR
 use Rattle.number.specs.Reading.{Read, got, fault}
 use Rattle.number.specs.declared.Number.{Number}
 use Rattle.number.specs.declared.Number.the-variants as num
-use Rattle.term.specs.Arity.{slots}
+use Rattle.term.specs.Arity.{tagArities}
 use Rattle.protocol.specs.declared.index.Index.{Index}
 use Rattle.protocol.specs.declared.index.Index.the-variants as ix
-use Rattle.protocol.specs.Protocol.{Own, Protocol, noRule, factArities, factFlags, rule, protocol}
+use Rattle.protocol.specs.Protocol.{Own, Protocol, emptyRule, factArities, factFlags, rule, protocol}
 use Rattle.protocol.specs.Protocol.Limits.{Within}
 use Rattle.protocol.specs.Places.{Here}
 -- filling it
@@ -33,7 +33,7 @@ module _ {A : Type 0} (r : Read A) (Says : A → ℕ → Type 0) where
 
 -- the slots are of these functions
 abbrev pub Slotted : List ℕ → List ℕ → ℕ → Type 0
-Slotted arities fs n = arities ≡ slots fs
+Slotted arities fs n = arities ≡ tagArities fs
 
 -- the tables have the n own symbols behind the four built-in ones
 pub record Tabled (ars flags : List ℕ) (os : List Own) (n : ℕ) : Type 0 where
@@ -48,19 +48,19 @@ pub record Placed {A : Type 0} (p : ℕ → Read A) (d : A) (places : List ℕ) 
   pub each : (k : ℕ) → k < n → Here p (getD xs k d) (getD places k 0)
 
 -- ── the index of ns fact symbols, the four built-in ones among them, and nr rules ──
-pub record Entries (s : List ℕ) (ns nr : ℕ) (arities ars flags places : List ℕ) : Type 0 where
+pub record Entries (file : List ℕ) (ns nr : ℕ) (arities ars flags places : List ℕ) : Type 0 where
   pub is : Protocol
-  pub reads : protocol s ≡ got is (length s)
+  pub reads : protocol file ≡ got is (length file)
   pub within : Within is
-  pub slotted : arities ≡ slots (is .functions)
+  pub slotted : arities ≡ tagArities (is .functions)
   pub tabled : take ns ars ≡ factArities (is .symbols)
   pub flagged : take ns flags ≡ factFlags (is .symbols)
   pub count : length (is .symbols) + firstOwn ≡ ns
   pub few-symbols : ns ≤ symbolCount
   pub few-rules : nr ≤ mostRules
-  pub placed : Placed (rule s arities (take ns ars)) noRule places (is .rules) nr
+  pub placed : Placed (rule file arities (take ns ars)) emptyRule places (is .rules) nr
 
 -- the counts and the right entries, or a fault, just as the definition says
 abbrev pub Indexed : List ℕ → Index → List ℕ → List ℕ → List ℕ → List ℕ → Type 0
-Indexed s (ix.Counts ns nr) arities ars flags places = Entries s ns nr arities ars flags places
-Indexed s ix.Fault arities ars flags places = protocol s ≡ fault
+Indexed file (ix.Counts ns nr) arities ars flags places = Entries file ns nr arities ars flags places
+Indexed file ix.Fault arities ars flags places = protocol file ≡ fault

@@ -10,7 +10,7 @@ use Rattle.protocol.specs.Protocol.Walks.{sortsAt}
 -- what stands at the places, by the rule that was read
 pub mod Laws
 -- the places as the code goes to them
-pub mod Steps
+pub mod Ends
 
 module _ {A : Type 0} where
   -- the place behind a reading
@@ -28,17 +28,17 @@ abbrev pub valueOf : Read ℕ → ℕ
 valueOf (got n e) = n
 valueOf fault = 0
 
--- of the rule at a place: the sort of variable v; the place of list w (0 premises, 1 actions, 2 conclusions)
+-- of the rule at a place: the sort of variable v; the place of a list (0 premises, 1 actions, 2 conclusions)
 unfoldable pub sortOf : List ℕ → ℕ → ℕ → Read ℕ
-sortOf s at v = andThen (below s variableLimit at) (λ n e. andThen (many (below s sortCount) v e) (λ vs f. below s sortCount f))
+sortOf file at v = andThen (below file variableLimit at) (λ n e. andThen (many (below file sortCount) v e) (λ vs f. below file sortCount f))
 
 unfoldable pub listPlace : List ℕ → List ℕ → List ℕ → ℕ → ℕ → ℕ
-listPlace s slots ars at w = placeOf (andThen (sortsAt s at) (λ n e. many (facts s slots ars) w e))
+listPlace file arities ars at list = placeOf (andThen (sortsAt file at) (λ n e. many (facts file arities ars) list e))
 
 -- of the list at a place: the place of fact i
 unfoldable pub factPlace : List ℕ → List ℕ → List ℕ → ℕ → ℕ → ℕ
-factPlace s slots ars at i = placeOf (andThen (below s factLimit at) (λ n e. many (fact s slots ars) i e))
+factPlace file arities ars at i = placeOf (andThen (below file factLimit at) (λ n e. many (fact file arities ars) i e))
 
 -- of the fact at a place: the place of term j
 unfoldable pub termPlace : List ℕ → List ℕ → List ℕ → ℕ → ℕ → ℕ
-termPlace s slots ars at j = placeOf (andThen (below s (length ars) at) (λ y e. many (ruleTerm s slots) j e))
+termPlace file arities ars at j = placeOf (andThen (below file (length ars) at) (λ y e. many (ruleTerm file arities) j e))

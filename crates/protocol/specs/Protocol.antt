@@ -13,7 +13,7 @@ use Rattle.number.specs.Reading.{Read, got, fault, andThen, below, many, counte
 use Rattle.lists.specs.Lists.{anyBy}
 use Rattle.number.specs.Layout.{flat, listed}
 use Rattle.term.specs.Term.{Term, encode, symbols}
-use Rattle.term.specs.Arity.{slots}
+use Rattle.term.specs.Arity.{tagArities}
 use Rattle.term.specs.Reader.{term}
 use Rattle.term.specs.Walk.{holds}
 -- the limits as one predicate
@@ -32,7 +32,7 @@ pub record Fact : Type 0 where
 -- "A rule: count of variables (16), each sort (0 message, 1 fresh, 2 public); then premises, actions, conclusions": three lists of facts
 pub record Rule : Type 0 where
   pub sorts : List ℕ
-  pub parts : List (List Fact)
+  pub lists : List (List Fact)
 
 -- "own fact symbols (32), each arity (0 to 8) and 0 linear or 1 persistent"
 pub record Own : Type 0 where
@@ -49,7 +49,7 @@ abbrev pub fact-of : ℕ → List Term → Fact
 fact-of y ts = record { symbol = y; terms = ts }
 
 abbrev pub rule-of : List ℕ → List (List Fact) → Rule
-rule-of vs ps = record { sorts = vs; parts = ps }
+rule-of vs ps = record { sorts = vs; lists = ps }
 
 abbrev pub own-of : ℕ → ℕ → Own
 own-of a l = record { arity = a; flag = l }
@@ -57,25 +57,25 @@ own-of a l = record { arity = a; flag = l }
 abbrev pub protocol-of : List ℕ → List Own → List Rule → Protocol
 protocol-of fs os rs = record { functions = fs; symbols = os; rules = rs }
 
--- the list of number w: 0 premises, 1 actions, 2 conclusions
-abbrev pub part : ℕ → Rule → List Fact
-part w r = getD (r .parts) w []
+-- the list of number list: 0 premises, 1 actions, 2 conclusions
+abbrev pub listOf : ℕ → Rule → List Fact
+listOf list r = getD (r .lists) list []
 
 abbrev pub premises : Rule → List Fact
-premises = part premiseList
+premises = listOf premiseList
 
 abbrev pub actions : Rule → List Fact
-actions = part actionList
+actions = listOf actionList
 
 abbrev pub conclusions : Rule → List Fact
-conclusions = part conclusionList
+conclusions = listOf conclusionList
 
 -- where a list has no item of some number
 abbrev pub noFact : Fact
 noFact = fact-of 0 []
 
-abbrev pub noRule : Rule
-noRule = rule-of [] []
+abbrev pub emptyRule : Rule
+emptyRule = rule-of [] []
 
 -- "Symbols 0 Fr, 1 In, 2 Out are linear, 3 K persistent, each of arity 1; own ones start at 4."
 abbrev pub frSymbol : ℕ
@@ -102,7 +102,7 @@ abbrev pub encodeFact : Fact → List ℕ
 encodeFact f = groups (f .symbol) ++ flat encode (f .terms)
 
 abbrev pub encodeRule : Rule → List ℕ
-encodeRule r = listed groups (r .sorts) ++ flat (listed encodeFact) (r .parts)
+encodeRule r = listed groups (r .sorts) ++ flat (listed encodeFact) (r .lists)
 
 abbrev pub encodeOwn : Own → List ℕ
 encodeOwn o = groups (o .arity) ++ groups (o .flag)
@@ -117,39 +117,39 @@ leafIn kind lo hi f = anyBy (λ t. holds t kind lo hi) (f .terms)
 
 -- every variable of a rule is declared: none from the rule's count on
 abbrev pub declared : Rule → Bool
-declared r = not (anyBy (anyBy (leafIn variableTag (length (r .sorts)) numberLimit)) (r .parts))
+declared r = not (anyBy (anyBy (leafIn variableTag (length (r .sorts)) numberLimit)) (r .lists))
 
 -- "a rule's term has at most 64 symbols"
 unfoldable pub ruleTerm : List ℕ → List ℕ → ℕ → Read Term
-ruleTerm s slots at = andThen (term s slots at) (λ t e. pick (ltb (symbols t) ruleSymbolLimit) (got t e) fault)
+ruleTerm file arities at = andThen (term file arities at) (λ t e. pick (ltb (symbols t) ruleSymbolLimit) (got t e) fault)
 
 -- "A fact is its symbol and terms", as many as the symbol's arity
 unfoldable pub fact : List ℕ → List ℕ → List ℕ → ℕ → Read Fact
-fact s slots ars at =
-    andThen (below s (length ars) at) (λ y e.
-    andThen (many (ruleTerm s slots) (getD ars y 0) e) (λ ts f. got (fact-of y ts) f))
+fact file arities ars at =
+    andThen (below file (length ars) at) (λ y e.
+    andThen (many (ruleTerm file arities) (getD ars y 0) e) (λ ts f. got (fact-of y ts) f))
 
 -- "premises, actions, conclusions, each a count (8) and facts"
 unfoldable pub facts : List ℕ → List ℕ → List ℕ → ℕ → Read (List Fact)
-facts s slots ars at = counted s mostFacts (fact s slots ars) at
+facts file arities ars at = counted file mostFacts (fact file arities ars) at
 
 -- the layout of a rule
 unfoldable pub layout : List ℕ → List ℕ → List ℕ → ℕ → Read Rule
-layout s slots ars at =
-    andThen (counted s mostVariables (below s sortCount) at) (λ vs e.
-    andThen (many (facts s slots ars) listCount e) (λ ps f. got (rule-of vs ps) f))
+layout file arities ars at =
+    andThen (counted file mostVariables (below file sortCount) at) (λ vs e.
+    andThen (many (facts file arities ars) listCount e) (λ ps f. got (rule-of vs ps) f))
 
 -- a rule: its variables are declared
 unfoldable pub rule : List ℕ → List ℕ → List ℕ → ℕ → Read Rule
-rule s slots ars at = andThen (layout s slots ars at) (λ r e. pick (declared r) (got r e) fault)
+rule file arities ars at = andThen (layout file arities ars at) (λ r e. pick (declared r) (got r e) fault)
 
 unfoldable pub own : List ℕ → ℕ → Read Own
-own s at = andThen (below s factArityLimit at) (λ a e. andThen (below s flagCount e) (λ l f. got (own-of a l) f))
+own file at = andThen (below file factArityLimit at) (λ a e. andThen (below file flagCount e) (λ l f. got (own-of a l) f))
 
 -- the whole file; leftover bytes are a fault
 unfoldable pub protocol : List ℕ → Read Protocol
-protocol s =
-    andThen (counted s mostFunctions (below s arityLimit) 0) (λ fs e.
-    andThen (counted s mostOwn (own s) e) (λ os f.
-    andThen (counted s mostRules (rule s (slots fs) (factArities os)) f) (λ rs g.
-    pick (eqb g (length s)) (got (protocol-of fs os rs) g) fault)))
+protocol file =
+    andThen (counted file mostFunctions (below file arityLimit) 0) (λ fs e.
+    andThen (counted file mostOwn (own file) e) (λ os f.
+    andThen (counted file mostRules (rule file (tagArities fs) (factArities os)) f) (λ rs g.
+    pick (eqb g (length file)) (got (protocol-of fs os rs) g) fault)))

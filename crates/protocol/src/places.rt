@@ -7,7 +7,7 @@ ghost use Rattle.protocol.specs.Figures.{factLimit};
 ghost use Rattle.number.specs.Reading.{below};
 ghost use Rattle.protocol.specs.Protocol.Walks.{sortsAt};
 ghost use Rattle.protocol.specs.Places.{valueOf, sortOf, listPlace, factPlace, termPlace};
-ghost use Rattle.protocol.specs.Places.Steps.{endOf, sortFrom};
+ghost use Rattle.protocol.specs.Places.Ends.{endOf, sortFrom};
 use crate::figures;
 use crate::walks;
 use number::Number;
@@ -24,56 +24,56 @@ fn end_of(r: Seen) -> usize
 }
 
 // A number below n at a place; 0 where there is none.
-fn value_below(s: &[u8], at: usize, n: usize) -> usize
-    ensures { λ r. ⌜ r ≡ valueOf (below (now (s .entry)) n at) ⌝ }
+fn value_below(file: &[u8], at: usize, n: usize) -> usize
+    ensures { λ r. ⌜ r ≡ valueOf (below (now (file .entry)) n at) ⌝ }
 {
-    match number::below(s, at, n) {
+    match number::below(file, at, n) {
         Number::Value(v, _) => v as usize,
         Number::Fault => 0,
     }
 }
 
 // How many variables the rule at a place has.
-pub fn variables_of(s: &[u8], at: usize) -> usize
-    ensures { λ r. ⌜ r ≡ valueOf (sortsAt (now (s .entry)) at) ⌝ }
+pub fn variables_of(file: &[u8], at: usize) -> usize
+    ensures { λ r. ⌜ r ≡ valueOf (sortsAt (now (file .entry)) at) ⌝ }
 {
-    match walks::sorts_at(s, at) {
+    match walks::sorts_at(file, at) {
         Number::Value(n, _) => n as usize,
         Number::Fault => 0,
     }
 }
 
-fn sort_from(s: &[u8], at: usize, v: u32) -> usize
-    ensures { λ r. ⌜ r ≡ valueOf (sortFrom (now (s .entry)) v at) ⌝ }
+fn sort_from(file: &[u8], at: usize, v: u32) -> usize
+    ensures { λ r. ⌜ r ≡ valueOf (sortFrom (now (file .entry)) v at) ⌝ }
 {
-    match walks::sorts_end(s, at, v) {
-        Number::Value(_, e) => value_below(s, e, figures::SORTS),
+    match walks::sorts_end(file, at, v) {
+        Number::Value(_, e) => value_below(file, e, figures::SORTS),
         Number::Fault => 0,
     }
 }
 
 // The sort of variable v of the rule at a place: 0 message, 1 fresh, 2 public.
-pub fn sort_of(s: &[u8], at: usize, v: u32) -> usize
-    ensures { λ r. ⌜ r ≡ valueOf (sortOf (now (s .entry)) at v) ⌝ }
+pub fn sort_of(file: &[u8], at: usize, v: u32) -> usize
+    ensures { λ r. ⌜ r ≡ valueOf (sortOf (now (file .entry)) at v) ⌝ }
 {
-    match number::below(s, at, figures::VARIABLE_LIMIT) {
-        Number::Value(_, e) => sort_from(s, e, v),
+    match number::below(file, at, figures::VARIABLE_LIMIT) {
+        Number::Value(_, e) => sort_from(file, e, v),
         Number::Fault => 0,
     }
 }
 
 // The place of list w of the rule at a place: 0 premises, 1 actions, 2 conclusions.
-pub fn list_at(s: &[u8], arities: &[u8], ars: &[u8], at: usize, w: usize) -> usize
-    requires { ⌜ length (now s) ≤ longest ⌝ }
-    ensures { λ r. ⌜ r ≡ listPlace (now (s .entry)) (now (arities .entry)) (now (ars .entry)) at w ⌝ }
+pub fn list_at(file: &[u8], arities: &[u8], ars: &[u8], at: usize, list: usize) -> usize
+    requires { ⌜ length (now file) ≤ longest ⌝ }
+    ensures { λ r. ⌜ r ≡ listPlace (now (file .entry)) (now (arities .entry)) (now (ars .entry)) at list ⌝ }
 {
-    match walks::sorts_at(s, at) {
+    match walks::sorts_at(file, at) {
         Number::Value(_, e) => end_of(walks::some_parts(
-            s,
+            file,
             arities,
             ars,
             e,
-            w,
+            list,
             term::VARIABLE,
             0,
             0,
@@ -83,20 +83,20 @@ pub fn list_at(s: &[u8], arities: &[u8], ars: &[u8], at: usize, w: usize) -> usi
 }
 
 // How many facts the list at a place has.
-pub fn count_of(s: &[u8], at: usize) -> usize
-    ensures { λ r. ⌜ r ≡ valueOf (below (now (s .entry)) factLimit at) ⌝ }
+pub fn count_of(file: &[u8], at: usize) -> usize
+    ensures { λ r. ⌜ r ≡ valueOf (below (now (file .entry)) factLimit at) ⌝ }
 {
-    value_below(s, at, figures::FACT_LIMIT)
+    value_below(file, at, figures::FACT_LIMIT)
 }
 
 // The place of fact i of the list at a place.
-pub fn fact_at(s: &[u8], arities: &[u8], ars: &[u8], at: usize, i: usize) -> usize
-    requires { ⌜ length (now s) ≤ longest ⌝ }
-    ensures { λ r. ⌜ r ≡ factPlace (now (s .entry)) (now (arities .entry)) (now (ars .entry)) at i ⌝ }
+pub fn fact_at(file: &[u8], arities: &[u8], ars: &[u8], at: usize, i: usize) -> usize
+    requires { ⌜ length (now file) ≤ longest ⌝ }
+    ensures { λ r. ⌜ r ≡ factPlace (now (file .entry)) (now (arities .entry)) (now (ars .entry)) at i ⌝ }
 {
-    match number::below(s, at, figures::FACT_LIMIT) {
+    match number::below(file, at, figures::FACT_LIMIT) {
         Number::Value(_, e) => end_of(walks::some_facts(
-            s,
+            file,
             arities,
             ars,
             e,
@@ -110,19 +110,19 @@ pub fn fact_at(s: &[u8], arities: &[u8], ars: &[u8], at: usize, i: usize) -> usi
 }
 
 // The symbol of the fact at a place.
-pub fn symbol_of(s: &[u8], ars: &[u8], at: usize) -> usize
-    ensures { λ r. ⌜ r ≡ valueOf (below (now (s .entry)) (length (now (ars .entry))) at) ⌝ }
+pub fn symbol_of(file: &[u8], ars: &[u8], at: usize) -> usize
+    ensures { λ r. ⌜ r ≡ valueOf (below (now (file .entry)) (length (now (ars .entry))) at) ⌝ }
 {
-    value_below(s, at, ars.len())
+    value_below(file, at, ars.len())
 }
 
 // The place of term j of the fact at a place.
-pub fn term_at(s: &[u8], arities: &[u8], ars: &[u8], at: usize, j: usize) -> usize
-    requires { ⌜ length (now s) ≤ longest ⌝ }
-    ensures { λ r. ⌜ r ≡ termPlace (now (s .entry)) (now (arities .entry)) (now (ars .entry)) at j ⌝ }
+pub fn term_at(file: &[u8], arities: &[u8], ars: &[u8], at: usize, j: usize) -> usize
+    requires { ⌜ length (now file) ≤ longest ⌝ }
+    ensures { λ r. ⌜ r ≡ termPlace (now (file .entry)) (now (arities .entry)) (now (ars .entry)) at j ⌝ }
 {
-    match number::below(s, at, ars.len()) {
-        Number::Value(_, e) => end_of(walks::rule_terms(s, arities, e, j, term::VARIABLE, 0, 0)),
+    match number::below(file, at, ars.len()) {
+        Number::Value(_, e) => end_of(walks::rule_terms(file, arities, e, j, term::VARIABLE, 0, 0)),
         Number::Fault => 0,
     }
 }

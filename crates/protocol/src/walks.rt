@@ -16,11 +16,11 @@ use number::Seen;
 use term::Walk;
 
 // A term of a rule, 64 symbols at most, and whether a leaf of that kind, from lo on and below hi, stands in it.
-fn rule_term(s: &[u8], arities: &[u8], at: usize, kind: usize, lo: usize, hi: usize) -> Seen
-    requires { ⌜ length (now s) ≤ longest ⌝ }
-    ensures { λ r. ⌜ r ≡ seen (leafAt kind lo hi) (ruleTerm (now (s .entry)) (now (arities .entry)) at) ⌝ }
+fn rule_term(file: &[u8], arities: &[u8], at: usize, kind: usize, lo: usize, hi: usize) -> Seen
+    requires { ⌜ length (now file) ≤ longest ⌝ }
+    ensures { λ r. ⌜ r ≡ seen (leafAt kind lo hi) (ruleTerm (now (file .entry)) (now (arities .entry)) at) ⌝ }
 {
-    match term::walk_term(s, arities, at, kind, lo, hi) {
+    match term::walk_term(file, arities, at, kind, lo, hi) {
         Walk::End(e, n, h) => {
             if n < figures::RULE_SYMBOL_LIMIT {
                 return Seen::End(e, h);
@@ -33,7 +33,7 @@ fn rule_term(s: &[u8], arities: &[u8], at: usize, kind: usize, lo: usize, hi: us
 
 // n terms.
 pub fn rule_terms(
-    s: &[u8],
+    file: &[u8],
     arities: &[u8],
     at: usize,
     n: usize,
@@ -41,14 +41,14 @@ pub fn rule_terms(
     lo: usize,
     hi: usize,
 ) -> Seen
-    requires { ⌜ length (now s) ≤ longest ⌝ }
-    ensures { λ r. ⌜ r ≡ seen (anyBy (leafAt kind lo hi)) (many (ruleTerm (now (s .entry)) (now (arities .entry))) n at) ⌝ }
+    requires { ⌜ length (now file) ≤ longest ⌝ }
+    ensures { λ r. ⌜ r ≡ seen (anyBy (leafAt kind lo hi)) (many (ruleTerm (now (file .entry)) (now (arities .entry))) n at) ⌝ }
 {
     let mut i = at;
     let mut j: usize = 0;
     let mut found = false;
     while j < n {
-        match rule_term(s, arities, i, kind, lo, hi) {
+        match rule_term(file, arities, i, kind, lo, hi) {
             Seen::End(e, h) => {
                 i = e;
                 found = found | h;
@@ -64,7 +64,7 @@ pub fn rule_terms(
 
 // The terms of a fact of the symbol y; the test is of its terms (kinds 0 to 2) or of its symbol (3).
 fn fact_from(
-    s: &[u8],
+    file: &[u8],
     arities: &[u8],
     ars: &[u8],
     y: usize,
@@ -73,10 +73,10 @@ fn fact_from(
     lo: usize,
     hi: usize,
 ) -> Seen
-    requires { ⌜ (length (now s) ≤ longest) × (y < length (now ars)) ⌝ }
-    ensures { λ r. ⌜ r ≡ seen (asks kind lo hi) (factFrom (now (s .entry)) (now (arities .entry)) (now (ars .entry)) y at) ⌝ }
+    requires { ⌜ (length (now file) ≤ longest) × (y < length (now ars)) ⌝ }
+    ensures { λ r. ⌜ r ≡ seen (asks kind lo hi) (factFrom (now (file .entry)) (now (arities .entry)) (now (ars .entry)) y at) ⌝ }
 {
-    match rule_terms(s, arities, at, ars[y] as usize, kind, lo, hi) {
+    match rule_terms(file, arities, at, ars[y] as usize, kind, lo, hi) {
         Seen::End(e, h) => {
             if kind < figures::SYMBOL_KIND {
                 return Seen::End(e, h);
@@ -89,7 +89,7 @@ fn fact_from(
 
 // A fact.
 pub fn one_fact(
-    s: &[u8],
+    file: &[u8],
     arities: &[u8],
     ars: &[u8],
     at: usize,
@@ -97,18 +97,18 @@ pub fn one_fact(
     lo: usize,
     hi: usize,
 ) -> Seen
-    requires { ⌜ length (now s) ≤ longest ⌝ }
-    ensures { λ r. ⌜ r ≡ seen (asks kind lo hi) (fact (now (s .entry)) (now (arities .entry)) (now (ars .entry)) at) ⌝ }
+    requires { ⌜ length (now file) ≤ longest ⌝ }
+    ensures { λ r. ⌜ r ≡ seen (asks kind lo hi) (fact (now (file .entry)) (now (arities .entry)) (now (ars .entry)) at) ⌝ }
 {
-    match number::below(s, at, ars.len()) {
-        Number::Value(y, e) => fact_from(s, arities, ars, y as usize, e, kind, lo, hi),
+    match number::below(file, at, ars.len()) {
+        Number::Value(y, e) => fact_from(file, arities, ars, y as usize, e, kind, lo, hi),
         Number::Fault => Seen::Fault,
     }
 }
 
 // n facts.
 pub fn some_facts(
-    s: &[u8],
+    file: &[u8],
     arities: &[u8],
     ars: &[u8],
     at: usize,
@@ -117,14 +117,14 @@ pub fn some_facts(
     lo: usize,
     hi: usize,
 ) -> Seen
-    requires { ⌜ length (now s) ≤ longest ⌝ }
-    ensures { λ r. ⌜ r ≡ seen (anyBy (asks kind lo hi)) (many (fact (now (s .entry)) (now (arities .entry)) (now (ars .entry))) n at) ⌝ }
+    requires { ⌜ length (now file) ≤ longest ⌝ }
+    ensures { λ r. ⌜ r ≡ seen (anyBy (asks kind lo hi)) (many (fact (now (file .entry)) (now (arities .entry)) (now (ars .entry))) n at) ⌝ }
 {
     let mut i = at;
     let mut j: usize = 0;
     let mut found = false;
     while j < n {
-        match one_fact(s, arities, ars, i, kind, lo, hi) {
+        match one_fact(file, arities, ars, i, kind, lo, hi) {
             Seen::End(e, h) => {
                 i = e;
                 found = found | h;
@@ -140,7 +140,7 @@ pub fn some_facts(
 
 // A count and that many facts: the premises, the actions or the conclusions of a rule.
 pub fn one_part(
-    s: &[u8],
+    file: &[u8],
     arities: &[u8],
     ars: &[u8],
     at: usize,
@@ -148,18 +148,18 @@ pub fn one_part(
     lo: usize,
     hi: usize,
 ) -> Seen
-    requires { ⌜ length (now s) ≤ longest ⌝ }
-    ensures { λ r. ⌜ r ≡ seen (anyBy (asks kind lo hi)) (facts (now (s .entry)) (now (arities .entry)) (now (ars .entry)) at) ⌝ }
+    requires { ⌜ length (now file) ≤ longest ⌝ }
+    ensures { λ r. ⌜ r ≡ seen (anyBy (asks kind lo hi)) (facts (now (file .entry)) (now (arities .entry)) (now (ars .entry)) at) ⌝ }
 {
-    match number::below(s, at, figures::FACT_LIMIT) {
-        Number::Value(n, e) => some_facts(s, arities, ars, e, n as usize, kind, lo, hi),
+    match number::below(file, at, figures::FACT_LIMIT) {
+        Number::Value(n, e) => some_facts(file, arities, ars, e, n as usize, kind, lo, hi),
         Number::Fault => Seen::Fault,
     }
 }
 
 // n lists of facts.
 pub fn some_parts(
-    s: &[u8],
+    file: &[u8],
     arities: &[u8],
     ars: &[u8],
     at: usize,
@@ -168,14 +168,14 @@ pub fn some_parts(
     lo: usize,
     hi: usize,
 ) -> Seen
-    requires { ⌜ length (now s) ≤ longest ⌝ }
-    ensures { λ r. ⌜ r ≡ seen (anyBy (anyBy (asks kind lo hi))) (many (facts (now (s .entry)) (now (arities .entry)) (now (ars .entry))) n at) ⌝ }
+    requires { ⌜ length (now file) ≤ longest ⌝ }
+    ensures { λ r. ⌜ r ≡ seen (anyBy (anyBy (asks kind lo hi))) (many (facts (now (file .entry)) (now (arities .entry)) (now (ars .entry))) n at) ⌝ }
 {
     let mut i = at;
     let mut j: usize = 0;
     let mut found = false;
     while j < n {
-        match one_part(s, arities, ars, i, kind, lo, hi) {
+        match one_part(file, arities, ars, i, kind, lo, hi) {
             Seen::End(e, h) => {
                 i = e;
                 found = found | h;
@@ -190,13 +190,13 @@ pub fn some_parts(
 }
 
 // The sorts of n variables, which begin at a place.
-pub fn sorts_end(s: &[u8], at: usize, n: u32) -> Number
-    ensures { λ r. ⌜ asRead r ≡ sortsFrom (now (s .entry)) n at ⌝ }
+pub fn sorts_end(file: &[u8], at: usize, n: u32) -> Number
+    ensures { λ r. ⌜ asRead r ≡ sortsFrom (now (file .entry)) n at ⌝ }
 {
     let mut i = at;
     let mut j: u32 = 0;
     while j < n {
-        match number::below(s, i, figures::SORTS) {
+        match number::below(file, i, figures::SORTS) {
             Number::Value(_, e) => {
                 i = e;
                 j += 1;
@@ -210,18 +210,18 @@ pub fn sorts_end(s: &[u8], at: usize, n: u32) -> Number
 }
 
 // How many variables the rule at a place has, and the place of its premises.
-pub fn sorts_at(s: &[u8], at: usize) -> Number
-    ensures { λ r. ⌜ asRead r ≡ sortsAt (now (s .entry)) at ⌝ }
+pub fn sorts_at(file: &[u8], at: usize) -> Number
+    ensures { λ r. ⌜ asRead r ≡ sortsAt (now (file .entry)) at ⌝ }
 {
-    match number::below(s, at, figures::VARIABLE_LIMIT) {
-        Number::Value(n, e) => sorts_end(s, e, n),
+    match number::below(file, at, figures::VARIABLE_LIMIT) {
+        Number::Value(n, e) => sorts_end(file, e, n),
         Number::Fault => Number::Fault,
     }
 }
 
 // The layout of a rule, and whether the test holds of one of its facts.
 pub fn one_layout(
-    s: &[u8],
+    file: &[u8],
     arities: &[u8],
     ars: &[u8],
     at: usize,
@@ -229,22 +229,22 @@ pub fn one_layout(
     lo: usize,
     hi: usize,
 ) -> Seen
-    requires { ⌜ length (now s) ≤ longest ⌝ }
-    ensures { λ r. ⌜ r ≡ seen (ruleAsks kind lo hi) (layout (now (s .entry)) (now (arities .entry)) (now (ars .entry)) at) ⌝ }
+    requires { ⌜ length (now file) ≤ longest ⌝ }
+    ensures { λ r. ⌜ r ≡ seen (ruleAsks kind lo hi) (layout (now (file .entry)) (now (arities .entry)) (now (ars .entry)) at) ⌝ }
 {
-    match sorts_at(s, at) {
-        Number::Value(_, e) => some_parts(s, arities, ars, e, figures::LISTS, kind, lo, hi),
+    match sorts_at(file, at) {
+        Number::Value(_, e) => some_parts(file, arities, ars, e, figures::LISTS, kind, lo, hi),
         Number::Fault => Seen::Fault,
     }
 }
 
 // The three lists of a rule of n variables: no variable from n on stands in them.
-fn closed_parts(s: &[u8], arities: &[u8], ars: &[u8], at: usize, n: usize) -> Seen
-    requires { ⌜ length (now s) ≤ longest ⌝ }
-    ensures { λ r. ⌜ r ≡ closed (seen (anyBy (anyBy (asks variableTag n numberLimit))) (many (facts (now (s .entry)) (now (arities .entry)) (now (ars .entry))) listCount at)) ⌝ }
+fn closed_parts(file: &[u8], arities: &[u8], ars: &[u8], at: usize, n: usize) -> Seen
+    requires { ⌜ length (now file) ≤ longest ⌝ }
+    ensures { λ r. ⌜ r ≡ closed (seen (anyBy (anyBy (asks variableTag n numberLimit))) (many (facts (now (file .entry)) (now (arities .entry)) (now (ars .entry))) listCount at)) ⌝ }
 {
     match some_parts(
-        s,
+        file,
         arities,
         ars,
         at,
@@ -264,12 +264,12 @@ fn closed_parts(s: &[u8], arities: &[u8], ars: &[u8], at: usize, n: usize) -> Se
 }
 
 // A rule: its layout, and each variable in it declared.
-pub fn one_rule(s: &[u8], arities: &[u8], ars: &[u8], at: usize) -> Seen
-    requires { ⌜ length (now s) ≤ longest ⌝ }
-    ensures { λ r. ⌜ r ≡ ended (rule (now (s .entry)) (now (arities .entry)) (now (ars .entry)) at) ⌝ }
+pub fn one_rule(file: &[u8], arities: &[u8], ars: &[u8], at: usize) -> Seen
+    requires { ⌜ length (now file) ≤ longest ⌝ }
+    ensures { λ r. ⌜ r ≡ ended (rule (now (file .entry)) (now (arities .entry)) (now (ars .entry)) at) ⌝ }
 {
-    match sorts_at(s, at) {
-        Number::Value(n, e) => closed_parts(s, arities, ars, e, n as usize),
+    match sorts_at(file, at) {
+        Number::Value(n, e) => closed_parts(file, arities, ars, e, n as usize),
         Number::Fault => Seen::Fault,
     }
 }

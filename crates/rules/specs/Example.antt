@@ -5,7 +5,7 @@ use mathlib.Core.Path.{_≡_, refl}
 use Rattle.number.specs.Groups.{numberLimit}
 use Rattle.number.specs.Reading.{readIn, readNumber, below, many, counted}
 use Rattle.term.specs.Term.{leaf, app, variable, public, fresh, nil, _&_}
-use Rattle.term.specs.Arity.{arity, slots}
+use Rattle.term.specs.Arity.{arity, tagArities}
 use Rattle.term.specs.Reader.{symbolAt, term, termIn}
 use Rattle.protocol.specs.Protocol.{fact-of, rule-of, protocol-of, ruleTerm, fact, facts, layout, rule, own, protocol}
 use Rattle.protocol.specs.Example.{printed, its-rule}
@@ -14,7 +14,7 @@ use Rattle.lists.specs.Below.{least, allBelow}
 use Rattle.rules.specs.Numbered.{ruleOf, fixed, hears}
 
 printed-fit : judged (protocol printed) ≡ sound
-unfolding protocol rule layout facts fact own ruleTerm term termIn symbolAt arity slots many counted below readNumber readIn numberLimit least allBelow
+unfolding protocol rule layout facts fact own ruleTerm term termIn symbolAt arity tagArities many counted below readNumber readIn numberLimit least allBelow
 printed-fit = refl
 
 -- a fresh name in an action: P1
@@ -43,17 +43,17 @@ hashes :
     ≡ some
     (rule-of (0 ∷ [])
     ((fact-of 3 (leaf variable 0 ∷ []) ∷ []) ∷ [] ∷ (fact-of 3 (app 6 (leaf variable 0 & nil) ∷ []) ∷ []) ∷ []))
-unfolding ruleOf arity slots
+unfolding ruleOf arity tagArities
 hashes = refl
 
 constant :
     ruleOf (protocol-of (1 ∷ 0 ∷ []) [] (its-rule ∷ [])) 16
     ≡ some (rule-of [] ([] ∷ [] ∷ (fact-of 3 (app 14 nil ∷ []) ∷ []) ∷ []))
-unfolding ruleOf arity slots
+unfolding ruleOf arity tagArities
 constant = refl
 
 no-function : ruleOf (protocol-of (1 ∷ 0 ∷ []) [] (its-rule ∷ [])) 17 ≡ none
-unfolding ruleOf arity slots
+unfolding ruleOf arity tagArities
 no-function = refl
 
 own-rule : ruleOf (protocol-of (1 ∷ 0 ∷ []) [] (its-rule ∷ [])) 31 ≡ some its-rule

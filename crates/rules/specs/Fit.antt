@@ -9,7 +9,7 @@ use Rattle.number.specs.Groups.{numberLimit}
 use Rattle.number.specs.Reading.{Read, got, fault}
 use Rattle.lists.specs.Lists.{anyBy}
 use Rattle.lists.specs.Below.{allBelow, least}
-use Rattle.protocol.specs.Protocol.{Rule, Protocol, noRule, premises, conclusions, leafIn}
+use Rattle.protocol.specs.Protocol.{Rule, Protocol, emptyRule, premises, conclusions, leafIn}
 use Rattle.protocol.specs.Protocol.Walks.{symbolIn}
 -- what the tests mean, in words of occurrence
 pub mod Meaning
@@ -18,7 +18,7 @@ pub mod Laws
 
 -- P1, "no fresh name in a rule": premises, actions and conclusions
 abbrev pub p1 : Rule → Bool
-p1 r = not (anyBy (anyBy (leafIn 2 0 numberLimit)) (r .parts))
+p1 r = not (anyBy (anyBy (leafIn 2 0 numberLimit)) (r .lists))
 
 -- P2, "no K or Out among premises": symbols 2 and 3
 abbrev pub p2 : Rule → Bool
@@ -43,7 +43,7 @@ fits r = p1 r && (p2 r && (p3 r && p4 r))
 
 -- the least rule that breaks a condition, its place in the file from 1; 0 if none does
 abbrev pub leastUnfit : List Rule → ℕ
-leastUnfit rs = least (λ k. not (fits (getD rs k noRule))) (length rs)
+leastUnfit rs = least (λ k. not (fits (getD rs k emptyRule))) (length rs)
 
 -- a protocol file keeps to the limits and the conditions, or some rule breaks one, or it keeps not even to the limits
 pub data Verdict : Type 0 where

@@ -7,7 +7,7 @@ use lib.Dec.{ltb, eqb}
 use Rattle.protocol.specs.Figures.{freshSort, messageSort, publicSort, mostArity}
 use Rattle.lists.specs.Choice.{pick}
 use Rattle.term.specs.Term.{Term, leaf, app, variable}
-use Rattle.term.specs.Arity.{arity, slots}
+use Rattle.term.specs.Arity.{arity, tagArities}
 use Rattle.term.specs.Reader.{terms}
 use Rattle.protocol.specs.Protocol.{Fact, Rule, Protocol, fact-of, rule-of, frSymbol, inSymbol, outSymbol, kSymbol}
 -- they keep to the limits
@@ -25,8 +25,8 @@ abbrev pub first : ℕ → List Fact
 first y = fact-of y (leaf variable 0 ∷ []) ∷ []
 
 -- "Rule 0 makes Fr(fresh)."
-abbrev pub makes : Rule
-makes = rule-of (freshSort ∷ []) ([] ∷ [] ∷ first frSymbol ∷ [])
+abbrev pub makesFresh : Rule
+makesFresh = rule-of (freshSort ∷ []) ([] ∷ [] ∷ first frSymbol ∷ [])
 
 -- "1: Out(y) to K(y)."
 abbrev pub hears : Rule
@@ -45,7 +45,7 @@ abbrev pub learns : Rule
 learns = rule-of (freshSort ∷ []) (first frSymbol ∷ [] ∷ first kSymbol ∷ [])
 
 unfoldable pub fixed : ℕ → Rule
-fixed n = pick (eqb n 0) makes (pick (eqb n 1) hears (pick (eqb n 2) injects (pick (eqb n 3) names learns)))
+fixed n = pick (eqb n 0) makesFresh (pick (eqb n 1) hears (pick (eqb n 2) injects (pick (eqb n 3) names learns)))
 
 -- ── the apply-rules ──
 -- n variables from i on, in order
@@ -82,5 +82,5 @@ firstOwnRule = 31
 
 unfoldable pub ruleOf : Protocol → ℕ → Option Rule
 ruleOf p n =
-    pick (ltb n firstApply) (some (fixed n)) (pick (ltb n firstOwnRule) (applied (n - tagShift) (arity (slots (p .functions)) (n - tagShift)))
+    pick (ltb n firstApply) (some (fixed n)) (pick (ltb n firstOwnRule) (applied (n - tagShift) (arity (tagArities (p .functions)) (n - tagShift)))
     (getElem? (p .rules) (n - firstOwnRule)))

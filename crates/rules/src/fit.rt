@@ -7,7 +7,7 @@ ghost use Rattle.octets.specs.Limits.{longest};
 ghost use Rattle.term.specs.Tags.{tagCount};
 ghost use Rattle.protocol.specs.Figures.{symbolCount, mostRules, listCount};
 ghost use Rattle.lists.specs.Lists.{anyBy};
-ghost use Rattle.protocol.specs.Protocol.{Rule, noRule, part, rule, protocol};
+ghost use Rattle.protocol.specs.Protocol.{Rule, emptyRule, listOf, rule, protocol};
 ghost use Rattle.protocol.specs.Protocol.Walks.{asks, ruleAsks};
 ghost use Rattle.protocol.specs.Index.{Placed};
 ghost use Rattle.rules.specs.Fit.{bound, p4, fits, judged};
@@ -16,13 +16,17 @@ ghost use Rattle.rules.specs.Fit.Laws.{hitOf, OfRule, unfit, verdictOf, 
 use number::Number;
 use number::Seen;
 use protocol::figures;
+use protocol::figures::CONCLUSIONS;
+use protocol::figures::PREMISES;
+use protocol::figures::SYMBOL_KIND;
 use protocol::index;
 use protocol::index::Index;
 use protocol::places;
 use protocol::walks;
+use term::VARIABLE;
 
 // A protocol file: fit, with the counts of fact symbols and of rules; the least rule that breaks a condition, from 1; a layout fault.
-pub enum Judged {
+pub enum FitVerdict {
     Sound(usize, usize),
     Broken(usize),
     Fault,
@@ -39,25 +43,25 @@ fn hit_of(r: Seen) -> bool
 
 // Whether a fact of list w of the rule at a place meets the test.
 fn list_asks(
-    s: &[u8],
+    file: &[u8],
     arities: &[u8],
     ars: &[u8],
     at: usize,
-    w: usize,
+    list: usize,
     kind: usize,
     lo: usize,
     hi: usize,
 ) -> bool
-    requires { ⌜ (length (now s) ≤ longest) × (w < listCount) ⌝ }
-    ensures { λ b. ⌜ OfRule (now (s .entry)) (now (arities .entry)) (now (ars .entry)) at (λ (r : Rule). b ≡ anyBy (asks kind lo hi) (part w r)) ⌝ }
+    requires { ⌜ (length (now file) ≤ longest) × (list < listCount) ⌝ }
+    ensures { λ b. ⌜ OfRule (now (file .entry)) (now (arities .entry)) (now (ars .entry)) at (λ (r : Rule). b ≡ anyBy (asks kind lo hi) (listOf list r)) ⌝ }
 {
-    let list = places::list_at(s, arities, ars, at, w);
-    hit_of(walks::one_part(s, arities, ars, list, kind, lo, hi))
+    let start = places::list_at(file, arities, ars, at, list);
+    hit_of(walks::one_part(file, arities, ars, start, kind, lo, hi))
 }
 
 // Whether a fact of the rule at a place meets the test.
 fn rule_asks(
-    s: &[u8],
+    file: &[u8],
     arities: &[u8],
     ars: &[u8],
     at: usize,
@@ -65,50 +69,32 @@ fn rule_asks(
     lo: usize,
     hi: usize,
 ) -> bool
-    requires { ⌜ length (now s) ≤ longest ⌝ }
-    ensures { λ b. ⌜ OfRule (now (s .entry)) (now (arities .entry)) (now (ars .entry)) at (λ (r : Rule). b ≡ ruleAsks kind lo hi r) ⌝ }
+    requires { ⌜ length (now file) ≤ longest ⌝ }
+    ensures { λ b. ⌜ OfRule (now (file .entry)) (now (arities .entry)) (now (ars .entry)) at (λ (r : Rule). b ≡ ruleAsks kind lo hi r) ⌝ }
 {
-    hit_of(walks::one_layout(s, arities, ars, at, kind, lo, hi))
+    hit_of(walks::one_layout(file, arities, ars, at, kind, lo, hi))
 }
 
 // Whether variable v of the rule at a place is of sort public, in a premise, or in no conclusion.
-fn is_bound(s: &[u8], arities: &[u8], ars: &[u8], at: usize, v: u32) -> bool
-    requires { ⌜ length (now s) ≤ longest ⌝ }
-    ensures { λ b. ⌜ OfRule (now (s .entry)) (now (arities .entry)) (now (ars .entry)) at (λ (r : Rule). v < length (r .sorts) → b ≡ bound r v) ⌝ }
+fn is_bound(file: &[u8], arities: &[u8], ars: &[u8], at: usize, v: u32) -> bool
+    requires { ⌜ length (now file) ≤ longest ⌝ }
+    ensures { λ b. ⌜ OfRule (now (file .entry)) (now (arities .entry)) (now (ars .entry)) at (λ (r : Rule). v < length (r .sorts) → b ≡ bound r v) ⌝ }
 {
-    let public = places::sort_of(s, at, v) == figures::PUBLIC_SORT;
+    let public = places::sort_of(file, at, v) == figures::PUBLIC_SORT;
     let x = v as usize;
-    let above = list_asks(
-        s,
-        arities,
-        ars,
-        at,
-        figures::PREMISES,
-        term::VARIABLE,
-        x,
-        x + 1,
-    );
-    let below = list_asks(
-        s,
-        arities,
-        ars,
-        at,
-        figures::CONCLUSIONS,
-        term::VARIABLE,
-        x,
-        x + 1,
-    );
+    let above = list_asks(file, arities, ars, at, PREMISES, VARIABLE, x, x + 1);
+    let below = list_asks(file, arities, ars, at, CONCLUSIONS, VARIABLE, x, x + 1);
     public | (above | !below)
 }
 
 // The same for the first n variables.
-fn all_bound(s: &[u8], arities: &[u8], ars: &[u8], at: usize, n: u32) -> bool
-    requires { ⌜ length (now s) ≤ longest ⌝ }
-    ensures { λ b. ⌜ OfRule (now (s .entry)) (now (arities .entry)) (now (ars .entry)) at (λ (r : Rule). n ≤ length (r .sorts) → b ≡ allBelow (bound r) n) ⌝ }
+fn all_bound(file: &[u8], arities: &[u8], ars: &[u8], at: usize, n: u32) -> bool
+    requires { ⌜ length (now file) ≤ longest ⌝ }
+    ensures { λ b. ⌜ OfRule (now (file .entry)) (now (arities .entry)) (now (ars .entry)) at (λ (r : Rule). n ≤ length (r .sorts) → b ≡ allBelow (bound r) n) ⌝ }
 {
     let mut j: u32 = 0;
     while j < n {
-        if !is_bound(s, arities, ars, at, j) {
+        if !is_bound(file, arities, ars, at, j) {
             return false;
         }
         j += 1;
@@ -117,64 +103,64 @@ fn all_bound(s: &[u8], arities: &[u8], ars: &[u8], at: usize, n: u32) -> bool
 }
 
 // P4 of the rule at a place.
-fn variables_bound(s: &[u8], arities: &[u8], ars: &[u8], at: usize) -> bool
-    requires { ⌜ length (now s) ≤ longest ⌝ }
-    ensures { λ b. ⌜ OfRule (now (s .entry)) (now (arities .entry)) (now (ars .entry)) at (λ (r : Rule). b ≡ p4 r) ⌝ }
+fn variables_bound(file: &[u8], arities: &[u8], ars: &[u8], at: usize) -> bool
+    requires { ⌜ length (now file) ≤ longest ⌝ }
+    ensures { λ b. ⌜ OfRule (now (file .entry)) (now (arities .entry)) (now (ars .entry)) at (λ (r : Rule). b ≡ p4 r) ⌝ }
 {
-    match walks::sorts_at(s, at) {
-        Number::Value(n, _) => all_bound(s, arities, ars, at, n),
+    match walks::sorts_at(file, at) {
+        Number::Value(n, _) => all_bound(file, arities, ars, at, n),
         Number::Fault => false,
     }
 }
 
 // P1 to P4 of the rule at a place.
-fn rule_fits(s: &[u8], arities: &[u8], ars: &[u8], at: usize) -> bool
-    requires { ⌜ length (now s) ≤ longest ⌝ }
-    ensures { λ b. ⌜ OfRule (now (s .entry)) (now (arities .entry)) (now (ars .entry)) at (λ (r : Rule). b ≡ fits r) ⌝ }
+fn rule_fits(file: &[u8], arities: &[u8], ars: &[u8], at: usize) -> bool
+    requires { ⌜ length (now file) ≤ longest ⌝ }
+    ensures { λ b. ⌜ OfRule (now (file .entry)) (now (arities .entry)) (now (ars .entry)) at (λ (r : Rule). b ≡ fits r) ⌝ }
 {
-    let fresh = rule_asks(s, arities, ars, at, term::FRESH, 0, number::NUMBER_LIMIT);
+    let fresh = rule_asks(file, arities, ars, at, term::FRESH, 0, number::NUMBER_LIMIT);
     let known = list_asks(
-        s,
+        file,
         arities,
         ars,
         at,
-        figures::PREMISES,
-        figures::SYMBOL_KIND,
+        PREMISES,
+        SYMBOL_KIND,
         figures::OUT,
         figures::PAST_K,
     );
     let made = list_asks(
-        s,
+        file,
         arities,
         ars,
         at,
-        figures::CONCLUSIONS,
-        figures::SYMBOL_KIND,
+        CONCLUSIONS,
+        SYMBOL_KIND,
         figures::FR,
         figures::OUT,
     );
     let learnt = list_asks(
-        s,
+        file,
         arities,
         ars,
         at,
-        figures::CONCLUSIONS,
-        figures::SYMBOL_KIND,
+        CONCLUSIONS,
+        SYMBOL_KIND,
         figures::K,
         figures::PAST_K,
     );
-    let held = variables_bound(s, arities, ars, at);
+    let held = variables_bound(file, arities, ars, at);
     !fresh & (!known & ((!made & !learnt) & held))
 }
 
 // The least of n rules that breaks a condition, counted from 1; 0 if there is none.
-fn least_unfit(s: &[u8], arities: &[u8], ars: &[u8], places: &[usize], n: usize) -> usize
-    requires { ⌜ (length (now s) ≤ longest) × (n ≤ length (now places)) ⌝ }
-    ensures { λ m. ⌜ ((rs : List Rule) → Placed (rule (now (s .entry)) (now (arities .entry)) (now (ars .entry))) noRule (now (places .entry)) rs n → m ≡ least (unfit rs) n) ⌝ }
+fn least_unfit(file: &[u8], arities: &[u8], ars: &[u8], places: &[usize], n: usize) -> usize
+    requires { ⌜ (length (now file) ≤ longest) × (n ≤ length (now places)) ⌝ }
+    ensures { λ m. ⌜ ((rs : List Rule) → Placed (rule (now (file .entry)) (now (arities .entry)) (now (ars .entry))) emptyRule (now (places .entry)) rs n → m ≡ least (unfit rs) n) ⌝ }
 {
     let mut j: usize = 0;
     while j < n {
-        if !rule_fits(s, arities, ars, places[j]) {
+        if !rule_fits(file, arities, ars, places[j]) {
             return j + 1;
         }
         j += 1;
@@ -184,22 +170,22 @@ fn least_unfit(s: &[u8], arities: &[u8], ars: &[u8], places: &[usize], n: usize)
 
 // Reads a protocol file into its index, and judges it.
 pub fn judge(
-    s: &[u8],
+    file: &[u8],
     arities: &mut [u8],
     ars: &mut [u8],
     flags: &mut [u8],
     places: &mut [usize],
-) -> Judged
-    requires { ⌜ (length (now s) ≤ longest) × (length (now arities) ≡ tagCount) × (symbolCount ≤ length (now ars)) × (symbolCount ≤ length (now flags)) × (mostRules ≤ length (now places)) ⌝ }
-    ensures told { λ r. ⌜ verdictOf r ≡ judged (protocol (now (s .entry))) ⌝ }
-    ensures index { λ r. ⌜ Indexes (now (s .entry)) r (now (arities .exit)) (now (ars .exit)) (now (flags .exit)) (now (places .exit)) ⌝ }
+) -> FitVerdict
+    requires { ⌜ (length (now file) ≤ longest) × (length (now arities) ≡ tagCount) × (symbolCount ≤ length (now ars)) × (symbolCount ≤ length (now flags)) × (mostRules ≤ length (now places)) ⌝ }
+    ensures told { λ r. ⌜ verdictOf r ≡ judged (protocol (now (file .entry))) ⌝ }
+    ensures index { λ r. ⌜ Indexes (now (file .entry)) r (now (arities .exit)) (now (ars .exit)) (now (flags .exit)) (now (places .exit)) ⌝ }
 {
-    let Index::Counts(ns, nr) = index::read_protocol(s, arities, ars, flags, places) else {
-        return Judged::Fault;
+    let Index::Counts(ns, nr) = index::read_protocol(file, arities, ars, flags, places) else {
+        return FitVerdict::Fault;
     };
-    let k = least_unfit(s, arities, &ars[..ns], places, nr);
+    let k = least_unfit(file, arities, &ars[..ns], places, nr);
     if k == 0 {
-        return Judged::Sound(ns, nr);
+        return FitVerdict::Sound(ns, nr);
     }
-    Judged::Broken(k)
+    FitVerdict::Broken(k)
 }

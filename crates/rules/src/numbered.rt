@@ -7,7 +7,7 @@ ghost use Rattle.number.specs.Groups.{base};
 ghost use Rattle.term.specs.Tags.{firstFunction, tagCount};
 ghost use Rattle.protocol.specs.Figures.{arityLimit};
 ghost use Rattle.lists.specs.All.{All};
-ghost use Rattle.term.specs.Arity.{slots};
+ghost use Rattle.term.specs.Arity.{tagArities};
 ghost use Rattle.protocol.specs.Protocol.{encodeRule};
 ghost use Rattle.protocol.specs.Index.{Entries};
 ghost use Rattle.rules.specs.Numbered.{fixed, applies, ruleRoom, firstApply};
@@ -38,7 +38,7 @@ const MOST_ARITY: u8 = figures::MOST_ARITY as u8;
 pub const RULE_ROOM: usize = 6 + 6 * figures::MOST_ARITY;
 
 // So many bytes of the lent array; a place in the protocol file; no rule.
-pub enum Found {
+pub enum FoundRule {
     Written(usize),
     At(usize),
     Nothing,
@@ -102,26 +102,26 @@ fn put_apply(out: &mut [u8], t: u8, k: u8) -> usize
 }
 
 // The rule that applies the function of a tag, if there is one. No arity is above the most, so a slot above it is an undeclared tag's.
-fn apply_rule(arities: &[u8], t: usize, out: &mut [u8]) -> Found
+fn apply_rule(arities: &[u8], t: usize, out: &mut [u8]) -> FoundRule
     requires { ⌜ (firstFunction ≤ t) × (t < tagCount) × (length (now arities) ≡ tagCount) × (ruleRoom ≤ length (now out)) ⌝ }
-    ensures { λ r. ⌜ ((fs : List ℕ) → All (λ (a : ℕ). a < arityLimit) fs → now (arities .entry) ≡ slots fs → Applies (slots fs) t r (now (out .exit))) ⌝ }
+    ensures { λ r. ⌜ ((fs : List ℕ) → All (λ (a : ℕ). a < arityLimit) fs → now (arities .entry) ≡ tagArities fs → Applies (tagArities fs) t r (now (out .exit))) ⌝ }
 {
     let k = arities[t];
     if MOST_ARITY < k {
-        return Found::Nothing;
+        return FoundRule::Nothing;
     }
-    Found::Written(put_apply(out, t as u8, k))
+    FoundRule::Written(put_apply(out, t as u8, k))
 }
 
 // The place of a protocol rule.
-fn own_rule(places: &[usize], n: usize, k: usize) -> Found
+fn own_rule(places: &[usize], n: usize, k: usize) -> FoundRule
     requires { ⌜ n ≤ length (now places) ⌝ }
     ensures { λ r. ⌜ r ≡ placeFound (now (places .entry)) n k ⌝ }
 {
     if k < n {
-        return Found::At(places[k]);
+        return FoundRule::At(places[k]);
     }
-    Found::Nothing
+    FoundRule::Nothing
 }
 
 // The rule of a number: its bytes are written to the lent array, or stand at a place of the protocol file.
@@ -131,12 +131,12 @@ pub fn find_rule(
     nr: usize,
     number: usize,
     out: &mut [u8],
-) -> Found
+) -> FoundRule
     requires { ⌜ (length (now arities) ≡ tagCount) × (nr ≤ length (now places)) × (ruleRoom ≤ length (now out)) ⌝ }
-    ensures { λ r. ⌜ ((s : List ℕ) (ns : ℕ) (ars flags : List ℕ) (i : Entries s ns nr (now (arities .entry)) ars flags (now (places .entry))) → Finds (i .is) s (now (arities .entry)) (take ns ars) number r (now (out .exit))) ⌝ }
+    ensures { λ r. ⌜ ((file : List ℕ) (ns : ℕ) (ars flags : List ℕ) (i : Entries file ns nr (now (arities .entry)) ars flags (now (places .entry))) → Finds (i .is) file (now (arities .entry)) (take ns ars) number r (now (out .exit))) ⌝ }
 {
     match number {
-        0..=LAST_FIXED => Found::Written(put_fixed(out, number)),
+        0..=LAST_FIXED => FoundRule::Written(put_fixed(out, number)),
         FIRST_APPLY..=LAST_BUILTIN => apply_rule(arities, number - TAG_SHIFT, out),
         FIRST_FREE..=LAST_FREE => apply_rule(arities, number - TAG_SHIFT, out),
         _ => own_rule(places, nr, number - FIRST_OWN),
@@ -144,13 +144,13 @@ pub fn find_rule(
 }
 
 // The bytes at the start of which the rule stands that was found: what was written out, or the protocol file from its place on.
-pub fn rule_part<'a>(file: &'a [u8], own: &'a [u8], found: Found) -> &'a [u8]
+pub fn rule_part<'a>(file: &'a [u8], own: &'a [u8], found: FoundRule) -> &'a [u8]
     requires { ⌜ Fits (now file) (now own) found ⌝ }
     ensures { λ r. ⌜ now r ≡ partOf (now (file .entry)) (now (own .entry)) found ⌝ }
 {
     match found {
-        Found::Written(len) => &own[..len],
-        Found::At(place) => &file[place..],
-        Found::Nothing => &own[..0],
+        FoundRule::Written(len) => &own[..len],
+        FoundRule::At(place) => &file[place..],
+        FoundRule::Nothing => &own[..0],
     }
 }

@@ -6,6 +6,7 @@ use mathlib.Core.Option.{Option, none, some}
 use mathlib.Core.Path.{_≡_}
 use lib.ListN.{getD}
 use lib.Dec.{eqb}
+use Rattle.protocol.specs.Figures.{actionList}
 use Rattle.lists.specs.Choice.{pick}
 use Rattle.octets.specs.Compare.{compareBytes, isEqual}
 use Rattle.term.specs.Term.{variable, public, fresh, Term, leaf, app, encode}
@@ -13,7 +14,7 @@ use Rattle.lists.specs.Lists.{nth}
 use Rattle.message.specs.Equations.{Same}
 use Rattle.message.specs.Substitution.{sub}
 use Rattle.message.specs.Canon.{canon}
-use Rattle.protocol.specs.Protocol.{Fact, Rule, Protocol, fact-of, part, factFlags}
+use Rattle.protocol.specs.Protocol.{Fact, Rule, Protocol, fact-of, listOf, factFlags}
 use Rattle.rules.specs.Numbered.{ruleOf}
 use Rattle.steps.specs.Nodes.{Node}
 -- the same facts have the same symbol and equal messages; an equivalence
@@ -29,10 +30,10 @@ valueAt vs v = getD vs v (leaf variable v)
 abbrev pub filledFact : List Term → Fact → Fact
 filledFact vs f = fact-of (f .symbol) (map (sub (valueAt vs)) (f .terms))
 
--- where there is a rule, its list of number w
+-- where there is a rule, its list of a number
 abbrev pub filledPart : ℕ → List Term → Option Rule → List Fact
-filledPart w vs none = []
-filledPart w vs (some u) = map (filledFact vs) (part w u)
+filledPart list vs none = []
+filledPart list vs (some u) = map (filledFact vs) (listOf list u)
 
 -- the number of a fresh name
 abbrev pub freshNumber : Term → Option ℕ
@@ -44,19 +45,19 @@ freshNumber (app f ts) = none
 module _ (p : Protocol) where
   -- "A node's facts are its rule's, with the node's values in place of the variables": 0 premises, 1 actions, 2 conclusions
   abbrev pub factsOf : ℕ → Node → List Fact
-  factsOf w x = filledPart w (x .values) (ruleOf p (x .rule))
+  factsOf list x = filledPart list (x .values) (ruleOf p (x .rule))
 
   -- "The trace gives each node number, from 1, the actions of that node, perhaps none ..; other numbers have none."
   abbrev pub actionsOf : Option Node → List Fact
   actionsOf none = []
-  actionsOf (some x) = factsOf 1 x
+  actionsOf (some x) = factsOf actionList x
 
   abbrev pub trace : List Node → ℕ → List Fact
   trace xs k = actionsOf (nth xs k)
 
 -- "Rule 0 makes Fr(fresh)": the name that a node makes, a node of rule 0 alone
-abbrev pub makes : Node → Option ℕ
-makes x = pick (eqb (x .rule) 0) (freshNumber (valueAt (x .values) 0)) none
+abbrev pub madeName : Node → Option ℕ
+madeName x = pick (eqb (x .rule) 0) (freshNumber (valueAt (x .values) 0)) none
 
 -- ── "equal facts count as the same fact" ──
 -- one by one

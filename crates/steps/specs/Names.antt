@@ -12,7 +12,7 @@ use Rattle.steps.specs.declared.names.Made.{Made}
 use Rattle.steps.specs.declared.names.Made.the-variants as md
 use Rattle.steps.specs.Nodes.{Node}
 use Rattle.steps.specs.Nodes.Code.{noNode}
-use Rattle.steps.specs.Facts.{makes}
+use Rattle.steps.specs.Facts.{madeName}
 -- the pass over the names is crate rewriting's
 pub mod Laws
 -- the name of a node, as the code reads it
@@ -23,7 +23,7 @@ pub mod Twice
 -- the names that nodes make, in order
 abbrev pub madeBy : List Node → List ℕ
 madeBy [] = []
-madeBy (x ∷ xs) = nameOf (makes x) ++ madeBy xs
+madeBy (x ∷ xs) = nameOf (madeName x) ++ madeBy xs
 
 -- a name stands among those that the nodes make
 abbrev pub isMade : ℕ → List Node → Bool
@@ -49,4 +49,4 @@ entryOf (md.Of f) = suc (f .0)
 entryOf md.Nothing = 0
 
 pub record Entered (names : List ℕ) (xs : List Node) (n : ℕ) : Type 0 where
-  pub each : (k : ℕ) → k < n → getD names k 0 ≡ nameEntry (makes (getD xs k noNode))
+  pub each : (k : ℕ) → k < n → getD names k 0 ≡ nameEntry (madeName (getD xs k noNode))

@@ -12,7 +12,7 @@ use Rattle.number.specs.Reading.{Read, got, fault, andThen, readNumber, below, 
 use Rattle.number.specs.Layout.{flat, listed}
 use Rattle.lists.specs.All.{All}
 use Rattle.term.specs.Term.{Term, encode}
-use Rattle.term.specs.Arity.{slots}
+use Rattle.term.specs.Arity.{tagArities}
 use Rattle.term.specs.Reader.{term}
 use Rattle.term.specs.Reader.Exact.{Good}
 use Rattle.protocol.specs.Protocol.{Rule, Protocol}
@@ -67,7 +67,7 @@ module _ {A B : Type 0} where
 
 -- leftover bytes are a layout fault
 abbrev pub allOf : {A : Type 0} → List ℕ → Reading A → Reading A
-allOf s r = onward r (λ x e. pick (eqb e (length s)) (read x e) broken)
+allOf file r = onward r (λ x e. pick (eqb e (length file)) (read x e) broken)
 
 abbrev pub absent : {A : Type 0} → Option A → Bool
 absent none = true
@@ -80,7 +80,7 @@ module _ (p : Protocol) where
     pub known : ruleOf p (x .rule) ≡ some is
     pub range : x .rule < numberLimit
     pub takes : length (x .values) ≡ length (is .sorts)
-    pub each : All (Good (slots (p .functions))) (x .values)
+    pub each : All (Good (tagArities (p .functions))) (x .values)
 
   -- "count of nodes (512)"
   pub record NodesWithin (xs : List Node) : Type 0 where
@@ -92,26 +92,26 @@ module _ (p : Protocol) where
   unknown (got r e) = absent (ruleOf p r)
   unknown fault = false
 
-  module _ (s : List ℕ) where
+  module _ (file : List ℕ) where
     abbrev pub values : ℕ → Option Rule → ℕ → Read Node
     values r none at = fault
-    values r (some u) at = andThen (many (term s (slots (p .functions))) (length (u .sorts)) at) (λ vs e. got (node-of r vs) e)
+    values r (some u) at = andThen (many (term file (tagArities (p .functions))) (length (u .sorts)) at) (λ vs e. got (node-of r vs) e)
 
     -- a node of an existing rule
     unfoldable pub node : ℕ → Read Node
-    node at = andThen (readNumber s at) (λ r e. values r (ruleOf p r) e)
+    node at = andThen (readNumber file at) (λ r e. values r (ruleOf p r) e)
 
     -- "front to back for 3 and 6", and in one node the rule number before its values: n nodes, the first of them of number k
     unfoldable pub nodesFrom : ℕ → ℕ → ℕ → Reading (List Node)
     nodesFrom k zero at = read [] at
     nodesFrom k (suc n) at =
-        pick (unknown (readNumber s at)) (no-rule k)
+        pick (unknown (readNumber file at)) (no-rule k)
         (plainly (node at) (λ x e. onward (nodesFrom (suc k) n e) (λ xs f. read (x ∷ xs) f)))
 
     -- the count, 512 at most, and the nodes from 1 on
     unfoldable pub nodes : ℕ → Reading (List Node)
-    nodes at = plainly (below s (suc mostNodes) at) (λ n e. nodesFrom 1 n e)
+    nodes at = plainly (below file (suc mostNodes) at) (λ n e. nodesFrom 1 n e)
 
     -- a step list: the nodes, and nothing behind them
     unfoldable pub steps : Reading (List Node)
-    steps = allOf s (nodes 0)
+    steps = allOf file (nodes 0)

@@ -1,12 +1,13 @@
 -- The rewriting of crate rewriting at the facts of a protocol: runs, accepted graphs, what is drawn and refused. The nodes are those of a
 -- step list or graph; no parameter is left but the protocol.
 use mathlib.Core.List.{List, map}
+use Rattle.protocol.specs.Figures.{premiseList, conclusionList}
 use Rattle.rewriting.specs.Facts.{Facts}
 use Rattle.rewriting.specs.Graph as graph
 use Rattle.rewriting.specs.Machine as machine
 use Rattle.protocol.specs.Protocol.{Fact, Protocol}
 use Rattle.steps.specs.Nodes.{Node}
-use Rattle.steps.specs.Facts.{factsOf, makes, sameFact, isLinear}
+use Rattle.steps.specs.Facts.{factsOf, madeName, sameFact, isLinear}
 use Rattle.steps.specs.Facts.Laws.{fact-refl, fact-sym, fact-trans, fact-linear}
 -- the theorems of crate rewriting at these facts
 pub mod Theorems
@@ -26,7 +27,7 @@ protocolFacts p = record {
 module _ (p : Protocol) where
   -- a node as the rewriting sees it
   abbrev pub rewritten : Node → graph.Node Fact
-  rewritten x = record { premises = factsOf p 0 x; conclusions = factsOf p 2 x; makes = makes x }
+  rewritten x = record { premises = factsOf p premiseList x; conclusions = factsOf p conclusionList x; makes = madeName x }
 
   abbrev pub rewrittens : List Node → List (graph.Node Fact)
   rewrittens xs = map rewritten xs

@@ -64,7 +64,7 @@ pub record ValueAt (u : Rule) (x : Node) (i sort : ℕ) (v : Term) : Type 0 wher
 pub record TermOf (u : Rule) (t : Term) : Type 0 where
   pub facts : List Fact
   pub fact : Fact
-  pub of-rule : facts ∈ u .parts
+  pub of-rule : facts ∈ u .lists
   pub of-facts : fact ∈ facts
   pub of-fact : t ∈ fact .terms
 

@@ -10,7 +10,7 @@ ghost use Rattle.rewriting.specs.Writer.{firstNameTwice};
 ghost use Rattle.steps.specs.Index.{IndexOf};
 ghost use Rattle.steps.specs.Nodes.{Node, node, mostNodes};
 ghost use Rattle.steps.specs.Nodes.Code.{noNode};
-ghost use Rattle.steps.specs.Facts.{makes};
+ghost use Rattle.steps.specs.Facts.{madeName};
 ghost use Rattle.steps.specs.Runs.{rewrittens};
 ghost use Rattle.steps.specs.Values.Scan.{asFound};
 ghost use Rattle.steps.specs.Names.{isMade, againIn, MadeIs, entryOf, Entered};
@@ -30,10 +30,10 @@ pub enum Made {
 }
 
 // The fresh name at a place.
-fn fresh_at(s: &[u8], arities: &[u8], at: usize) -> Made
-    ensures { λ r. ⌜ NumberIs (symbolAt (now (s .entry)) (now (arities .entry)) at) r ⌝ }
+fn fresh_at(file: &[u8], arities: &[u8], at: usize) -> Made
+    ensures { λ r. ⌜ NumberIs (symbolAt (now (file .entry)) (now (arities .entry)) at) r ⌝ }
 {
-    match crate::values::name_at(s, arities, at) {
+    match crate::values::name_at(file, arities, at) {
         Name::FreshName(f) => Made::Of(f),
         Name::PublicName(_) => Made::Nothing,
         Name::Other => Made::Nothing,
@@ -42,19 +42,19 @@ fn fresh_at(s: &[u8], arities: &[u8], at: usize) -> Made
 
 // The name that the node at a place makes: "Rule 0 makes Fr(fresh)", and no other rule makes one.
 pub fn made_at(
-    s: &[u8],
+    file: &[u8],
     protocol: &[u8],
     arities: &[u8],
     rules: &[usize],
     nr: usize,
     place: usize,
 ) -> Made
-    ensures { λ r. ⌜ ((p : Protocol) (x : Node) → IndexOf (now (protocol .entry)) (now (arities .entry)) (now (rules .entry)) nr p → Here (node p (now (s .entry))) x place → MadeIs (makes x) r) ⌝ }
+    ensures { λ r. ⌜ ((p : Protocol) (x : Node) → IndexOf (now (protocol .entry)) (now (arities .entry)) (now (rules .entry)) nr p → Here (node p (now (file .entry))) x place → MadeIs (madeName x) r) ⌝ }
 {
-    match number::read_number(s, place) {
+    match number::read_number(file, place) {
         Number::Value(r, e) => {
             if r == MAKES_FRESH {
-                return fresh_at(s, arities, e);
+                return fresh_at(file, arities, e);
             }
             Made::Nothing
         }
@@ -74,7 +74,7 @@ fn entry_of(made: Made) -> usize
 
 // The names that the nodes make, an entry a node.
 fn enter_names(
-    s: &[u8],
+    file: &[u8],
     protocol: &[u8],
     arities: &[u8],
     rules: &[usize],
@@ -85,11 +85,11 @@ fn enter_names(
 )
     requires { ⌜ (n ≤ length (now places)) × (n ≤ length (now names)) ⌝ }
     ensures kept { λ r. ⌜ length (now (names .exit)) ≡ length (now (names .entry)) ⌝ }
-    ensures told { λ r. ⌜ ((p : Protocol) (xs : List Node) → IndexOf (now (protocol .entry)) (now (arities .entry)) (now (rules .entry)) nr p → Placed (node p (now (s .entry))) noNode (now (places .entry)) xs n → Entered (now (names .exit)) xs n) ⌝ }
+    ensures told { λ r. ⌜ ((p : Protocol) (xs : List Node) → IndexOf (now (protocol .entry)) (now (arities .entry)) (now (rules .entry)) nr p → Placed (node p (now (file .entry))) noNode (now (places .entry)) xs n → Entered (now (names .exit)) xs n) ⌝ }
 {
     let mut j: usize = 0;
     while j < n {
-        names[j] = entry_of(made_at(s, protocol, arities, rules, nr, places[j]));
+        names[j] = entry_of(made_at(file, protocol, arities, rules, nr, places[j]));
         j += 1;
     }
 }
@@ -111,7 +111,7 @@ fn made_before(names: &[usize], j: usize, entry: usize) -> bool
 // Whether node j, from 0, makes a name that a node before it makes.
 fn again_at(names: &[usize], j: usize) -> bool
     requires { ⌜ j < length (now names) ⌝ }
-    ensures { λ r. ⌜ ((xs : List Node) (n : ℕ) → Entered (now (names .entry)) xs n → j < n → n ≤ length xs → r ≡ againIn (take j xs) (makes (getD xs j noNode))) ⌝ }
+    ensures { λ r. ⌜ ((xs : List Node) (n : ℕ) → Entered (now (names .entry)) xs n → j < n → n ≤ length xs → r ≡ againIn (take j xs) (madeName (getD xs j noNode))) ⌝ }
 {
     let entry = names[j];
     if entry == 0 {
@@ -137,7 +137,7 @@ fn least_again(names: &[usize], n: usize) -> usize
 
 // 9: the names are read once, then compared.
 pub fn name_pass(
-    s: &[u8],
+    file: &[u8],
     protocol: &[u8],
     arities: &[u8],
     rules: &[usize],
@@ -146,9 +146,9 @@ pub fn name_pass(
     n: usize,
 ) -> usize
     requires { ⌜ (n ≤ mostNodes) × (n ≤ length (now places)) ⌝ }
-    ensures { λ r. ⌜ ((p : Protocol) (xs : List Node) → IndexOf (now (protocol .entry)) (now (arities .entry)) (now (rules .entry)) nr p → Placed (node p (now (s .entry))) noNode (now (places .entry)) xs n → asFound r ≡ firstNameTwice (rewrittens p xs)) ⌝ }
+    ensures { λ r. ⌜ ((p : Protocol) (xs : List Node) → IndexOf (now (protocol .entry)) (now (arities .entry)) (now (rules .entry)) nr p → Placed (node p (now (file .entry))) noNode (now (places .entry)) xs n → asFound r ≡ firstNameTwice (rewrittens p xs)) ⌝ }
 {
     let mut names = [0usize; crate::nodes::MOST_NODES];
-    enter_names(s, protocol, arities, rules, nr, places, n, &mut names);
+    enter_names(file, protocol, arities, rules, nr, places, n, &mut names);
     least_again(&names, n)
 }

@@ -14,7 +14,7 @@ ghost use Rattle.steps.specs.Nodes.{nodesFrom, nodes, steps, mostNodes};
 ghost use Rattle.steps.specs.Index.{IndexOf, Given};
 ghost use Rattle.steps.specs.Nodes.Code.{variablesOf, termsEnd, nodeFrom, nodeEnd, Told};
 use number::Number;
-use rules::numbered::Found;
+use rules::numbered::FoundRule;
 use term::Part;
 
 // "count of nodes (512)"
@@ -43,21 +43,21 @@ pub enum Nodes {
 }
 
 // The place behind k values.
-fn values_end(s: &[u8], arities: &[u8], at: usize, k: usize) -> NodeEnd
-    requires { ⌜ (length (now s) ≤ longest) × (k ≤ longest) ⌝ }
-    ensures { λ r. ⌜ r ≡ termsEnd (many (term (now (s .entry)) (now (arities .entry))) k at) ⌝ }
+fn values_end(file: &[u8], arities: &[u8], at: usize, k: usize) -> NodeEnd
+    requires { ⌜ (length (now file) ≤ longest) × (k ≤ longest) ⌝ }
+    ensures { λ r. ⌜ r ≡ termsEnd (many (term (now (file .entry)) (now (arities .entry))) k at) ⌝ }
 {
-    match term::terms_end(s, arities, at, k) {
+    match term::terms_end(file, arities, at, k) {
         Part::End(e, _) => NodeEnd::End(e),
         Part::Fault => NodeEnd::Broken,
     }
 }
 
 // How many variables the rule at the start of a slice has.
-pub fn own_variables(s: &[u8]) -> usize
-    ensures { λ r. ⌜ (r ≡ valueOf (sortsAt (now (s .entry)) 0)) × Bytes (now (s .entry)) ⌝ }
+pub fn own_variables(file: &[u8]) -> usize
+    ensures { λ r. ⌜ (r ≡ valueOf (sortsAt (now (file .entry)) 0)) × Bytes (now (file .entry)) ⌝ }
 {
-    protocol::places::variables_of(s, 0)
+    protocol::places::variables_of(file, 0)
 }
 
 // How many variables the rule of a number has.
@@ -73,15 +73,15 @@ fn rule_variables(
 {
     let mut own = [0u8; rules::numbered::RULE_ROOM];
     match rules::numbered::find_rule(arities, rules, nr, number, &mut own) {
-        Found::Written(len) => Variables::Count(own_variables(&own[..len])),
-        Found::At(place) => Variables::Count(protocol::places::variables_of(protocol, place)),
-        Found::Nothing => Variables::Nothing,
+        FoundRule::Written(len) => Variables::Count(own_variables(&own[..len])),
+        FoundRule::At(place) => Variables::Count(protocol::places::variables_of(protocol, place)),
+        FoundRule::Nothing => Variables::Nothing,
     }
 }
 
 // A node whose rule number was read.
 fn node_from(
-    s: &[u8],
+    file: &[u8],
     protocol: &[u8],
     arities: &[u8],
     rules: &[usize],
@@ -89,36 +89,36 @@ fn node_from(
     number: usize,
     at: usize,
 ) -> NodeEnd
-    requires { ⌜ (length (now s) ≤ longest) × Given (now protocol) (now arities) (now rules) nr ⌝ }
-    ensures { λ r. ⌜ ((p : Protocol) → IndexOf (now (protocol .entry)) (now (arities .entry)) (now (rules .entry)) nr p → r ≡ nodeFrom p (now (s .entry)) (ruleOf p number) at) ⌝ }
+    requires { ⌜ (length (now file) ≤ longest) × Given (now protocol) (now arities) (now rules) nr ⌝ }
+    ensures { λ r. ⌜ ((p : Protocol) → IndexOf (now (protocol .entry)) (now (arities .entry)) (now (rules .entry)) nr p → r ≡ nodeFrom p (now (file .entry)) (ruleOf p number) at) ⌝ }
 {
     match rule_variables(protocol, arities, rules, nr, number) {
-        Variables::Count(k) => values_end(s, arities, at, k),
+        Variables::Count(k) => values_end(file, arities, at, k),
         Variables::Nothing => NodeEnd::NoRule,
     }
 }
 
 // A node: its rule number is judged before its values are read.
 fn node_end(
-    s: &[u8],
+    file: &[u8],
     protocol: &[u8],
     arities: &[u8],
     rules: &[usize],
     nr: usize,
     at: usize,
 ) -> NodeEnd
-    requires { ⌜ (length (now s) ≤ longest) × Given (now protocol) (now arities) (now rules) nr ⌝ }
-    ensures { λ r. ⌜ ((p : Protocol) → IndexOf (now (protocol .entry)) (now (arities .entry)) (now (rules .entry)) nr p → r ≡ nodeEnd p (now (s .entry)) at) ⌝ }
+    requires { ⌜ (length (now file) ≤ longest) × Given (now protocol) (now arities) (now rules) nr ⌝ }
+    ensures { λ r. ⌜ ((p : Protocol) → IndexOf (now (protocol .entry)) (now (arities .entry)) (now (rules .entry)) nr p → r ≡ nodeEnd p (now (file .entry)) at) ⌝ }
 {
-    match number::read_number(s, at) {
-        Number::Value(r, e) => node_from(s, protocol, arities, rules, nr, r as usize, e),
+    match number::read_number(file, at) {
+        Number::Value(r, e) => node_from(file, protocol, arities, rules, nr, r as usize, e),
         Number::Fault => NodeEnd::Broken,
     }
 }
 
 // The places of n nodes.
 fn nodes_from(
-    s: &[u8],
+    file: &[u8],
     protocol: &[u8],
     arities: &[u8],
     rules: &[usize],
@@ -127,14 +127,14 @@ fn nodes_from(
     n: usize,
     places: &mut [usize],
 ) -> Nodes
-    requires { ⌜ (length (now s) ≤ longest) × (n ≤ mostNodes) × (mostNodes ≤ length (now places)) × Given (now protocol) (now arities) (now rules) nr ⌝ }
+    requires { ⌜ (length (now file) ≤ longest) × (n ≤ mostNodes) × (mostNodes ≤ length (now places)) × Given (now protocol) (now arities) (now rules) nr ⌝ }
     ensures kept { λ r. ⌜ length (now (places .exit)) ≡ length (now (places .entry)) ⌝ }
-    ensures told { λ r. ⌜ ((p : Protocol) → IndexOf (now (protocol .entry)) (now (arities .entry)) (now (rules .entry)) nr p → Told (nodesFrom p (now (s .entry)) 1 n at) p (now (s .entry)) (now (places .exit)) r) ⌝ }
+    ensures told { λ r. ⌜ ((p : Protocol) → IndexOf (now (protocol .entry)) (now (arities .entry)) (now (rules .entry)) nr p → Told (nodesFrom p (now (file .entry)) 1 n at) p (now (file .entry)) (now (places .exit)) r) ⌝ }
 {
     let mut i = at;
     let mut j: usize = 0;
     while j < n {
-        match node_end(s, protocol, arities, rules, nr, i) {
+        match node_end(file, protocol, arities, rules, nr, i) {
             NodeEnd::End(e) => {
                 places[j] = i;
                 i = e;
@@ -153,7 +153,7 @@ fn nodes_from(
 
 // The count, 512 at most, and the nodes; the place of each is kept.
 pub fn read_nodes(
-    s: &[u8],
+    file: &[u8],
     at: usize,
     protocol: &[u8],
     arities: &[u8],
@@ -161,32 +161,41 @@ pub fn read_nodes(
     nr: usize,
     places: &mut [usize],
 ) -> Nodes
-    requires { ⌜ (length (now s) ≤ longest) × (mostNodes ≤ length (now places)) × Given (now protocol) (now arities) (now rules) nr ⌝ }
+    requires { ⌜ (length (now file) ≤ longest) × (mostNodes ≤ length (now places)) × Given (now protocol) (now arities) (now rules) nr ⌝ }
     ensures kept { λ r. ⌜ length (now (places .exit)) ≡ length (now (places .entry)) ⌝ }
-    ensures told { λ r. ⌜ ((p : Protocol) → IndexOf (now (protocol .entry)) (now (arities .entry)) (now (rules .entry)) nr p → Told (nodes p (now (s .entry)) at) p (now (s .entry)) (now (places .exit)) r) ⌝ }
+    ensures told { λ r. ⌜ ((p : Protocol) → IndexOf (now (protocol .entry)) (now (arities .entry)) (now (rules .entry)) nr p → Told (nodes p (now (file .entry)) at) p (now (file .entry)) (now (places .exit)) r) ⌝ }
 {
-    match number::below(s, at, NODE_LIMIT) {
-        Number::Value(n, e) => nodes_from(s, protocol, arities, rules, nr, e, n as usize, places),
+    match number::below(file, at, NODE_LIMIT) {
+        Number::Value(n, e) => nodes_from(
+            file,
+            protocol,
+            arities,
+            rules,
+            nr,
+            e,
+            n as usize,
+            places,
+        ),
         Number::Fault => Nodes::Broken,
     }
 }
 
 // A whole step list: leftover bytes are a layout fault.
 pub fn read_steps(
-    s: &[u8],
+    file: &[u8],
     protocol: &[u8],
     arities: &[u8],
     rules: &[usize],
     nr: usize,
     places: &mut [usize],
 ) -> Nodes
-    requires { ⌜ (length (now s) ≤ longest) × (mostNodes ≤ length (now places)) × Given (now protocol) (now arities) (now rules) nr ⌝ }
+    requires { ⌜ (length (now file) ≤ longest) × (mostNodes ≤ length (now places)) × Given (now protocol) (now arities) (now rules) nr ⌝ }
     ensures kept { λ r. ⌜ length (now (places .exit)) ≡ length (now (places .entry)) ⌝ }
-    ensures told { λ r. ⌜ ((p : Protocol) → IndexOf (now (protocol .entry)) (now (arities .entry)) (now (rules .entry)) nr p → Told (steps p (now (s .entry))) p (now (s .entry)) (now (places .exit)) r) ⌝ }
+    ensures told { λ r. ⌜ ((p : Protocol) → IndexOf (now (protocol .entry)) (now (arities .entry)) (now (rules .entry)) nr p → Told (steps p (now (file .entry))) p (now (file .entry)) (now (places .exit)) r) ⌝ }
 {
-    match read_nodes(s, 0, protocol, arities, rules, nr, places) {
+    match read_nodes(file, 0, protocol, arities, rules, nr, places) {
         Nodes::End(n, e) => {
-            if e == s.len() {
+            if e == file.len() {
                 return Nodes::End(n, e);
             }
             Nodes::Broken

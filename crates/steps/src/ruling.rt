@@ -21,14 +21,14 @@ use crate::size_pass;
 use crate::values;
 
 // How many nodes there are, or the number and the item of a refusal.
-pub enum Judged {
+pub enum NodesRuling {
     Good(usize),
     Refused(usize, usize),
 }
 
 // 7, 8 and 9 of the nodes at their places.
 pub fn rule_nodes(
-    s: &[u8],
+    file: &[u8],
     protocol: &[u8],
     arities: &[u8],
     ars: &[u8],
@@ -36,43 +36,43 @@ pub fn rule_nodes(
     nr: usize,
     places: &[usize],
     n: usize,
-) -> Judged
-    requires { ⌜ (length (now s) ≤ longest) × (n ≤ mostNodes) × (n ≤ length (now places)) × Given (now protocol) (now arities) (now rules) nr × SomeNodes (now protocol) (now arities) (now rules) nr (now s) (now places) n × ArityTable (now protocol) (now arities) (now rules) nr (now ars) ⌝ }
-    ensures { λ r. ⌜ ((p : Protocol) (xs : List Node) → IndexOf (now (protocol .entry)) (now (arities .entry)) (now (rules .entry)) nr p → Placed (node p (now (s .entry))) noNode (now (places .entry)) xs n → rulingOf r ≡ counted (nodeRuling p xs)) ⌝ }
+) -> NodesRuling
+    requires { ⌜ (length (now file) ≤ longest) × (n ≤ mostNodes) × (n ≤ length (now places)) × Given (now protocol) (now arities) (now rules) nr × SomeNodes (now protocol) (now arities) (now rules) nr (now file) (now places) n × ArityTable (now protocol) (now arities) (now rules) nr (now ars) ⌝ }
+    ensures { λ r. ⌜ ((p : Protocol) (xs : List Node) → IndexOf (now (protocol .entry)) (now (arities .entry)) (now (rules .entry)) nr p → Placed (node p (now (file .entry))) noNode (now (places .entry)) xs n → rulingOf r ≡ counted (nodeRuling p xs)) ⌝ }
 {
-    let wrong = values::value_pass(s, protocol, arities, rules, nr, places, n);
+    let wrong = values::value_pass(file, protocol, arities, rules, nr, places, n);
     if wrong != 0 {
-        return Judged::Refused(rewriting::VALUE_WRONG, wrong);
+        return NodesRuling::Refused(rewriting::VALUE_WRONG, wrong);
     }
-    let large = size_pass::size_pass(s, protocol, arities, ars, rules, nr, places, n);
+    let large = size_pass::size_pass(file, protocol, arities, ars, rules, nr, places, n);
     if large != 0 {
-        return Judged::Refused(rewriting::TERM_LONG, large);
+        return NodesRuling::Refused(rewriting::TERM_LONG, large);
     }
-    let twice = names::name_pass(s, protocol, arities, rules, nr, places, n);
+    let twice = names::name_pass(file, protocol, arities, rules, nr, places, n);
     if twice != 0 {
-        return Judged::Refused(rewriting::NAME_TWICE, twice);
+        return NodesRuling::Refused(rewriting::NAME_TWICE, twice);
     }
-    Judged::Good(n)
+    NodesRuling::Good(n)
 }
 
 // The whole step list; the places of its nodes are filled in.
 pub fn rule_steps(
-    s: &[u8],
+    file: &[u8],
     protocol: &[u8],
     arities: &[u8],
     ars: &[u8],
     rules: &[usize],
     nr: usize,
     places: &mut [usize],
-) -> Judged
-    requires { ⌜ (length (now s) ≤ longest) × (mostNodes ≤ length (now places)) × Given (now protocol) (now arities) (now rules) nr × ArityTable (now protocol) (now arities) (now rules) nr (now ars) ⌝ }
+) -> NodesRuling
+    requires { ⌜ (length (now file) ≤ longest) × (mostNodes ≤ length (now places)) × Given (now protocol) (now arities) (now rules) nr × ArityTable (now protocol) (now arities) (now rules) nr (now ars) ⌝ }
     ensures kept { λ r. ⌜ length (now (places .exit)) ≡ length (now (places .entry)) ⌝ }
-    ensures ruled { λ r. ⌜ ((p : Protocol) → IndexOf (now (protocol .entry)) (now (arities .entry)) (now (rules .entry)) nr p → rulingOf r ≡ counted (listRuling p stepsItem (steps p (now (s .entry))))) ⌝ }
-    ensures good { λ r. ⌜ ((p : Protocol) → IndexOf (now (protocol .entry)) (now (arities .entry)) (now (rules .entry)) nr p → WhereGood p (now (s .entry)) (now (places .exit)) r) ⌝ }
+    ensures ruled { λ r. ⌜ ((p : Protocol) → IndexOf (now (protocol .entry)) (now (arities .entry)) (now (rules .entry)) nr p → rulingOf r ≡ counted (listRuling p stepsItem (steps p (now (file .entry))))) ⌝ }
+    ensures good { λ r. ⌜ ((p : Protocol) → IndexOf (now (protocol .entry)) (now (arities .entry)) (now (rules .entry)) nr p → WhereGood p (now (file .entry)) (now (places .exit)) r) ⌝ }
 {
-    match nodes::read_steps(s, protocol, arities, rules, nr, places) {
-        Nodes::End(n, _) => rule_nodes(s, protocol, arities, ars, rules, nr, places, n),
-        Nodes::Broken => Judged::Refused(rewriting::LAYOUT, rewriting::STEPS_ITEM),
-        Nodes::NoRule(k) => Judged::Refused(rewriting::NO_SUCH_RULE, k),
+    match nodes::read_steps(file, protocol, arities, rules, nr, places) {
+        Nodes::End(n, _) => rule_nodes(file, protocol, arities, ars, rules, nr, places, n),
+        Nodes::Broken => NodesRuling::Refused(rewriting::LAYOUT, rewriting::STEPS_ITEM),
+        Nodes::NoRule(k) => NodesRuling::Refused(rewriting::NO_SUCH_RULE, k),
     }
 }

@@ -19,9 +19,9 @@ ghost use Rattle.steps.specs.Values.Scan.{asFound, SomeNodes};
 ghost use Rattle.steps.specs.Values.Filled.{ArityTable, FillsRule, SomeFilling};
 use number::Number;
 
-// Whether the terms of the rule at a place of src are small enough with the k values from a place of s on filled in.
+// Whether the terms of the rule at a place of src are small enough with the k values from a place of file on filled in.
 fn filled_small(
-    s: &[u8],
+    file: &[u8],
     arities: &[u8],
     ars: &[u8],
     at: usize,
@@ -29,17 +29,17 @@ fn filled_small(
     place: usize,
     k: usize,
 ) -> bool
-    requires { ⌜ (length (now src) ≤ longest) × SomeFilling (now arities) (now ars) (now s) (now src) place at × (k ≡ valueOf (sortsAt (now src) place)) ⌝ }
-    ensures { λ r. ⌜ ((u : Rule) (vs : List Term) (e : ℕ) → FillsRule (now (arities .entry)) (now (ars .entry)) (now (s .entry)) (now (src .entry)) place at u vs e → r ≡ ruleOk vs u) ⌝ }
+    requires { ⌜ (length (now src) ≤ longest) × SomeFilling (now arities) (now ars) (now file) (now src) place at × (k ≡ valueOf (sortsAt (now src) place)) ⌝ }
+    ensures { λ r. ⌜ ((u : Rule) (vs : List Term) (e : ℕ) → FillsRule (now (arities .entry)) (now (ars .entry)) (now (file .entry)) (now (src .entry)) place at u vs e → r ≡ ruleOk vs u) ⌝ }
 {
     let mut sizes = [1usize; protocol::figures::MOST_VARIABLES];
-    crate::sizes::value_sizes(s, arities, at, k, &mut sizes);
+    crate::sizes::value_sizes(file, arities, at, k, &mut sizes);
     crate::sizes::rule_small(src, arities, ars, place, &sizes[..k])
 }
 
 // The terms of a node whose rule number was read.
 fn terms_of(
-    s: &[u8],
+    file: &[u8],
     protocol: &[u8],
     arities: &[u8],
     ars: &[u8],
@@ -48,19 +48,19 @@ fn terms_of(
     number: usize,
     at: usize,
 ) -> bool
-    requires { ⌜ Given (now protocol) (now arities) (now rules) nr × SomeFrom (now protocol) (now arities) (now rules) nr (now s) number at × ArityTable (now protocol) (now arities) (now rules) nr (now ars) ⌝ }
-    ensures { λ r. ⌜ ((p : Protocol) (x : Node) (e : ℕ) → IndexOf (now (protocol .entry)) (now (arities .entry)) (now (rules .entry)) nr p → NodeFrom p (now (s .entry)) number at x e → r ≡ nodeTermsOk p x) ⌝ }
+    requires { ⌜ Given (now protocol) (now arities) (now rules) nr × SomeFrom (now protocol) (now arities) (now rules) nr (now file) number at × ArityTable (now protocol) (now arities) (now rules) nr (now ars) ⌝ }
+    ensures { λ r. ⌜ ((p : Protocol) (x : Node) (e : ℕ) → IndexOf (now (protocol .entry)) (now (arities .entry)) (now (rules .entry)) nr p → NodeFrom p (now (file .entry)) number at x e → r ≡ nodeTermsOk p x) ⌝ }
 {
     let mut own = [0u8; rules::numbered::RULE_ROOM];
     let found = rules::numbered::find_rule(arities, rules, nr, number, &mut own);
     let src = rules::numbered::rule_part(protocol, &own, found);
     let k = crate::nodes::own_variables(src);
-    filled_small(s, arities, ars, at, src, 0, k)
+    filled_small(file, arities, ars, at, src, 0, k)
 }
 
 // The terms of the node at a place.
 fn node_terms(
-    s: &[u8],
+    file: &[u8],
     protocol: &[u8],
     arities: &[u8],
     ars: &[u8],
@@ -68,18 +68,18 @@ fn node_terms(
     nr: usize,
     place: usize,
 ) -> bool
-    requires { ⌜ (length (now s) ≤ longest) × Given (now protocol) (now arities) (now rules) nr × SomeNode (now protocol) (now arities) (now rules) nr (now s) place × ArityTable (now protocol) (now arities) (now rules) nr (now ars) ⌝ }
-    ensures { λ r. ⌜ ((p : Protocol) (x : Node) → IndexOf (now (protocol .entry)) (now (arities .entry)) (now (rules .entry)) nr p → Here (node p (now (s .entry))) x place → r ≡ nodeTermsOk p x) ⌝ }
+    requires { ⌜ (length (now file) ≤ longest) × Given (now protocol) (now arities) (now rules) nr × SomeNode (now protocol) (now arities) (now rules) nr (now file) place × ArityTable (now protocol) (now arities) (now rules) nr (now ars) ⌝ }
+    ensures { λ r. ⌜ ((p : Protocol) (x : Node) → IndexOf (now (protocol .entry)) (now (arities .entry)) (now (rules .entry)) nr p → Here (node p (now (file .entry))) x place → r ≡ nodeTermsOk p x) ⌝ }
 {
-    match number::read_number(s, place) {
-        Number::Value(r, e) => terms_of(s, protocol, arities, ars, rules, nr, r as usize, e),
+    match number::read_number(file, place) {
+        Number::Value(r, e) => terms_of(file, protocol, arities, ars, rules, nr, r as usize, e),
         Number::Fault => true,
     }
 }
 
 // 8: the least node that has a filled-in term of more than 256 symbols; 0 where there is none.
 pub fn size_pass(
-    s: &[u8],
+    file: &[u8],
     protocol: &[u8],
     arities: &[u8],
     ars: &[u8],
@@ -88,12 +88,12 @@ pub fn size_pass(
     places: &[usize],
     n: usize,
 ) -> usize
-    requires { ⌜ (length (now s) ≤ longest) × (n ≤ mostNodes) × (n ≤ length (now places)) × Given (now protocol) (now arities) (now rules) nr × SomeNodes (now protocol) (now arities) (now rules) nr (now s) (now places) n × ArityTable (now protocol) (now arities) (now rules) nr (now ars) ⌝ }
-    ensures { λ r. ⌜ ((p : Protocol) (xs : List Node) → IndexOf (now (protocol .entry)) (now (arities .entry)) (now (rules .entry)) nr p → Placed (node p (now (s .entry))) noNode (now (places .entry)) xs n → asFound r ≡ firstBad (λ (k : ℕ) (x : Node). nodeTermsOk p x) 1 xs) ⌝ }
+    requires { ⌜ (length (now file) ≤ longest) × (n ≤ mostNodes) × (n ≤ length (now places)) × Given (now protocol) (now arities) (now rules) nr × SomeNodes (now protocol) (now arities) (now rules) nr (now file) (now places) n × ArityTable (now protocol) (now arities) (now rules) nr (now ars) ⌝ }
+    ensures { λ r. ⌜ ((p : Protocol) (xs : List Node) → IndexOf (now (protocol .entry)) (now (arities .entry)) (now (rules .entry)) nr p → Placed (node p (now (file .entry))) noNode (now (places .entry)) xs n → asFound r ≡ firstBad (λ (k : ℕ) (x : Node). nodeTermsOk p x) 1 xs) ⌝ }
 {
     let mut j: usize = 0;
     while j < n {
-        if node_terms(s, protocol, arities, ars, rules, nr, places[j]) {
+        if node_terms(file, protocol, arities, ars, rules, nr, places[j]) {
             j += 1;
         } else {
             return j + 1;

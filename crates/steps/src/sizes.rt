@@ -49,10 +49,10 @@ fn leaf_weight(t: usize, n: usize, sizes: &[usize]) -> usize
     ONE_SYMBOL
 }
 
-fn one_weight(s: &[u8], arities: &[u8], at: usize, sizes: &[usize]) -> Weight
-    ensures { λ r. ⌜ r ≡ weightOf (sizeIn (now (sizes .entry))) (symbolAt (now (s .entry)) (now (arities .entry)) at) ⌝ }
+fn one_weight(file: &[u8], arities: &[u8], at: usize, sizes: &[usize]) -> Weight
+    ensures { λ r. ⌜ r ≡ weightOf (sizeIn (now (sizes .entry))) (symbolAt (now (file .entry)) (now (arities .entry)) at) ⌝ }
 {
-    match term::symbol_at(s, arities, at) {
+    match term::symbol_at(file, arities, at) {
         Symbol::Leaf(t, n, e) => Weight::Takes(leaf_weight(t, n as usize, sizes), 0, e),
         Symbol::Op(_, k, e) => Weight::Takes(ONE_SYMBOL, k, e),
         Symbol::Fault => Weight::Fault,
@@ -60,9 +60,9 @@ fn one_weight(s: &[u8], arities: &[u8], at: usize, sizes: &[usize]) -> Weight
 }
 
 // Whether the term at a place has 256 symbols at most with values of these sizes filled in.
-pub fn term_small(s: &[u8], arities: &[u8], at: usize, sizes: &[usize]) -> bool
-    requires { ⌜ (length (now s) ≤ longest) × ((v : ℕ) → sizeIn (now sizes) v ≤ longest) × SomeTerm (now arities) (now s) at ⌝ }
-    ensures { λ r. ⌜ ((t : Term) (e : ℕ) → term (now (s .entry)) (now (arities .entry)) at ≡ got t e → r ≡ ltb (weigh (sizeIn (now (sizes .entry))) t) (suc mostFilledIn)) ⌝ }
+pub fn term_small(file: &[u8], arities: &[u8], at: usize, sizes: &[usize]) -> bool
+    requires { ⌜ (length (now file) ≤ longest) × ((v : ℕ) → sizeIn (now sizes) v ≤ longest) × SomeTerm (now arities) (now file) at ⌝ }
+    ensures { λ r. ⌜ ((t : Term) (e : ℕ) → term (now (file .entry)) (now (arities .entry)) at ≡ got t e → r ≡ ltb (weigh (sizeIn (now (sizes .entry))) t) (suc mostFilledIn)) ⌝ }
 {
     let mut i = at;
     let mut pending: usize = 1;
@@ -71,7 +71,7 @@ pub fn term_small(s: &[u8], arities: &[u8], at: usize, sizes: &[usize]) -> bool
         if MOST_FILLED_IN < sum {
             return false;
         }
-        match one_weight(s, arities, i, sizes) {
+        match one_weight(file, arities, i, sizes) {
             Weight::Takes(a, k, e) => {
                 sum += a;
                 pending = pending - 1 + k as usize;
@@ -86,16 +86,16 @@ pub fn term_small(s: &[u8], arities: &[u8], at: usize, sizes: &[usize]) -> bool
 }
 
 // Whether all terms of the fact at a place are small enough.
-pub fn fact_small(s: &[u8], arities: &[u8], ars: &[u8], place: usize, sizes: &[usize]) -> bool
-    requires { ⌜ (length (now s) ≤ longest) × ((v : ℕ) → sizeIn (now sizes) v ≤ longest) × SomeFact (now arities) (now ars) (now s) place ⌝ }
-    ensures { λ r. ⌜ ((f : Fact) → Here (fact (now (s .entry)) (now (arities .entry)) (now (ars .entry))) f place → r ≡ factSmall (sizeIn (now (sizes .entry))) f) ⌝ }
+pub fn fact_small(file: &[u8], arities: &[u8], ars: &[u8], place: usize, sizes: &[usize]) -> bool
+    requires { ⌜ (length (now file) ≤ longest) × ((v : ℕ) → sizeIn (now sizes) v ≤ longest) × SomeFact (now arities) (now ars) (now file) place ⌝ }
+    ensures { λ r. ⌜ ((f : Fact) → Here (fact (now (file .entry)) (now (arities .entry)) (now (ars .entry))) f place → r ≡ factSmall (sizeIn (now (sizes .entry))) f) ⌝ }
 {
-    let y = protocol::places::symbol_of(s, ars, place);
+    let y = protocol::places::symbol_of(file, ars, place);
     let n = ars[y] as usize;
     let mut j: usize = 0;
     while j < n {
-        let at = protocol::places::term_at(s, arities, ars, place, j);
-        if term_small(s, arities, at, sizes) {
+        let at = protocol::places::term_at(file, arities, ars, place, j);
+        if term_small(file, arities, at, sizes) {
             j += 1;
         } else {
             return false;
@@ -105,15 +105,15 @@ pub fn fact_small(s: &[u8], arities: &[u8], ars: &[u8], place: usize, sizes: &[u
 }
 
 // Whether all facts of the list at a place are.
-pub fn list_small(s: &[u8], arities: &[u8], ars: &[u8], place: usize, sizes: &[usize]) -> bool
-    requires { ⌜ (length (now s) ≤ longest) × ((v : ℕ) → sizeIn (now sizes) v ≤ longest) × SomeList (now arities) (now ars) (now s) place ⌝ }
-    ensures { λ r. ⌜ ((fs : List Fact) → Here (facts (now (s .entry)) (now (arities .entry)) (now (ars .entry))) fs place → r ≡ listSmall (sizeIn (now (sizes .entry))) fs) ⌝ }
+pub fn list_small(file: &[u8], arities: &[u8], ars: &[u8], place: usize, sizes: &[usize]) -> bool
+    requires { ⌜ (length (now file) ≤ longest) × ((v : ℕ) → sizeIn (now sizes) v ≤ longest) × SomeList (now arities) (now ars) (now file) place ⌝ }
+    ensures { λ r. ⌜ ((fs : List Fact) → Here (facts (now (file .entry)) (now (arities .entry)) (now (ars .entry))) fs place → r ≡ listSmall (sizeIn (now (sizes .entry))) fs) ⌝ }
 {
-    let n = protocol::places::count_of(s, place);
+    let n = protocol::places::count_of(file, place);
     let mut j: usize = 0;
     while j < n {
-        let at = protocol::places::fact_at(s, arities, ars, place, j);
-        if fact_small(s, arities, ars, at, sizes) {
+        let at = protocol::places::fact_at(file, arities, ars, place, j);
+        if fact_small(file, arities, ars, at, sizes) {
             j += 1;
         } else {
             return false;
@@ -123,14 +123,14 @@ pub fn list_small(s: &[u8], arities: &[u8], ars: &[u8], place: usize, sizes: &[u
 }
 
 // Whether all terms of the rule at a place are: premises, actions, conclusions.
-pub fn rule_small(s: &[u8], arities: &[u8], ars: &[u8], place: usize, sizes: &[usize]) -> bool
-    requires { ⌜ (length (now s) ≤ longest) × ((v : ℕ) → sizeIn (now sizes) v ≤ longest) × RuleAt (now arities) (now ars) (now s) place ⌝ }
-    ensures { λ r. ⌜ ((u : Rule) → Here (rule (now (s .entry)) (now (arities .entry)) (now (ars .entry))) u place → r ≡ ruleSmall (sizeIn (now (sizes .entry))) u) ⌝ }
+pub fn rule_small(file: &[u8], arities: &[u8], ars: &[u8], place: usize, sizes: &[usize]) -> bool
+    requires { ⌜ (length (now file) ≤ longest) × ((v : ℕ) → sizeIn (now sizes) v ≤ longest) × RuleAt (now arities) (now ars) (now file) place ⌝ }
+    ensures { λ r. ⌜ ((u : Rule) → Here (rule (now (file .entry)) (now (arities .entry)) (now (ars .entry))) u place → r ≡ ruleSmall (sizeIn (now (sizes .entry))) u) ⌝ }
 {
     let mut j: usize = 0;
     while j < protocol::figures::LISTS {
-        let at = protocol::places::list_at(s, arities, ars, place, j);
-        if list_small(s, arities, ars, at, sizes) {
+        let at = protocol::places::list_at(file, arities, ars, place, j);
+        if list_small(file, arities, ars, at, sizes) {
             j += 1;
         } else {
             return false;
@@ -140,15 +140,15 @@ pub fn rule_small(s: &[u8], arities: &[u8], ars: &[u8], place: usize, sizes: &[u
 }
 
 // The sizes of k values from a place on, each into its entry.
-pub fn value_sizes(s: &[u8], arities: &[u8], at: usize, k: usize, sizes: &mut [usize])
-    requires { ⌜ (length (now s) ≤ longest) × (k ≤ length (now sizes)) ⌝ }
+pub fn value_sizes(file: &[u8], arities: &[u8], at: usize, k: usize, sizes: &mut [usize])
+    requires { ⌜ (length (now file) ≤ longest) × (k ≤ length (now sizes)) ⌝ }
     ensures kept { λ r. ⌜ length (now (sizes .exit)) ≡ length (now (sizes .entry)) ⌝ }
-    ensures told { λ r. ⌜ ((vs : List Term) (e : ℕ) → many (term (now (s .entry)) (now (arities .entry))) k at ≡ got vs e → (j : ℕ) → j < k → getD (now (sizes .exit)) j 1 ≡ symbols (getD vs j noTerm)) ⌝ }
+    ensures told { λ r. ⌜ ((vs : List Term) (e : ℕ) → many (term (now (file .entry)) (now (arities .entry))) k at ≡ got vs e → (j : ℕ) → j < k → getD (now (sizes .exit)) j 1 ≡ symbols (getD vs j noTerm)) ⌝ }
 {
     let mut i = at;
     let mut v: usize = 0;
     while v < k {
-        match term::term_end(s, arities, i) {
+        match term::term_end(file, arities, i) {
             Part::End(e, n) => {
                 sizes[v] = n;
                 i = e;

@@ -38,10 +38,10 @@ pub enum Name {
 }
 
 // The name at a place: "Fresh and public names are two incomparable sets".
-pub fn name_at(s: &[u8], arities: &[u8], at: usize) -> Name
-    ensures { λ r. ⌜ NameIs (symbolAt (now (s .entry)) (now (arities .entry)) at) r ⌝ }
+pub fn name_at(file: &[u8], arities: &[u8], at: usize) -> Name
+    ensures { λ r. ⌜ NameIs (symbolAt (now (file .entry)) (now (arities .entry)) at) r ⌝ }
 {
-    match term::symbol_at(s, arities, at) {
+    match term::symbol_at(file, arities, at) {
         Symbol::Leaf(t, n, _) => {
             if t == term::FRESH {
                 return Name::FreshName(Fresh(n));
@@ -71,11 +71,11 @@ fn of_sort(sort: usize, name: Name) -> bool
 }
 
 // Whether the value at a place has no variable, fits the sort, has 128 symbols at most and is canonical.
-pub fn value_ok(s: &[u8], arities: &[u8], at: usize, sort: usize) -> bool
-    requires { ⌜ SomeValue (now arities) (now s) at ⌝ }
-    ensures { λ r. ⌜ ((t : Term) (e : ℕ) → ValueThere (now (arities .entry)) (now (s .entry)) at t e → r ≡ valueOk sort t) ⌝ }
+pub fn value_ok(file: &[u8], arities: &[u8], at: usize, sort: usize) -> bool
+    requires { ⌜ SomeValue (now arities) (now file) at ⌝ }
+    ensures { λ r. ⌜ ((t : Term) (e : ℕ) → ValueThere (now (arities .entry)) (now (file .entry)) at t e → r ≡ valueOk sort t) ⌝ }
 {
-    match term::walk_term(s, arities, at, term::VARIABLE, 0, number::NUMBER_LIMIT) {
+    match term::walk_term(file, arities, at, term::VARIABLE, 0, number::NUMBER_LIMIT) {
         Walk::End(_, n, held) => {
             if held {
                 return false;
@@ -83,8 +83,8 @@ pub fn value_ok(s: &[u8], arities: &[u8], at: usize, sort: usize) -> bool
             if MOST_IN_VALUE < n {
                 return false;
             }
-            if of_sort(sort, name_at(s, arities, at)) {
-                return canonical::is_canonical(s, at, arities);
+            if of_sort(sort, name_at(file, arities, at)) {
+                return canonical::is_canonical(file, at, arities);
             }
             false
         }
@@ -93,27 +93,27 @@ pub fn value_ok(s: &[u8], arities: &[u8], at: usize, sort: usize) -> bool
 }
 
 // The place behind the value at a place.
-fn value_end(s: &[u8], arities: &[u8], at: usize) -> usize
-    requires { ⌜ length (now s) ≤ longest ⌝ }
-    ensures { λ r. ⌜ r ≡ behindOf at (term (now (s .entry)) (now (arities .entry)) at) ⌝ }
+fn value_end(file: &[u8], arities: &[u8], at: usize) -> usize
+    requires { ⌜ length (now file) ≤ longest ⌝ }
+    ensures { λ r. ⌜ r ≡ behindOf at (term (now (file .entry)) (now (arities .entry)) at) ⌝ }
 {
-    match term::term_end(s, arities, at) {
+    match term::term_end(file, arities, at) {
         Part::End(e, _) => e,
         Part::Fault => at,
     }
 }
 
 // Whether the k values from a place on fit the variables of the rule at a place of src.
-fn values_fit(s: &[u8], arities: &[u8], at: usize, src: &[u8], place: usize, k: usize) -> bool
-    requires { ⌜ SomeRule (now arities) (now s) (now src) place at × (k ≡ valueOf (sortsAt (now src) place)) ⌝ }
-    ensures { λ r. ⌜ ((u : Rule) (vs : List Term) (e : ℕ) → RuleHere (now (arities .entry)) (now (s .entry)) (now (src .entry)) place at u vs e → r ≡ valuesOk (u .sorts) vs) ⌝ }
+fn values_fit(file: &[u8], arities: &[u8], at: usize, src: &[u8], place: usize, k: usize) -> bool
+    requires { ⌜ SomeRule (now arities) (now file) (now src) place at × (k ≡ valueOf (sortsAt (now src) place)) ⌝ }
+    ensures { λ r. ⌜ ((u : Rule) (vs : List Term) (e : ℕ) → RuleHere (now (arities .entry)) (now (file .entry)) (now (src .entry)) place at u vs e → r ≡ valuesOk (u .sorts) vs) ⌝ }
 {
     let mut i = at;
     let mut v: usize = 0;
     while v < k {
         let sort = protocol::places::sort_of(src, place, v as u32);
-        if value_ok(s, arities, i, sort) {
-            i = value_end(s, arities, i);
+        if value_ok(file, arities, i, sort) {
+            i = value_end(file, arities, i);
             v += 1;
         } else {
             return false;
@@ -124,7 +124,7 @@ fn values_fit(s: &[u8], arities: &[u8], at: usize, src: &[u8], place: usize, k: 
 
 // The values of a node whose rule number was read.
 fn values_of(
-    s: &[u8],
+    file: &[u8],
     protocol: &[u8],
     arities: &[u8],
     rules: &[usize],
@@ -132,37 +132,37 @@ fn values_of(
     number: usize,
     at: usize,
 ) -> bool
-    requires { ⌜ Given (now protocol) (now arities) (now rules) nr × SomeFrom (now protocol) (now arities) (now rules) nr (now s) number at ⌝ }
-    ensures { λ r. ⌜ ((p : Protocol) (x : Node) (e : ℕ) → IndexOf (now (protocol .entry)) (now (arities .entry)) (now (rules .entry)) nr p → NodeFrom p (now (s .entry)) number at x e → r ≡ nodeValuesOk p x) ⌝ }
+    requires { ⌜ Given (now protocol) (now arities) (now rules) nr × SomeFrom (now protocol) (now arities) (now rules) nr (now file) number at ⌝ }
+    ensures { λ r. ⌜ ((p : Protocol) (x : Node) (e : ℕ) → IndexOf (now (protocol .entry)) (now (arities .entry)) (now (rules .entry)) nr p → NodeFrom p (now (file .entry)) number at x e → r ≡ nodeValuesOk p x) ⌝ }
 {
     let mut own = [0u8; rules::numbered::RULE_ROOM];
     let found = rules::numbered::find_rule(arities, rules, nr, number, &mut own);
     let src = rules::numbered::rule_part(protocol, &own, found);
     let k = crate::nodes::own_variables(src);
-    values_fit(s, arities, at, src, 0, k)
+    values_fit(file, arities, at, src, 0, k)
 }
 
 // The values of the node at a place.
 fn node_values(
-    s: &[u8],
+    file: &[u8],
     protocol: &[u8],
     arities: &[u8],
     rules: &[usize],
     nr: usize,
     place: usize,
 ) -> bool
-    requires { ⌜ (length (now s) ≤ longest) × Given (now protocol) (now arities) (now rules) nr × SomeNode (now protocol) (now arities) (now rules) nr (now s) place ⌝ }
-    ensures { λ r. ⌜ ((p : Protocol) (x : Node) → IndexOf (now (protocol .entry)) (now (arities .entry)) (now (rules .entry)) nr p → Here (node p (now (s .entry))) x place → r ≡ nodeValuesOk p x) ⌝ }
+    requires { ⌜ (length (now file) ≤ longest) × Given (now protocol) (now arities) (now rules) nr × SomeNode (now protocol) (now arities) (now rules) nr (now file) place ⌝ }
+    ensures { λ r. ⌜ ((p : Protocol) (x : Node) → IndexOf (now (protocol .entry)) (now (arities .entry)) (now (rules .entry)) nr p → Here (node p (now (file .entry))) x place → r ≡ nodeValuesOk p x) ⌝ }
 {
-    match number::read_number(s, place) {
-        Number::Value(r, e) => values_of(s, protocol, arities, rules, nr, r as usize, e),
+    match number::read_number(file, place) {
+        Number::Value(r, e) => values_of(file, protocol, arities, rules, nr, r as usize, e),
         Number::Fault => true,
     }
 }
 
 // 7: the least node that has a value that does not fit; 0 where there is none.
 pub fn value_pass(
-    s: &[u8],
+    file: &[u8],
     protocol: &[u8],
     arities: &[u8],
     rules: &[usize],
@@ -170,12 +170,12 @@ pub fn value_pass(
     places: &[usize],
     n: usize,
 ) -> usize
-    requires { ⌜ (length (now s) ≤ longest) × (n ≤ mostNodes) × (n ≤ length (now places)) × Given (now protocol) (now arities) (now rules) nr × SomeNodes (now protocol) (now arities) (now rules) nr (now s) (now places) n ⌝ }
-    ensures { λ r. ⌜ ((p : Protocol) (xs : List Node) → IndexOf (now (protocol .entry)) (now (arities .entry)) (now (rules .entry)) nr p → Placed (node p (now (s .entry))) noNode (now (places .entry)) xs n → asFound r ≡ firstBad (λ (k : ℕ) (x : Node). nodeValuesOk p x) 1 xs) ⌝ }
+    requires { ⌜ (length (now file) ≤ longest) × (n ≤ mostNodes) × (n ≤ length (now places)) × Given (now protocol) (now arities) (now rules) nr × SomeNodes (now protocol) (now arities) (now rules) nr (now file) (now places) n ⌝ }
+    ensures { λ r. ⌜ ((p : Protocol) (xs : List Node) → IndexOf (now (protocol .entry)) (now (arities .entry)) (now (rules .entry)) nr p → Placed (node p (now (file .entry))) noNode (now (places .entry)) xs n → asFound r ≡ firstBad (λ (k : ℕ) (x : Node). nodeValuesOk p x) 1 xs) ⌝ }
 {
     let mut j: usize = 0;
     while j < n {
-        if node_values(s, protocol, arities, rules, nr, places[j]) {
+        if node_values(file, protocol, arities, rules, nr, places[j]) {
             j += 1;
         } else {
             return j + 1;

@@ -15,8 +15,8 @@ undeclared = 255
 
 -- the arity of each tag in a table of slots; tags 0 to 2 are leaves and no functions
 unfoldable pub arity : List ℕ → ℕ → Option ℕ
-arity slots f =
-    pick (ltb f firstFunction) none (pick (eqb (getD slots f undeclared) undeclared) none (some (getD slots f undeclared)))
+arity arities f =
+    pick (ltb f firstFunction) none (pick (eqb (getD arities f undeclared) undeclared) none (some (getD arities f undeclared)))
 
 -- 3 one; 4 enc; 5 dec; 6 h; 7 pair; 8 fst; 9 snd; 10 exp; 11 inv; 12 mul
 abbrev pub builtin : List ℕ
@@ -29,5 +29,5 @@ padded (suc n) [] = undeclared ∷ padded n []
 padded (suc n) (a ∷ l) = a ∷ padded n l
 
 -- document 01's table, for the declared arities of the free functions: "13+j free function j (j from 0)", 16 at most
-unfoldable pub slots : List ℕ → List ℕ
-slots free = builtin ++ padded mostFunctions free
+unfoldable pub tagArities : List ℕ → List ℕ
+tagArities free = builtin ++ padded mostFunctions free

@@ -35,11 +35,11 @@ opAt t (some k) e = sy.Op t k e
 opAt t none e = sy.Fault
 
 abbrev pub symbolOf : List ℕ → List ℕ → Read ℕ → Symbol
-symbolOf s slots (got t e) = pick (ltb t firstFunction) (nameAt t (readNumber s e)) (opAt t (arity slots t) e)
-symbolOf s slots fault = sy.Fault
+symbolOf file arities (got t e) = pick (ltb t firstFunction) (nameAt t (readNumber file e)) (opAt t (arity arities t) e)
+symbolOf file arities fault = sy.Fault
 
 unfoldable pub symbolAt : List ℕ → List ℕ → ℕ → Symbol
-symbolAt s slots at = symbolOf s slots (readNumber s at)
+symbolAt file arities at = symbolOf file arities (readNumber file at)
 
 -- ── the term at a place ──
 abbrev pub build : (ℕ → Read Term) → Symbol → Read Term
@@ -49,9 +49,9 @@ build p sy.Fault = fault
 
 -- at most `depth` deep
 unfoldable pub termIn : ℕ → List ℕ → List ℕ → ℕ → Read Term
-termIn zero s slots at = fault
-termIn (suc depth) s slots at = build (termIn depth s slots) (symbolAt s slots at)
+termIn zero file arities at = fault
+termIn (suc depth) file arities at = build (termIn depth file arities) (symbolAt file arities at)
 
 -- no term is deeper than the file is long
 unfoldable pub term : List ℕ → List ℕ → ℕ → Read Term
-term s slots at = termIn (length s) s slots at
+term file arities at = termIn (length file) file arities at

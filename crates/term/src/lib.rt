@@ -109,24 +109,24 @@ fn op_at(arities: &[u8], tag: usize, next: usize) -> Symbol
 }
 
 // The leaf of a tag, its number at a place.
-fn leaf_at(s: &[u8], tag: usize, at: usize) -> Symbol
-    ensures { λ r. ⌜ r ≡ nameAt tag (readNumber (now (s .entry)) at) ⌝ }
+fn leaf_at(file: &[u8], tag: usize, at: usize) -> Symbol
+    ensures { λ r. ⌜ r ≡ nameAt tag (readNumber (now (file .entry)) at) ⌝ }
 {
-    match number::read_number(s, at) {
+    match number::read_number(file, at) {
         Number::Value(n, e) => Symbol::Leaf(tag, n, e),
         Number::Fault => Symbol::Fault,
     }
 }
 
 // The symbol at a place.
-pub fn symbol_at(s: &[u8], arities: &[u8], at: usize) -> Symbol
-    ensures { λ r. ⌜ r ≡ symbolAt (now (s .entry)) (now (arities .entry)) at ⌝ }
+pub fn symbol_at(file: &[u8], arities: &[u8], at: usize) -> Symbol
+    ensures { λ r. ⌜ r ≡ symbolAt (now (file .entry)) (now (arities .entry)) at ⌝ }
 {
-    match number::read_number(s, at) {
+    match number::read_number(file, at) {
         Number::Value(t, e) => {
             let tag = t as usize;
             if tag < FIRST_FUNCTION {
-                return leaf_at(s, tag, e);
+                return leaf_at(file, tag, e);
             }
             op_at(arities, tag, e)
         }
@@ -141,10 +141,10 @@ fn hit(kind: usize, lo: usize, hi: usize, t: usize, n: usize) -> bool
     (t == kind) & (!(n < lo) & (n < hi))
 }
 
-fn one_symbol(s: &[u8], arities: &[u8], at: usize, kind: usize, lo: usize, hi: usize) -> Step
-    ensures { λ r. ⌜ r ≡ stepOf kind lo hi (symbolAt (now (s .entry)) (now (arities .entry)) at) ⌝ }
+fn one_symbol(file: &[u8], arities: &[u8], at: usize, kind: usize, lo: usize, hi: usize) -> Step
+    ensures { λ r. ⌜ r ≡ stepOf kind lo hi (symbolAt (now (file .entry)) (now (arities .entry)) at) ⌝ }
 {
-    match symbol_at(s, arities, at) {
+    match symbol_at(file, arities, at) {
         Symbol::Leaf(t, n, e) => Step::Takes(0, hit(kind, lo, hi, t, n as usize), e),
         Symbol::Op(_, k, e) => Step::Takes(k, false, e),
         Symbol::Fault => Step::Fault,
@@ -153,7 +153,7 @@ fn one_symbol(s: &[u8], arities: &[u8], at: usize, kind: usize, lo: usize, hi: u
 
 // Walks k terms from a place on, and tells whether a leaf of that kind, from lo on and below hi, stands in one of them.
 pub fn walk_terms(
-    s: &[u8],
+    file: &[u8],
     arities: &[u8],
     at: usize,
     k: usize,
@@ -161,15 +161,15 @@ pub fn walk_terms(
     lo: usize,
     hi: usize,
 ) -> Walk
-    requires { ⌜ (length (now s) ≤ longest) × (k ≤ longest) ⌝ }
-    ensures { λ r. ⌜ r ≡ walks kind lo hi (many (term (now (s .entry)) (now (arities .entry))) k at) ⌝ }
+    requires { ⌜ (length (now file) ≤ longest) × (k ≤ longest) ⌝ }
+    ensures { λ r. ⌜ r ≡ walks kind lo hi (many (term (now (file .entry)) (now (arities .entry))) k at) ⌝ }
 {
     let mut i = at;
     let mut pending = k;
     let mut count: usize = 0;
     let mut found = false;
     while 0 < pending {
-        match one_symbol(s, arities, i, kind, lo, hi) {
+        match one_symbol(file, arities, i, kind, lo, hi) {
             Step::Takes(n, h, e) => {
                 pending = pending - 1 + n as usize;
                 found = found | h;
@@ -185,39 +185,39 @@ pub fn walk_terms(
 }
 
 // The same for one term.
-pub fn walk_term(s: &[u8], arities: &[u8], at: usize, kind: usize, lo: usize, hi: usize) -> Walk
-    requires { ⌜ length (now s) ≤ longest ⌝ }
-    ensures { λ r. ⌜ r ≡ walked kind lo hi (term (now (s .entry)) (now (arities .entry)) at) ⌝ }
+pub fn walk_term(file: &[u8], arities: &[u8], at: usize, kind: usize, lo: usize, hi: usize) -> Walk
+    requires { ⌜ length (now file) ≤ longest ⌝ }
+    ensures { λ r. ⌜ r ≡ walked kind lo hi (term (now (file .entry)) (now (arities .entry)) at) ⌝ }
 {
-    walk_terms(s, arities, at, 1, kind, lo, hi)
+    walk_terms(file, arities, at, 1, kind, lo, hi)
 }
 
 // Passes over k terms from a place on.
-pub fn terms_end(s: &[u8], arities: &[u8], at: usize, k: usize) -> Part
-    requires { ⌜ (length (now s) ≤ longest) × (k ≤ longest) ⌝ }
-    ensures { λ r. ⌜ r ≡ endeds (many (term (now (s .entry)) (now (arities .entry))) k at) ⌝ }
+pub fn terms_end(file: &[u8], arities: &[u8], at: usize, k: usize) -> Part
+    requires { ⌜ (length (now file) ≤ longest) × (k ≤ longest) ⌝ }
+    ensures { λ r. ⌜ r ≡ endeds (many (term (now (file .entry)) (now (arities .entry))) k at) ⌝ }
 {
-    match walk_terms(s, arities, at, k, VARIABLE, 0, 0) {
+    match walk_terms(file, arities, at, k, VARIABLE, 0, 0) {
         Walk::End(e, n, _) => Part::End(e, n),
         Walk::Fault => Part::Fault,
     }
 }
 
 // Passes over the term at a place.
-pub fn term_end(s: &[u8], arities: &[u8], at: usize) -> Part
-    requires { ⌜ length (now s) ≤ longest ⌝ }
-    ensures { λ r. ⌜ r ≡ ended (term (now (s .entry)) (now (arities .entry)) at) ⌝ }
+pub fn term_end(file: &[u8], arities: &[u8], at: usize) -> Part
+    requires { ⌜ length (now file) ≤ longest ⌝ }
+    ensures { λ r. ⌜ r ≡ ended (term (now (file .entry)) (now (arities .entry)) at) ⌝ }
 {
-    terms_end(s, arities, at, 1)
+    terms_end(file, arities, at, 1)
 }
 
 // The bytes of the term at a place, as a part of the caller's slice; none where no term stands.
-pub fn term_part<'a>(s: &'a [u8], arities: &[u8], at: usize) -> &'a [u8]
-    requires { ⌜ length (now s) ≤ longest ⌝ }
-    ensures { λ r. ⌜ now r ≡ bytesOf (term (now (s .entry)) (now (arities .entry)) at) ⌝ }
+pub fn term_part<'a>(file: &'a [u8], arities: &[u8], at: usize) -> &'a [u8]
+    requires { ⌜ length (now file) ≤ longest ⌝ }
+    ensures { λ r. ⌜ now r ≡ bytesOf (term (now (file .entry)) (now (arities .entry)) at) ⌝ }
 {
-    match term_end(s, arities, at) {
-        Part::End(e, _) => &s[at..e],
-        Part::Fault => &s[..0],
+    match term_end(file, arities, at) {
+        Part::End(e, _) => &file[at..e],
+        Part::Fault => &file[..0],
     }
 }

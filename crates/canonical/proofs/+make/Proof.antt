@@ -1,5 +1,5 @@
 use Rattle.canonical.proofs.Functions.{tag-asks, args-asks, close-asks, onward, rest-asks, op-done}
-use Rattle.canonical.proofs.Steps.{none-done, ahead, leaf-asks, leaf-next, leaf-done}
+use Rattle.canonical.proofs.Making.{none-done, ahead, leaf-asks, leaf-next, leaf-done}
 use borrow.Author.Needs.{needs}
 use denote.Ref.{now}
 use lib.ListN.{length}

@@ -19,14 +19,14 @@ returns c =
     let c3 = c .before .before .before in
     let c5 = c3 .before .before in
     let c6 = c5 .before in
-    end-is (now (c6 .args .arities)) (now (c6 .args .s)) (λ i. c5 .shared-slice-known .given i .fits) (c6 .args .at) _ _
+    end-is (now (c6 .args .arities)) (now (c6 .args .src)) (λ i. c5 .shared-slice-known .given i .fits) (c6 .args .at) _ _
     (sym (c3 .term-end .ensures) ∙ c .before .e .given .1)
 
 returns-2 : tie.Need-returns-2
 returns-2 c =
     let c4 = c .before .before .before .before in
     let c5 = c4 .before in
-    end-none (now (c5 .args .arities)) (now (c5 .args .s)) (λ i. c4 .shared-slice-known .given i .fits) (c5 .args .at)
+    end-none (now (c5 .args .arities)) (now (c5 .args .src)) (λ i. c4 .shared-slice-known .given i .fits) (c5 .args .at)
     (sym (c .before .before .term-end .ensures) ∙ c .enum-told .given .1) _
 
 pub end-of-spec : {M : Type 1} → statement M

@@ -28,20 +28,20 @@ returns : tie.Need-returns
 returns c =
     let c3 = c .before .before .before in
     let c6 = c3 .before .before .before in
-    λ e t h. first-of (now (c6 .args .s)) (now (c6 .args .arities)) (c6 .args .at) t e true _ _ _ (h .formed) (h .range) (h .stands)
+    λ e t h. first-of (now (c6 .args .src)) (now (c6 .args .arities)) (c6 .args .at) t e true _ _ _ (h .formed) (h .range) (h .stands)
     (of-leaf _ _ _ _ (sym (c3 .symbol-at .ensures) ∙ c .before .t .given .1))
 
 returns-2 : tie.Need-returns-2
 returns-2 c =
     let c3 = c .before .before .before in
     let c6 = c3 .before .before .before in
-    λ e t h. first-of (now (c6 .args .s)) (now (c6 .args .arities)) (c6 .args .at) t e false _ _ _ (h .formed) (h .range) (h .stands)
+    λ e t h. first-of (now (c6 .args .src)) (now (c6 .args .arities)) (c6 .args .at) t e false _ _ _ (h .formed) (h .range) (h .stands)
     (of-op _ _ _ _ (sym (c3 .symbol-at .ensures) ∙ c .before .t2 .given .1))
 
 returns-3 : tie.Need-returns-3
 returns-3 c =
     let c5 = c .before .before .before .before .before in
-    λ e t h. first-of (now (c5 .args .s)) (now (c5 .args .arities)) (c5 .args .at) t e true 0 0 _ (h .formed) (h .range) (h .stands)
+    λ e t h. first-of (now (c5 .args .src)) (now (c5 .args .arities)) (c5 .args .at) t e true 0 0 _ (h .formed) (h .range) (h .stands)
     (of-none _ _ _ _ _ (sym (c .before .before .symbol-at .ensures) ∙ c .enum-told .given .1))
 
 pub first-spec : {M : Type 1} → statement M

@@ -32,8 +32,8 @@ returns c =
     let c6 = c3 .before .before .before in
     let c7 = c6 .before in
     λ t m. decides-canonical _ _ _ t _ m (c .same-bytes .ensures ∙ ap₂ (λ (a b : List ℕ). isEqual (compareBytes a b))
-    (canon-part _ _ _ _ _ (c3 .canonical-term .ensures) t m) (c .before .term-part .ensures ∙ bytes-are (now (c7 .args .arities)) (now (c7 .args .s))
-    (λ i. c6 .shared-slice-known .given i .fits) (c7 .args .at) t _ (message-here _ _ (now (c7 .args .s)) _ t m)))
+    (canon-part _ _ _ _ _ (c3 .canonical-term .ensures) t m) (c .before .term-part .ensures ∙ bytes-are (now (c7 .args .arities)) (now (c7 .args .src))
+    (λ i. c6 .shared-slice-known .given i .fits) (c7 .args .at) t _ (message-here _ _ (now (c7 .args .src)) _ t m)))
 
 pub is-canonical-spec : {M : Type 1} → statement M
 is-canonical-spec =

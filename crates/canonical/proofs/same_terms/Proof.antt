@@ -22,8 +22,8 @@ returns c =
     let c4 = c .before .before .before .before in
     let c5 = c4 .before in
     λ d x h e y k. c .same-bytes .ensures ∙ ap₂ (λ (a b : List ℕ). isEqual (compareBytes a b))
-    (c .before .before .term-part .ensures ∙ bytes-are (now (c5 .args .arities)) (now (c5 .args .s)) (λ i. c4 .shared-slice-known .given i .fits)
-    (c5 .args .i) x d h) (c .before .term-part2 .ensures ∙ bytes-are (now (c5 .args .arities)) (now (c5 .args .s))
+    (c .before .before .term-part .ensures ∙ bytes-are (now (c5 .args .arities)) (now (c5 .args .src)) (λ i. c4 .shared-slice-known .given i .fits)
+    (c5 .args .i) x d h) (c .before .term-part2 .ensures ∙ bytes-are (now (c5 .args .arities)) (now (c5 .args .src))
     (λ i. c4 .shared-slice-known .given i .fits) (c5 .args .j) y e k)
 
 pub same-terms-spec : {M : Type 1} → statement M

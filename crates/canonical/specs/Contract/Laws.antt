@@ -15,13 +15,13 @@ use Rattle.canonical.specs.Builtins.{Builtins, group}
 use Rattle.canonical.specs.Contract.{Job}
 
 pub written-canons :
-    (slots vals starts src : List ℕ) (at k n o : ℕ) (θ : ℕ → Term) (ts : Terms) → Job slots vals starts src at k n o θ ts
+    (arities vals starts src : List ℕ) (at k n o : ℕ) (θ : ℕ → Term) (ts : Terms) → Job arities vals starts src at k n o θ ts
     → encodes (filleds θ ts) ≡ encodes (canons (subs θ ts))
-written-canons slots vals starts src at k n o θ ts J = ap encodes (filleds-canon θ ts (λ v i. J .values v i .own))
+written-canons arities vals starts src at k n o θ ts J = ap encodes (filleds-canon θ ts (λ v i. J .values v i .own))
 
 -- a term is its own canonical form exactly when it is canonical, in document 01's words
 pub own-canonical :
-    (slots : List ℕ) (b : Builtins slots) (t : Term) → Formed (arity slots) t → (canon t ≡ t) ↔ Canonical t
-own-canonical slots b t w =
-    let g = group slots b in
-    (λ e. subst Canonical e (canon-is-canonical (arity slots) g t w), λ c. canonical-stays (arity slots) g t w c)
+    (arities : List ℕ) (b : Builtins arities) (t : Term) → Formed (arity arities) t → (canon t ≡ t) ↔ Canonical t
+own-canonical arities b t w =
+    let g = group arities b in
+    (λ e. subst Canonical e (canon-is-canonical (arity arities) g t w), λ c. canonical-stays (arity arities) g t w c)

@@ -22,7 +22,7 @@ use Rattle.message.specs.Parts.{add, neg, Role, role, parts, sums}
 use Rattle.message.specs.Parts.Ascending.{sums-asc, asc-neg}
 use Rattle.message.specs.Parts.Entries.{Atom, entries-neg, sums-atoms}
 use Rattle.message.specs.Parts.Laws.{formed-sums, parts-build}
-use Rattle.message.specs.Canon.{mk, canon}
+use Rattle.message.specs.Canon.{apply, canon}
 use Rattle.message.specs.Canon.Keeps.{canons-formed}
 use Rattle.message.specs.Canon.Views.{RoleOf, is-one, is-exp, is-inv, is-mul, is-plain, roleOf}
 use Rattle.message.specs.Theorems.{canon-is-formed, canon-is-in-range, fewer-symbols, fewer-bytes}
@@ -39,15 +39,15 @@ ordinary-product f o = simp (ne-eqb f 3 (o .no-one), ne-eqb f 11 (o .no-inv), ne
 module _ (inside : Bool) (f : ℕ) (us : Terms) where
   pub closed-stays : isProduct f ≡ true → closed true f us ≡ app f us
   unfolding closed
-  closed-stays e = ap (λ (b : Bool). cond b (cond true (app f us) (multiplied (app f us & nil))) (mk rules f us)) e
+  closed-stays e = ap (λ (b : Bool). cond b (cond true (app f us) (multiplied (app f us & nil))) (apply rules f us)) e
 
   pub closed-product : isProduct f ≡ true → closed false f us ≡ multiplied (app f us & nil)
   unfolding closed
-  closed-product e = ap (λ (b : Bool). cond b (cond false (app f us) (multiplied (app f us & nil))) (mk rules f us)) e
+  closed-product e = ap (λ (b : Bool). cond b (cond false (app f us) (multiplied (app f us & nil))) (apply rules f us)) e
 
-  pub closed-other : isProduct f ≡ false → closed inside f us ≡ mk rules f us
+  pub closed-other : isProduct f ≡ false → closed inside f us ≡ apply rules f us
   unfolding closed
-  closed-other e = ap (λ (b : Bool). cond b (cond inside (app f us) (multiplied (app f us & nil))) (mk rules f us)) e
+  closed-other e = ap (λ (b : Bool). cond b (cond inside (app f us) (multiplied (app f us & nil))) (apply rules f us)) e
 
 -- ── a term in range filled in with values in range is in range ──
 module _ (θ : ℕ → Term) where
@@ -131,7 +131,7 @@ module _ (ar : ℕ → Option ℕ) (g : FitArities ar) (θ : ℕ → Term) where
   -- a product: `l` are the factors of the canonical arguments, with the sign of the function
   product :
       (inside : Bool) (f : ℕ) (ts : Terms) (l m : Exps) → isProduct f ≡ true → Sounds (isProduct f) ts
-      → parts (app f (mades (isProduct f) θ ts)) ≡ l → mk rules f (filleds θ ts) ≡ build m → l ≡ m → parts (build m) ≡ m
+      → parts (app f (mades (isProduct f) θ ts)) ≡ l → apply rules f (filleds θ ts) ≡ build m → l ≡ m → parts (build m) ≡ m
       → filled θ (app f ts) ≡ canon (sub θ (app f ts)) → Formed ar (sub θ (app f ts)) → Sound inside (app f ts)
   product false f ts l m p s a b e d c w =
       let us : Terms = mades (isProduct f) θ ts in
@@ -149,7 +149,7 @@ module _ (ar : ℕ → Option ℕ) (g : FitArities ar) (θ : ℕ → Term) where
   function :
       (inside : Bool) (f : ℕ) (ts : Terms) (r : Role) → RoleOf f r → Sounds (isProduct f) ts → Formeds ar (filleds θ ts)
       → filled θ (app f ts) ≡ canon (sub θ (app f ts)) → Formed ar (sub θ (app f ts)) → Sound inside (app f ts)
-  unfolding mk
+  unfolding apply
   function inside f ts r is-one s v c w =
       product inside 3 ts _ (sums (filleds θ ts)) refl s refl refl (s .sum)
       (parts-build σ _ (formed-sums σ (filleds θ ts) v) (sums-atoms (filleds θ ts)) (sums-asc (filleds θ ts))) c w
@@ -162,10 +162,10 @@ module _ (ar : ℕ → Option ℕ) (g : FitArities ar) (θ : ℕ → Term) where
       (parts-build σ (neg l) (entries-neg (Formed ar) l (formed-sums σ (filleds θ ts) v)) (entries-neg Atom l (sums-atoms (filleds θ ts)))
       (asc-neg l (sums-asc (filleds θ ts)))) c w
   function inside f ts r is-exp s v c w =
-      whole inside (app expTag ts) (closed-other inside expTag (mades false θ ts) refl ∙ ap (mk rules expTag) (s .are refl)) c w
+      whole inside (app expTag ts) (closed-other inside expTag (mades false θ ts) refl ∙ ap (apply rules expTag) (s .are refl)) c w
   function inside f ts r (is-plain p) s v c w =
       let e : isProduct f ≡ false = ordinary-product f p in
-      whole inside (app f ts) (closed-other inside f (mades (isProduct f) θ ts) e ∙ ap (mk rules f) (s .are e)) c w
+      whole inside (app f ts) (closed-other inside f (mades (isProduct f) θ ts) e ∙ ap (apply rules f) (s .are e)) c w
 
   -- the values are their own canonical form
   abbrev Own : Term → Type 0

@@ -5,7 +5,7 @@ use mathlib.Core.Path.{ap, sym, _∙_}
 use Rattle.rules.specs.Fit.Laws.{verdictOf}
 use Rattle.checker.specs.Files.Verdict.{ruled-malformed, ruled-broken}
 use Rattle.checker.specs.Canonical.Whole.{sound-asks, sound-inside}
-use Rattle.rules.specs.Fit.Meaning.Judged.{broken-place}
+use Rattle.rules.specs.Fit.Meaning.Verdicts.{broken-place}
 use Rattle.checker.specs.Canonical.Cases.{protocol-over, term-over, no-protocol}
 use Rattle.checker.specs.Canonical.Inside.{inside-refused}
 use borrow.Author.Needs.{needs}

@@ -4,8 +4,8 @@ use borrow.Author.Needs.{needs}
 use Rattle.checker.proofs.pack.Statement.{statement}
 use Rattle.checker.proofs.pack.Tie as tie
 
-enum-known-w : tie.Need-enum-known-w
-enum-known-w c = search needs
+enum-known-answer : tie.Need-enum-known-answer
+enum-known-answer c = search needs
 
 cast-result : tie.Need-cast-result
 cast-result c = search needs
@@ -13,8 +13,8 @@ cast-result c = search needs
 add-result : tie.Need-add-result
 add-result c = search needs
 
-enum-known-w-2 : tie.Need-enum-known-w-2
-enum-known-w-2 c = search needs
+enum-known-answer-2 : tie.Need-enum-known-answer-2
+enum-known-answer-2 c = search needs
 
 cast-result-2 : tie.Need-cast-result-2
 cast-result-2 c = search needs
@@ -30,20 +30,20 @@ add-result-2 c = search needs
 
 returns : tie.Need-returns
 returns c =
-    ap (λ w. packed (written w)) (sym (c .before .w .given .1))
+    ap (λ w. packed (written w)) (sym (c .before .answer .given .1))
 
 returns-2 : tie.Need-returns-2
 returns-2 c =
-    ap (λ w. packed (written w)) (sym (c .before .before .before .w2 .given .1))
+    ap (λ w. packed (written w)) (sym (c .before .before .before .answer2 .given .1))
 
 pub pack-spec : {M : Type 1} → statement M
 pack-spec =
     tie.close
     (tie.spec
-    enum-known-w
+    enum-known-answer
     cast-result
     add-result
-    enum-known-w-2
+    enum-known-answer-2
     cast-result-2
     mul-result
     cast-result-3

@@ -8,13 +8,13 @@ use Rattle.lists.specs.Choice.{by-size, clash}
 use Rattle.octets.specs.Head.{Bytes}
 use Rattle.number.specs.Reading.{Read, got, fault}
 use Rattle.term.specs.Term.{Term}
-use Rattle.term.specs.Arity.{arity, slots}
+use Rattle.term.specs.Arity.{arity, tagArities}
 use Rattle.message.specs.Theorems.{fewer-bytes, declared}
 use Rattle.rewriting.specs.Table.{Ruling, passed, andThen}
 use Rattle.protocol.specs.Protocol.{Protocol}
 use Rattle.protocol.specs.Protocol as files
 use Rattle.rules.specs.Fit.{Verdict, sound, broken, malformed, judged}
-use Rattle.rules.specs.Fit.Meaning.Judged.{broken-place}
+use Rattle.rules.specs.Fit.Meaning.Verdicts.{broken-place}
 use Rattle.checker.specs.Answer.{workNeed, packed}
 use Rattle.checker.specs.Answer.Laws.{unpacked, InBounds, unpacked-packed}
 use Rattle.checker.specs.Files.{protocolLimit, termLimit, protocolRuling, termRuling}
@@ -34,13 +34,13 @@ module _ (protocol term : List ℕ) (bytes : Bytes protocol) (term-bytes : Bytes
   small-need : (t : Term) → length term ≤ termLimit → termOf protocol term ≡ passed t → need t ≤ termLimit
   small-need t l e =
       let f = taken protocol term term-bytes t e in
-      let s = slots (f .is .functions) in
+      let s = tagArities (f .is .functions) in
       omega (arith, ap length (f .file .bytes), fewer-bytes (arity s) (declared (f .is .functions)) t (f .file .formed))
 
   module _ (long : workNeed ≤ work) (p : length protocol ≤ protocolLimit) (t : length term ≤ termLimit) where
-    of-term : (q : Protocol) → protocolRuling protocol ≡ passed q → View (termRuling (slots (q .functions)) term) → InBounds Outcome
+    of-term : (q : Protocol) → protocolRuling protocol ≡ passed q → View (termRuling (tagArities (q .functions)) term) → InBounds Outcome
     of-term q fit (is-small x e) =
-        let o : termOf protocol term ≡ passed x = ap (λ (r : Ruling Protocol). andThen r (λ q. termRuling (slots (q .functions)) term)) fit ∙ e in
+        let o : termOf protocol term ≡ passed x = ap (λ (r : Ruling Protocol). andThen r (λ q. termRuling (tagArities (q .functions)) term)) fit ∙ e in
         let n = small-need x t o in
         by-size output (need x)
         (λ l. by (no-room protocol term output work long p t q fit x e l) (omega arith, omega arith))
@@ -52,7 +52,7 @@ module _ (protocol term : List ℕ) (bytes : Bytes protocol) (term-bytes : Bytes
     of-verdict sound h = of-sound (files.protocol protocol) refl
       where
         of-sound : (r : Read Protocol) → files.protocol protocol ≡ r → InBounds Outcome
-        of-sound (got q e) i = of-term q (ruled-sound protocol q e i h) (view (slots (q .functions)) term)
+        of-sound (got q e) i = of-term q (ruled-sound protocol q e i h) (view (tagArities (q .functions)) term)
         of-sound fault i = let z : malformed ≡ sound = sym (ap judged i) ∙ h in clash (cc)
     of-verdict (broken k) h =
         let l = broken-place protocol bytes k h in

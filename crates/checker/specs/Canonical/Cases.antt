@@ -5,7 +5,7 @@ use mathlib.Core.Path.{_≡_, ap, ap₂, sym, _∙_}
 use lib.ListN.{length}
 use Rattle.octets.specs.Splice.{splice}
 use Rattle.term.specs.Term.{Term}
-use Rattle.term.specs.Arity.{slots}
+use Rattle.term.specs.Arity.{tagArities}
 use Rattle.rewriting.specs.Table.{Ruling, passed, refused, Pass, andThen}
 use Rattle.rewriting.specs.Table.Passes.{lessPass}
 use Rattle.protocol.specs.Protocol.{Protocol}
@@ -57,17 +57,17 @@ module _ (protocol term : List ℕ) (output work : ℕ) where
       pub no-protocol : (n k : ℕ) → protocolRuling protocol ≡ refused n k → Outcome ≡ refused n k
       no-protocol n k e =
           sized
-          ∙ ap (λ (r : Ruling Protocol). andThen (andThen r (λ q. termRuling (slots (q .functions)) term)) (roomRuling output)) e
+          ∙ ap (λ (r : Ruling Protocol). andThen (andThen r (λ q. termRuling (tagArities (q .functions)) term)) (roomRuling output)) e
 
       module _ (q : Protocol) (fit : protocolRuling protocol ≡ passed q) where
-        under : termOf protocol term ≡ termRuling (slots (q .functions)) term
-        under = ap (λ (r : Ruling Protocol). andThen r (λ q. termRuling (slots (q .functions)) term)) fit
+        under : termOf protocol term ≡ termRuling (tagArities (q .functions)) term
+        under = ap (λ (r : Ruling Protocol). andThen r (λ q. termRuling (tagArities (q .functions)) term)) fit
 
-        pub no-term : (n k : ℕ) → termRuling (slots (q .functions)) term ≡ refused n k → Outcome ≡ refused n k
+        pub no-term : (n k : ℕ) → termRuling (tagArities (q .functions)) term ≡ refused n k → Outcome ≡ refused n k
         no-term n k e = sized ∙ ap (λ (r : Ruling Term). andThen r (roomRuling output)) (under ∙ e)
 
         -- ── the canonical form ──
-        module _ (x : Term) (is : termRuling (slots (q .functions)) term ≡ passed x) where
+        module _ (x : Term) (is : termRuling (tagArities (q .functions)) term ≡ passed x) where
           pub no-room : output < need x → Outcome ≡ refused 15 (need x)
           no-room h =
               sized

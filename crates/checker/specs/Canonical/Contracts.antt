@@ -5,7 +5,7 @@ use mathlib.Core.Path.{_≡_}
 use lib.ListN.{length}
 use Rattle.octets.specs.Head.{Bytes}
 use Rattle.term.specs.Term.{Term}
-use Rattle.term.specs.Arity.{slots}
+use Rattle.term.specs.Arity.{tagArities}
 use Rattle.rewriting.specs.Table.{Ruling, passed, andThen}
 use Rattle.checker.specs.declared.Written.{Written}
 use Rattle.checker.specs.Answer.{workNeed, written, outputAfter}
@@ -14,7 +14,7 @@ use Rattle.checker.specs.Canonical.{roomRuling, formOf, canonicalOutcome
 
 -- ── the file holds the term t under a table of slots ──
 pub record Form (arities term free : List ℕ) (t : Term) : Type 0 where
-  pub table : arities ≡ slots free
+  pub table : arities ≡ tagArities free
   pub is : termRuling arities term ≡ passed t
   pub bytes : Bytes term
   pub short : length term ≤ termLimit
@@ -32,7 +32,7 @@ FormedAs arities term output output′ r = (free : List ℕ) (t : Term) → Form
 
 -- ── under the table of a fit protocol ──
 pub record Under (arities term free : List ℕ) : Type 0 where
-  pub table : arities ≡ slots free
+  pub table : arities ≡ tagArities free
   pub bytes : Bytes term
   pub short : length term ≤ termLimit
 

@@ -8,7 +8,7 @@ use Rattle.term.specs.Sizes.{mostSymbols}
 use Rattle.lists.specs.Choice.{by-size}
 use Rattle.octets.specs.Head.{Bytes}
 use Rattle.term.specs.Term.{Term, encode, symbols, Formed}
-use Rattle.term.specs.Arity.{arity, slots}
+use Rattle.term.specs.Arity.{arity, tagArities}
 use Rattle.message.specs.Equations.{Same}
 use Rattle.message.specs.Canon.{canon}
 use Rattle.message.specs.Theorems.{same-bytes, declared}
@@ -25,7 +25,7 @@ use Rattle.checker.specs.Canonical.Laws.{Holds, read-ruled}
 pub record Encodes (protocol term : List ℕ) (t : Term) : Type 0 where
   pub is : Protocol
   pub fit : IsFit protocol is
-  pub file : IsTerm (slots (is .functions)) term t
+  pub file : IsTerm (tagArities (is .functions)) term t
   pub small : symbols t ≤ mostSymbols
 
 small-enough : (n : ℕ) → (mostSymbols < n → ⊥) → n ≤ mostSymbols
@@ -38,7 +38,7 @@ module _ (protocol term : List ℕ) (bytes : Bytes term) where
       record {
         is = h .is;
         fit = h .fit;
-        file = file-form (slots (h .is .functions)) term bytes t (r .next) (r .there);
+        file = file-form (tagArities (h .is .functions)) term bytes t (r .next) (r .there);
         small = small-enough (symbols t) (λ l. h .small .small .0 0 (refl, l));
       }
 
@@ -56,19 +56,20 @@ module _ (protocol term : List ℕ) (bytes : Bytes term) where
 pub same-forms :
     (protocol term other : List ℕ) → Bytes term → Bytes other → (p : Protocol) (t u : Term) → protocolRuling protocol ≡ passed p
     → termOf protocol term ≡ passed t → termOf protocol other ≡ passed u
-    → Same (arity (slots (p .functions))) t u ↔ (formOf (termOf protocol term) ≡ formOf (termOf protocol other))
+    → Same (arity (tagArities (p .functions))) t u ↔ (formOf (termOf protocol term) ≡ formOf (termOf protocol other))
 same-forms protocol term other b c p t u h e f =
-    let s = slots (p .functions) in
+    let s = tagArities (p .functions) in
     let w = formed-under term b t e in
     let v = formed-under other c u f in
     let k = same-bytes (arity s) (declared (p .functions)) t u w v in
     (λ d. ap formOf e ∙ k .0 d ∙ sym (ap formOf f), λ q. k .1 (sym (ap formOf e) ∙ q ∙ ap formOf f))
   where
-    formed-under : (file : List ℕ) → Bytes file → (x : Term) → termOf protocol file ≡ passed x → Formed (arity (slots (p .functions))) x
+    formed-under : (file : List ℕ) → Bytes file → (x : Term) → termOf protocol file ≡ passed x → Formed (arity (tagArities (p .functions))) x
     formed-under file by x g =
-        let q : termRuling (slots (p .functions)) file ≡ passed x = sym (ap (λ (r : Ruling Protocol). andThen r (λ o. termRuling (slots (o .functions)) file))
+        let q : termRuling (tagArities (p .functions)) file ≡ passed x = sym (ap (λ (r : Ruling Protocol). andThen r
+        (λ o. termRuling (tagArities (o .functions)) file))
         h) ∙ g in
-        let i = passed-good (IsSmall (slots (p .functions)) file) (termRows (slots (p .functions)) file) x
-        (subst (λ (r : Ruling Term). Ruled (termRows (slots (p .functions)) file) (IsSmall (slots (p .functions)) file) r) q
-        (term-ruled (slots (p .functions)) file)) in
-        file-form (slots (p .functions)) file by x (i .reads .next) (i .reads .there) .formed
+        let i = passed-good (IsSmall (tagArities (p .functions)) file) (termRows (tagArities (p .functions)) file) x
+        (subst (λ (r : Ruling Term). Ruled (termRows (tagArities (p .functions)) file) (IsSmall (tagArities (p .functions)) file) r) q
+        (term-ruled (tagArities (p .functions)) file)) in
+        file-form (tagArities (p .functions)) file by x (i .reads .next) (i .reads .there) .formed

@@ -11,7 +11,7 @@ use Rattle.term.specs.Sizes.{mostSymbols}
 use Rattle.lists.specs.Choice.{pick, by-size, clash}
 use Rattle.number.specs.Reading.{Read, got, fault}
 use Rattle.term.specs.Term.{Term, symbols}
-use Rattle.term.specs.Arity.{slots}
+use Rattle.term.specs.Arity.{tagArities}
 use Rattle.rewriting.specs.Table.{Ruling, passed, refused, Pass, andThen, orRefuse, rulingThen}
 use Rattle.rewriting.specs.Table.Passes.{leastPass, lessPass, needPass}
 use Rattle.protocol.specs.Protocol.{Protocol}
@@ -39,13 +39,13 @@ sized-view r t e =
     (λ l. is-large (e ∙ less-yes 8 0 mostSymbols (symbols t) [] (passed t) l))
     (λ l. is-small t (e ∙ less-no 8 0 mostSymbols (symbols t) [] (passed t) l))
 
-module _ (slots s : List ℕ) where
-  read-view : (o : Read Term) → termFile slots s ≡ o → View (termRuling slots s)
-  read-view (got t e) h = sized-view (termRuling slots s) t (ap (λ (o : Read Term). andThen (layout termItem o) sizeRuling) h)
+module _ (arities file : List ℕ) where
+  read-view : (o : Read Term) → termFile arities file ≡ o → View (termRuling arities file)
+  read-view (got t e) h = sized-view (termRuling arities file) t (ap (λ (o : Read Term). andThen (layout termItem o) sizeRuling) h)
   read-view fault h = is-layout (ap (λ (o : Read Term). andThen (layout termItem o) sizeRuling) h)
 
-  pub view : View (termRuling slots s)
-  view = read-view (termFile slots s) refl
+  pub view : View (termRuling arities file)
+  view = read-view (termFile arities file) refl
 
 -- the term that a small file holds
 pub record Holds (r : Ruling Term) : Type 0 where
@@ -67,14 +67,14 @@ large-of r (is-small t e) h = let q : Small ≡ Large = sym (ap fileOf e) ∙ h 
 large-of r (is-layout e) h = let q : Layout ≡ Large = sym (ap fileOf e) ∙ h in clash (cc)
 large-of r (is-large e) h = e
 
-pub holds-term : (slots s : List ℕ) → fileOf (termRuling slots s) ≡ Small → Holds (termRuling slots s)
-holds-term slots s h = small-of (termRuling slots s) (view slots s) h
+pub holds-term : (arities file : List ℕ) → fileOf (termRuling arities file) ≡ Small → Holds (termRuling arities file)
+holds-term arities file h = small-of (termRuling arities file) (view arities file) h
 
-pub no-layout : (slots s : List ℕ) → fileOf (termRuling slots s) ≡ Layout → termRuling slots s ≡ refused 3 termItem
-no-layout slots s h = layout-of (termRuling slots s) (view slots s) h
+pub no-layout : (arities file : List ℕ) → fileOf (termRuling arities file) ≡ Layout → termRuling arities file ≡ refused 3 termItem
+no-layout arities file h = layout-of (termRuling arities file) (view arities file) h
 
-pub too-large : (slots s : List ℕ) → fileOf (termRuling slots s) ≡ Large → termRuling slots s ≡ refused 8 0
-too-large slots s h = large-of (termRuling slots s) (view slots s) h
+pub too-large : (arities file : List ℕ) → fileOf (termRuling arities file) ≡ Large → termRuling arities file ≡ refused 8 0
+too-large arities file h = large-of (termRuling arities file) (view arities file) h
 
 -- what is asked of the file's term
 pub form-of : (arities term free : List ℕ) → Under arities term free → (h : Holds (termRuling arities term)) → Form arities term free (h .term)
@@ -105,13 +105,13 @@ module _ (protocol term output : List ℕ) (w : Written) where
 
   pub inside-judged :
       (p : length protocol ≤ protocolLimit) (t : length term ≤ termLimit) (q : Protocol) (output′ : List ℕ)
-      → protocolRuling protocol ≡ passed q → Judges (termRuling (slots (q .functions)) term) output output′ w
+      → protocolRuling protocol ≡ passed q → Judges (termRuling (tagArities (q .functions)) term) output output′ w
       → InsideAs protocol term output output′ w
   unfolding canonicalOutput
   inside-judged p t q output′ fit j work l =
-      let under : termOf protocol term ≡ termRuling (slots (q .functions)) term =
-      ap (λ (r : Ruling Protocol). andThen r (λ q. termRuling (slots (q .functions)) term)) fit in
-      let o : canonicalOutcome protocol term (length output) work ≡ andThen (termRuling (slots (q .functions)) term) (roomRuling (length output)) =
+      let under : termOf protocol term ≡ termRuling (tagArities (q .functions)) term =
+      ap (λ (r : Ruling Protocol). andThen r (λ q. termRuling (tagArities (q .functions)) term)) fit in
+      let o : canonicalOutcome protocol term (length output) work ≡ andThen (termRuling (tagArities (q .functions)) term) (roomRuling (length output)) =
       sized protocol term (length output) work l p t ∙ ap (λ (r : Ruling Term). andThen r (roomRuling (length output))) under in
       record {
         answer = j .answer ∙ sym o;
@@ -150,15 +150,15 @@ module _ (protocol term : List ℕ) (output : ℕ) where
       late-then (layout protocolItem (files.protocol protocol)) fitRuling (late-layout protocolItem (files.protocol protocol))
       (λ p. late-pass (leastPass 4 (λ k r. fits r) (p .rules)) [] (passed p) (λ e. omega arith) tt)
 
-  late-term : (slots : List ℕ) → Late (termRuling slots term)
-  late-term slots =
-      late-then (layout termItem (termFile slots term)) sizeRuling (late-layout termItem (termFile slots term))
+  late-term : (arities : List ℕ) → Late (termRuling arities term)
+  late-term arities =
+      late-then (layout termItem (termFile arities term)) sizeRuling (late-layout termItem (termFile arities term))
       (λ t. late-pass (lessPass 8 0 mostSymbols (symbols t)) [] (passed t) (λ e. omega arith) tt)
 
   late-files : Late (andThen (termOf protocol term) (roomRuling output))
   late-files =
       late-then (termOf protocol term) (roomRuling output)
-      (late-then (protocolRuling protocol) (λ p. termRuling (slots (p .functions)) term) late-protocol (λ p. late-term (slots (p .functions))))
+      (late-then (protocolRuling protocol) (λ p. termRuling (tagArities (p .functions)) term) late-protocol (λ p. late-term (tagArities (p .functions))))
       (λ t. late-pass (needPass 15 output (need t)) [] (passed (need t)) (λ e. omega arith) tt)
 
   late-call : (work : ℕ) → workNeed ≤ work → Late (canonicalOutcome protocol term output work)

@@ -3,7 +3,7 @@ use Prim.Native.Nat.{ℕ}
 use mathlib.Core.List.{List, [], _∷_, _++_}
 use mathlib.Core.Path.{_≡_, refl}
 use Rattle.term.specs.Term.{Term}
-use Rattle.term.specs.Arity.{slots}
+use Rattle.term.specs.Arity.{tagArities}
 use Rattle.rewriting.specs.Table.{Ruled, andThen, rowsAfter}
 use Rattle.rewriting.specs.Table.Laws.{ruled, ruled-then, ruled-and-then, ruled-good}
 use Rattle.rewriting.specs.Table.Passes.{needPass}
@@ -17,14 +17,14 @@ module _ (protocol term : List ℕ) where
   pub record Holds (t : Term) : Type 0 where
     pub is : Protocol
     pub fit : IsFit protocol is
-    pub small : IsSmall (slots (is .functions)) term t
+    pub small : IsSmall (tagArities (is .functions)) term t
 
   pub read-ruled : Ruled (readRows protocol term) Holds (termOf protocol term)
   read-ruled =
       ruled-and-then (IsFit protocol) Holds (protocolRows protocol) (protocolRuling protocol)
-      (λ p. termRows (slots (p .functions)) term) (λ p. termRuling (slots (p .functions)) term) (protocol-ruled protocol)
-      (λ p h e. ruled-good (IsSmall (slots (p .functions)) term) Holds (λ t s. record { is = p; fit = h; small = s })
-      (termRows (slots (p .functions)) term) (termRuling (slots (p .functions)) term) (term-ruled (slots (p .functions)) term))
+      (λ p. termRows (tagArities (p .functions)) term) (λ p. termRuling (tagArities (p .functions)) term) (protocol-ruled protocol)
+      (λ p h e. ruled-good (IsSmall (tagArities (p .functions)) term) Holds (λ t s. record { is = p; fit = h; small = s })
+      (termRows (tagArities (p .functions)) term) (termRuling (tagArities (p .functions)) term) (term-ruled (tagArities (p .functions)) term))
 
   -- the length of the canonical form of that term
   pub record Length (n : ℕ) : Type 0 where

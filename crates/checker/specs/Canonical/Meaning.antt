@@ -9,7 +9,7 @@ use Rattle.lists.specs.Choice.{by-size}
 use Rattle.octets.specs.Head.{Bytes}
 use Rattle.octets.specs.Splice.{splice}
 use Rattle.term.specs.Term.{Term, encode, Formed}
-use Rattle.term.specs.Arity.{arity, slots}
+use Rattle.term.specs.Arity.{arity, tagArities}
 use Rattle.message.specs.Equations.{Same}
 use Rattle.message.specs.Canonical.{Canonical}
 use Rattle.message.specs.Canon.{canon}
@@ -32,7 +32,7 @@ module _ (protocol term output : List ℕ) (work : ℕ) where
     -- its canonical form
     pub form : Term
     pub canonical : Canonical form
-    pub same : Same (arity (slots (files .is .functions))) held form
+    pub same : Same (arity (tagArities (files .is .functions))) held form
     -- the answer and the output
     pub long : n ≡ length (encode form)
     pub room : n ≤ length output
@@ -48,7 +48,7 @@ module _ (protocol term output : List ℕ) (work : ℕ) where
     of-term : (t : Term) → termOf protocol term ≡ passed t → roomRuling (length output) t ≡ passed n → Written n
     of-term t i r =
         let f = taken protocol term bytes t i in
-        let ar = arity (slots (f .is .functions)) in
+        let ar = arity (tagArities (f .is .functions)) in
         let g = declared (f .is .functions) in
         by-size (length output) (need t)
         (λ l. absurd (refused-passed 15 (need t) n (sym (less-yes 15 (need t) (length output) (need t) [] (passed (need t)) l) ∙ r)))
@@ -80,7 +80,7 @@ module _ (protocol term output : List ℕ) (work : ℕ) where
 
 -- the canonical form is the only one
 pub one-form :
-    (ar : List ℕ) (t u v : Term) → Formed (arity (slots ar)) u → Formed (arity (slots ar)) v → Canonical u → Canonical v
-    → Same (arity (slots ar)) t u → Same (arity (slots ar)) t v → u ≡ v
+    (ar : List ℕ) (t u v : Term) → Formed (arity (tagArities ar)) u → Formed (arity (tagArities ar)) v → Canonical u → Canonical v
+    → Same (arity (tagArities ar)) t u → Same (arity (tagArities ar)) t v → u ≡ v
 one-form ar t u v f g c d p q =
-    canonical-same (arity (slots ar)) (declared ar) u v f g c d (equations.transitive (equations.symmetric p) q)
+    canonical-same (arity (tagArities ar)) (declared ar) u v f g c d (equations.transitive (equations.symmetric p) q)

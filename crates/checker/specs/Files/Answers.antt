@@ -40,51 +40,51 @@ walked-fault : (kind lo hi : ℕ) (r : Read Term) → walked kind lo hi r ≡ wk
 walked-fault kind lo hi (got t d) w = clash (cc)
 walked-fault kind lo hi fault w = refl
 
-module _ (slots s : List ℕ) where
+module _ (arities file : List ℕ) where
   -- a file that does not read as one term without variables
-  no-file : termFile slots s ≡ fault → fileOf (termRuling slots s) ≡ Layout
+  no-file : termFile arities file ≡ fault → fileOf (termRuling arities file) ≡ Layout
   no-file h = ap (λ (o : Read Term). fileOf (andThen (layout termItem o) sizeRuling)) h
 
   file-tested :
-      (t : Term) (e : ℕ) (b : Bool) → term s slots 0 ≡ got t e → (eqb e (length s) && not (holds t 0 0 numberLimit)) ≡ b
-      → termFile slots s ≡ pick b (got t e) fault
+      (t : Term) (e : ℕ) (b : Bool) → term file arities 0 ≡ got t e → (eqb e (length file) && not (holds t 0 0 numberLimit)) ≡ b
+      → termFile arities file ≡ pick b (got t e) fault
   unfolding termFile
-  file-tested t e b r q = then-got (term s slots 0) _ r ∙ ap (λ (c : Bool). pick c (got t e) fault) q
+  file-tested t e b r q = then-got (term file arities 0) _ r ∙ ap (λ (c : Bool). pick c (got t e) fault) q
 
-  unread : term s slots 0 ≡ fault → termFile slots s ≡ fault
+  unread : term file arities 0 ≡ fault → termFile arities file ≡ fault
   unfolding termFile
-  unread r = then-fault (term s slots 0) _ r
+  unread r = then-fault (term file arities 0) _ r
 
   -- ── the code's cases ──
   abbrev Walked : ℕ → ℕ → Bool → Type 0
-  Walked e n h = walked 0 0 numberLimit (term s slots 0) ≡ wk.End e n h
+  Walked e n h = walked 0 0 numberLimit (term file arities 0) ≡ wk.End e n h
 
-  pub file-fault : walked 0 0 numberLimit (term s slots 0) ≡ wk.Fault → fileOf (termRuling slots s) ≡ Layout
-  file-fault w = no-file (unread (walked-fault 0 0 numberLimit (term s slots 0) w))
+  pub file-fault : walked 0 0 numberLimit (term file arities 0) ≡ wk.Fault → fileOf (termRuling arities file) ≡ Layout
+  file-fault w = no-file (unread (walked-fault 0 0 numberLimit (term file arities 0) w))
 
   -- bytes are left over
-  pub file-leftover : (e n : ℕ) (h : Bool) → Walked e n h → (e ≡ length s → ⊥) → fileOf (termRuling slots s) ≡ Layout
+  pub file-leftover : (e n : ℕ) (h : Bool) → Walked e n h → (e ≡ length file → ⊥) → fileOf (termRuling arities file) ≡ Layout
   file-leftover e n h w l =
-      cut-walked 0 0 numberLimit e n h (term s slots 0) w (λ t r q v.
-      no-file (file-tested t e false r (ap (λ (b : Bool). b && not (holds t 0 0 numberLimit)) (ne-eqb e (length s) l))))
+      cut-walked 0 0 numberLimit e n h (term file arities 0) w (λ t r q v.
+      no-file (file-tested t e false r (ap (λ (b : Bool). b && not (holds t 0 0 numberLimit)) (ne-eqb e (length file) l))))
 
   -- a variable stands in it
-  pub file-variable : (e n : ℕ) (h : Bool) → Walked e n h → e ≡ length s → h ≡ true → fileOf (termRuling slots s) ≡ Layout
+  pub file-variable : (e n : ℕ) (h : Bool) → Walked e n h → e ≡ length file → h ≡ true → fileOf (termRuling arities file) ≡ Layout
   file-variable e n h w l v =
-      cut-walked 0 0 numberLimit e n h (term s slots 0) w (λ t r q x.
-      no-file (file-tested t e false r (ap₂ (λ (a b : Bool). a && not b) (eq-eqb e (length s) l) (x ∙ v))))
+      cut-walked 0 0 numberLimit e n h (term file arities 0) w (λ t r q x.
+      no-file (file-tested t e false r (ap₂ (λ (a b : Bool). a && not b) (eq-eqb e (length file) l) (x ∙ v))))
 
-  whole : (e n : ℕ) (h : Bool) → Walked e n h → e ≡ length s → h ≡ false
-      → {C : Type 0} → ((t : Term) → termRuling slots s ≡ sizeRuling t → symbols t ≡ n → C) → C
+  whole : (e n : ℕ) (h : Bool) → Walked e n h → e ≡ length file → h ≡ false
+      → {C : Type 0} → ((t : Term) → termRuling arities file ≡ sizeRuling t → symbols t ≡ n → C) → C
   whole e n h w l v k =
-      cut-walked 0 0 numberLimit e n h (term s slots 0) w (λ t r q x.
+      cut-walked 0 0 numberLimit e n h (term file arities 0) w (λ t r q x.
       k t (ap (λ (o : Read Term). andThen (layout termItem o) sizeRuling)
-      (file-tested t e true r (ap₂ (λ (a b : Bool). a && not b) (eq-eqb e (length s) l) (x ∙ v)))) q)
+      (file-tested t e true r (ap₂ (λ (a b : Bool). a && not b) (eq-eqb e (length file) l) (x ∙ v)))) q)
 
-  pub file-large : (e n : ℕ) (h : Bool) → Walked e n h → e ≡ length s → h ≡ false → mostSymbols < n → fileOf (termRuling slots s) ≡ Large
+  pub file-large : (e n : ℕ) (h : Bool) → Walked e n h → e ≡ length file → h ≡ false → mostSymbols < n → fileOf (termRuling arities file) ≡ Large
   file-large e n h w l v m =
       whole e n h w l v (λ t r q. ap fileOf (r ∙ less-yes 8 0 mostSymbols (symbols t) [] (passed t) (omega arith)))
 
-  pub file-small : (e n : ℕ) (h : Bool) → Walked e n h → e ≡ length s → h ≡ false → n ≤ mostSymbols → fileOf (termRuling slots s) ≡ Small
+  pub file-small : (e n : ℕ) (h : Bool) → Walked e n h → e ≡ length file → h ≡ false → n ≤ mostSymbols → fileOf (termRuling arities file) ≡ Small
   file-small e n h w l v m =
       whole e n h w l v (λ t r q. ap fileOf (r ∙ less-no 8 0 mostSymbols (symbols t) [] (passed t) (omega arith)))

@@ -27,25 +27,26 @@ layout-ruled item fault = inr (item, record { here = (refl, refl); below = λ j 
 
 -- ── the protocol ──
 -- a protocol was read, and it is fit
-pub record IsFit (s : List ℕ) (p : Protocol) : Type 0 where
-  pub reads : Reads (protocol s) p
+pub record IsFit (file : List ℕ) (p : Protocol) : Type 0 where
+  pub reads : Reads (protocol file) p
   pub fit : Absent (fitRows p)
 
-pub protocol-ruled : (s : List ℕ) → Ruled (protocolRows s) (IsFit s) (protocolRuling s)
-protocol-ruled s =
-    ruled-and-then (Reads (protocol s)) (IsFit s) (layoutRows protocolItem (protocol s)) (layout protocolItem (protocol s)) fitRows fitRuling
-    (layout-ruled protocolItem (protocol s))
-    (λ p h e. ruled (IsFit s) (leastPass 4 (λ k r. fits r) (p .rules) ∷ []) p (λ a. record { reads = h; fit = a }))
+pub protocol-ruled : (file : List ℕ) → Ruled (protocolRows file) (IsFit file) (protocolRuling file)
+protocol-ruled file =
+    ruled-and-then (Reads (protocol file)) (IsFit file) (layoutRows protocolItem (protocol file)) (layout protocolItem (protocol file)) fitRows fitRuling
+    (layout-ruled protocolItem (protocol file))
+    (λ p h e. ruled (IsFit file) (leastPass 4 (λ k r. fits r) (p .rules) ∷ []) p (λ a. record { reads = h; fit = a }))
 
 -- ── the term ──
 -- a term was read, and it is small enough
-pub record IsSmall (slots s : List ℕ) (t : Term) : Type 0 where
-  pub reads : Reads (termFile slots s) t
+pub record IsSmall (arities file : List ℕ) (t : Term) : Type 0 where
+  pub reads : Reads (termFile arities file) t
   pub small : Absent (sizeRows t)
 
-pub term-ruled : (slots s : List ℕ) → Ruled (termRows slots s) (IsSmall slots s) (termRuling slots s)
-term-ruled slots s =
-    ruled-and-then (Reads (termFile slots s)) (IsSmall slots s) (layoutRows termItem (termFile slots s)) (layout termItem (termFile slots s)) sizeRows
+pub term-ruled : (arities file : List ℕ) → Ruled (termRows arities file) (IsSmall arities file) (termRuling arities file)
+term-ruled arities file =
+    ruled-and-then (Reads (termFile arities file)) (IsSmall arities file) (layoutRows termItem (termFile arities file))
+    (layout termItem (termFile arities file)) sizeRows
     sizeRuling
-    (layout-ruled termItem (termFile slots s))
-    (λ t h e. ruled (IsSmall slots s) (lessPass 8 0 mostSymbols (symbols t) ∷ []) t (λ a. record { reads = h; small = a }))
+    (layout-ruled termItem (termFile arities file))
+    (λ t h e. ruled (IsSmall arities file) (lessPass 8 0 mostSymbols (symbols t) ∷ []) t (λ a. record { reads = h; small = a }))

@@ -23,34 +23,35 @@ use Rattle.message.specs.Substitution.{Ground}
 use Rattle.message.specs.Substitution.Laws.{none-ground, ground-none}
 use Rattle.checker.specs.Files.{termFile}
 
--- s is the encoding of t, a formed term in range without variables
-pub record IsTerm (slots s : List ℕ) (t : Term) : Type 0 where
-  pub bytes : s ≡ encode t
-  pub formed : Formed (arity slots) t
+-- file is the encoding of t, a formed term in range without variables
+pub record IsTerm (arities file : List ℕ) (t : Term) : Type 0 where
+  pub bytes : file ≡ encode t
+  pub formed : Formed (arity arities) t
   pub range : InRange t
   pub ground : Ground t
 
-module _ (slots s : List ℕ) (bytes : Bytes s) where
-  pub file-form : (t : Term) (e : ℕ) → termFile slots s ≡ got t e → IsTerm slots s t
+module _ (arities file : List ℕ) (bytes : Bytes file) where
+  pub file-form : (t : Term) (e : ℕ) → termFile arities file ≡ got t e → IsTerm arities file t
   unfolding termFile
   file-form t e h =
-      cut-got (term s slots 0) _ h (λ u d r h. cut _ _ _ (eqb d (length s) && not (holds u 0 0 numberLimit)) h
+      cut-got (term file arities 0) _ h (λ u d r h. cut _ _ _ (eqb d (length file) && not (holds u 0 0 numberLimit)) h
       (λ b h. let p : u ≡ t = cc in
-      let q = and-split (eqb d (length s)) (not (holds u 0 0 numberLimit)) b in
-      let l : d ≡ length s = eqb-true d (length s) (q .0) in
-      let f = term-form s slots bytes u 0 d r in
-      let w : s ≡ encode u = f .1 .there ∙ ap (λ (k : ℕ). encode u ++ drop k s) l ∙ ap (λ (m : List ℕ). encode u ++ m) (drop-length s) ∙ append-nil (encode u)
+      let q = and-split (eqb d (length file)) (not (holds u 0 0 numberLimit)) b in
+      let l : d ≡ length file = eqb-true d (length file) (q .0) in
+      let f = term-form file arities bytes u 0 d r in
+      let w : file ≡ encode u = f .1 .there ∙ ap (λ (k : ℕ). encode u ++ drop k file) l ∙ ap (λ (m : List ℕ). encode u ++ m) (drop-length file) ∙ append-nil
+      (encode u)
       in
-      subst (λ (x : Term). IsTerm slots s x) p
+      subst (λ (x : Term). IsTerm arities file x) p
       (record { bytes = w; formed = f .0 .0; range = f .0 .1; ground = none-ground u (f .0 .1) (not-split (holds u 0 0 numberLimit) (q .1)) }))
       (λ b h. clash (cc)))
 
-  pub file-back : (t : Term) → IsTerm slots s t → termFile slots s ≡ got t (length s)
+  pub file-back : (t : Term) → IsTerm arities file t → termFile arities file ≡ got t (length file)
   unfolding termFile
   file-back t h =
-      let e : drop 0 s ≡ encode t ++ [] = h .bytes ∙ sym (append-nil (encode t)) in
-      let l : 0 + length (encode t) ≡ length s = omega (arith, ap length (h .bytes)) in
-      let r : term s slots 0 ≡ got t (length s) = term-back s slots bytes t 0 [] (h .formed) (h .range) e ∙ ap (got t) l in
-      then-got (term s slots 0) _ r
-      ∙ ap (λ (b : Bool). pick b (got t (length s)) fault)
-      (ap₂ (λ (x y : Bool). x && not y) (eq-eqb (length s) (length s) refl) (ground-none t (h .ground)))
+      let e : drop 0 file ≡ encode t ++ [] = h .bytes ∙ sym (append-nil (encode t)) in
+      let l : 0 + length (encode t) ≡ length file = omega (arith, ap length (h .bytes)) in
+      let r : term file arities 0 ≡ got t (length file) = term-back file arities bytes t 0 [] (h .formed) (h .range) e ∙ ap (got t) l in
+      then-got (term file arities 0) _ r
+      ∙ ap (λ (b : Bool). pick b (got t (length file)) fault)
+      (ap₂ (λ (x y : Bool). x && not y) (eq-eqb (length file) (length file) refl) (ground-none t (h .ground)))

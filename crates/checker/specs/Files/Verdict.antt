@@ -12,11 +12,11 @@ use Rattle.lists.specs.Lists.{firstBad}
 use Rattle.rewriting.specs.Table.{passed, refused, Fails, Finds, Least, andThen, orRefuse}
 use Rattle.rewriting.specs.Table.Laws.{least-unique}
 use Rattle.rewriting.specs.Table.Passes.{first-bad}
-use Rattle.protocol.specs.Protocol.{Rule, Protocol, noRule, protocol}
+use Rattle.protocol.specs.Protocol.{Rule, Protocol, emptyRule, protocol}
 use Rattle.rules.specs.Fit.{fits, leastUnfit, sound, broken, malformed, judged}
 use Rattle.lists.specs.Tests.{not-split}
 use Rattle.rules.specs.Fit.Laws.{unfit}
-use Rattle.rules.specs.Fit.Meaning.Judged.{First, least-zero, least-some}
+use Rattle.rules.specs.Fit.Meaning.Verdicts.{First, least-zero, least-some}
 use Rattle.checker.specs.Files.{protocolItem, layout, fitRuling, protocolRuling}
 
 -- ── a pass finds one thing ──
@@ -27,12 +27,12 @@ finds-unique P (some k) none f g = absurd (g k (f .here))
 finds-unique P (some j) (some k) f g = ap some (least-unique P j k f g)
 
 -- ── elements by their number ──
-there : (rs : List Rule) (i : ℕ) → i < length rs → getElem? rs i ≡ some (getD rs i noRule)
+there : (rs : List Rule) (i : ℕ) → i < length rs → getElem? rs i ≡ some (getD rs i emptyRule)
 there [] i h = absurd (omega arith)
 there (r ∷ rs) zero h = refl
 there (r ∷ rs) (suc i) h = there rs i (omega arith)
 
-from : (rs : List Rule) (i : ℕ) (x : Rule) → getElem? rs i ≡ some x → (i < length rs) × (getD rs i noRule ≡ x)
+from : (rs : List Rule) (i : ℕ) (x : Rule) → getElem? rs i ≡ some x → (i < length rs) × (getD rs i emptyRule ≡ x)
 from [] i x h = clash (cc)
 from (r ∷ rs) zero x h = (omega arith, cc)
 from (r ∷ rs) (suc i) x h = let f = from rs i x h in (omega (arith, f .0), f .1)
@@ -63,9 +63,9 @@ module _ (rs : List Rule) where
   one-fails : (m : ℕ) → First (unfit rs) (length rs) m → Least (Fails ok rs) (suc m)
   one-fails m h = record {
     here = record {
-      which = getD rs m noRule;
+      which = getD rs m emptyRule;
       stands = there rs m (h .inside);
-      is-false = not-split (fits (getD rs m noRule)) (h .hit);
+      is-false = not-split (fits (getD rs m emptyRule)) (h .hit);
     };
     below = earlier;
   }
@@ -85,28 +85,28 @@ module _ (rs : List Rule) where
   bad-is = finds-unique (Fails ok rs) (firstBad ok 1 rs) (item (leastUnfit rs)) (first-bad ok rs) (finds (leastUnfit rs) refl)
 
 -- ── the ruling, from the verdict ──
-module _ (s : List ℕ) where
+module _ (file : List ℕ) where
   ruled-as : (p : Protocol) (k : ℕ) → leastUnfit (p .rules) ≡ k → fitRuling p ≡ orRefuse 4 (item k) (passed p)
   ruled-as p k e = ap (λ (o : Option ℕ). orRefuse 4 o (passed p)) (bad-is (p .rules) ∙ ap item e)
 
-  read : (p : Protocol) (e : ℕ) → protocol s ≡ got p e → protocolRuling s ≡ fitRuling p
+  read : (p : Protocol) (e : ℕ) → protocol file ≡ got p e → protocolRuling file ≡ fitRuling p
   read p e h = ap (λ (r : Read Protocol). andThen (layout protocolItem r) fitRuling) h
 
-  pub ruled-malformed : judged (protocol s) ≡ malformed → protocolRuling s ≡ refused 3 protocolItem
-  ruled-malformed h = go (protocol s) refl h
+  pub ruled-malformed : judged (protocol file) ≡ malformed → protocolRuling file ≡ refused 3 protocolItem
+  ruled-malformed h = go (protocol file) refl h
     where
-      go : (r : Read Protocol) → protocol s ≡ r → judged r ≡ malformed → protocolRuling s ≡ refused 3 protocolItem
+      go : (r : Read Protocol) → protocol file ≡ r → judged r ≡ malformed → protocolRuling file ≡ refused 3 protocolItem
       go (got p e) q h = cut-eq _ _ _ (leastUnfit (p .rules)) 0 h (λ z h. clash (cc)) (λ z h. clash (cc))
       go fault q h = ap (λ (r : Read Protocol). andThen (layout protocolItem r) fitRuling) q
 
-  pub ruled-broken : (k : ℕ) → judged (protocol s) ≡ broken k → protocolRuling s ≡ refused 4 k
-  ruled-broken k h = go (protocol s) refl h
+  pub ruled-broken : (k : ℕ) → judged (protocol file) ≡ broken k → protocolRuling file ≡ refused 4 k
+  ruled-broken k h = go (protocol file) refl h
     where
       some-item : (j : ℕ) (p : Protocol) → (j ≡ 0 → ⊥) → orRefuse 4 (item j) (passed p) ≡ refused 4 j
       some-item zero p z = absurd (z refl)
       some-item (suc j) p z = refl
 
-      go : (r : Read Protocol) → protocol s ≡ r → judged r ≡ broken k → protocolRuling s ≡ refused 4 k
+      go : (r : Read Protocol) → protocol file ≡ r → judged r ≡ broken k → protocolRuling file ≡ refused 4 k
       go (got p e) q h =
           cut-eq _ _ _ (leastUnfit (p .rules)) 0 h
           (λ z h. clash (cc))
@@ -114,7 +114,7 @@ module _ (s : List ℕ) where
           read p e q ∙ ruled-as p k w ∙ some-item k p (λ y. z (w ∙ y)))
       go fault q h = clash (cc)
 
-  pub ruled-sound : (p : Protocol) (e : ℕ) → protocol s ≡ got p e → judged (protocol s) ≡ sound → protocolRuling s ≡ passed p
+  pub ruled-sound : (p : Protocol) (e : ℕ) → protocol file ≡ got p e → judged (protocol file) ≡ sound → protocolRuling file ≡ passed p
   ruled-sound p e q h =
       cut-eq _ _ _ (leastUnfit (p .rules)) 0 (sym (ap judged q) ∙ h)
       (λ z h. read p e q ∙ ruled-as p 0 z)

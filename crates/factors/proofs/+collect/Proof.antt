@@ -30,7 +30,7 @@ claims t =
 
 collect-returns : (t : ℕ) → collect-lts.Need-returns (claims t) (collect-at t) collect.Post
 collect-returns t c =
-    let r = c .before .before .before .before .before .args in collect-none (r .arities .now) (r .s .now) (r .starts .now) (r .ends .now) (r .powers .now)
+    let r = c .before .before .before .before .before .args in collect-none (r .arities .now) (r .src .now) (r .starts .now) (r .ends .now) (r .powers .now)
     (r .n) (r .at) (r .k) (r .minus) (c .if1 .taken) _ refl refl
 
 collect-way-at-requires : (t : ℕ) → collect-lts.Need-way-at-requires (claims t) (collect-at t) collect.Post
@@ -45,7 +45,7 @@ collect-collect-requires t c κs =
     let c6 = c4 .before .before in
     let c7 = c6 .before in
     let c12 = c7 .before .before .before .before .before in
-    let r = c12 .args in into-asks (r .arities .now) (r .s .now) (r .starts .now) (r .ends .now) (r .powers .now) (r .n) (r .at) (r .k) (r .minus)
+    let r = c12 .args in into-asks (r .arities .now) (r .src .now) (r .starts .now) (r .ends .now) (r .powers .now) (r .n) (r .at) (r .k) (r .minus)
     (c7 .if1 .left) (c4 .m .given .0 .0) (c4 .m .given .0 .1 .0) (c4 .m .given .0 .1 .1 .0) (sym (c6 .way-at .ensures) ∙ c4 .m .given .1) t (c12 .pre .0)
     (c12 .pre .1)
 
@@ -53,7 +53,7 @@ collect-sub-collect : (t : ℕ) → collect-lts.Need-sub-collect (claims t) (col
 collect-sub-collect t c =
     let c16 = c .before .before .before .before .before .before .before .before .before .before .before .before .before .before .before .before in
     let c21 = c16 .before .before .before .before .before in
-    let r = c21 .args in collect-more (r .arities .now) (r .s .now) (r .starts .now) (r .ends .now) (r .powers .now) (r .n) (r .at) (r .k) (r .minus)
+    let r = c21 .args in collect-more (r .arities .now) (r .src .now) (r .starts .now) (r .ends .now) (r .powers .now) (r .n) (r .at) (r .k) (r .minus)
     (c16 .if1 .left) (c21 .pre .1)
 
 collect-collect-requires-2 : (t : ℕ) → collect-lts.Need-collect-requires-2 (claims t) (collect-at t) collect.Post
@@ -63,9 +63,9 @@ collect-collect-requires-2 t c κs =
     let c15 = c13 .before .before in
     let c16 = c15 .before in
     let c21 = c16 .before .before .before .before .before in
-    let r = c21 .args in others-asks (r .arities .now) (r .s .now) (r .starts .now) (r .ends .now) (r .powers .now) (r .n) (r .at) (r .k) (r .minus)
+    let r = c21 .args in others-asks (r .arities .now) (r .src .now) (r .starts .now) (r .ends .now) (r .powers .now) (r .n) (r .at) (r .k) (r .minus)
     (c16 .if1 .left) _ _ _ _ (c8 .collect .kept .0) (c8 .collect .kept .1 .0) (c8 .collect .kept .1 .1 .0)
-    (into-done (r .arities .now) (r .s .now) (r .starts .now) (r .ends .now) (r .powers .now) (r .n) (r .at) (r .k) (r .minus) (c16 .if1 .left)
+    (into-done (r .arities .now) (r .src .now) (r .starts .now) (r .ends .now) (r .powers .now) (r .n) (r .at) (r .k) (r .minus) (c16 .if1 .left)
     (c13 .m .given .0 .0) (c13 .m .given .0 .1 .0) (c13 .m .given .0 .1 .1 .0) (sym (c15 .way-at .ensures) ∙ c13 .m .given .1) _ _ _ _
     (c8 .collect .ensures)) t (c21 .pre .0) (c21 .pre .1)
 
@@ -78,14 +78,14 @@ collect-enter-at-requires t c κs =
     let c5 = c3 .before .before in
     let c6 = c5 .before in
     let c11 = c6 .before .before .before .before .before in
-    let r = c11 .args in factor-asks (r .arities .now) (r .s .now) (r .starts .now) (r .ends .now) (r .powers .now) (r .n) (r .at) (r .k) (r .minus)
+    let r = c11 .args in factor-asks (r .arities .now) (r .src .now) (r .starts .now) (r .ends .now) (r .powers .now) (r .n) (r .at) (r .k) (r .minus)
     (c6 .if1 .left) (sym (c5 .way-at .ensures) ∙ c3 .enum-told .given .1) (c11 .pre .1)
 
 collect-sub-collect-2 : (t : ℕ) → collect-lts.Need-sub-collect-2 (claims t) (collect-at t) collect.Post
 collect-sub-collect-2 t c =
     let c15 = c .before .before .before .before .before .before .before .before .before .before .before .before .before .before .before in
     let c20 = c15 .before .before .before .before .before in
-    let r = c20 .args in collect-more (r .arities .now) (r .s .now) (r .starts .now) (r .ends .now) (r .powers .now) (r .n) (r .at) (r .k) (r .minus)
+    let r = c20 .args in collect-more (r .arities .now) (r .src .now) (r .starts .now) (r .ends .now) (r .powers .now) (r .n) (r .at) (r .k) (r .minus)
     (c15 .if1 .left) (c20 .pre .1)
 
 collect-collect-requires-3 : (t : ℕ) → collect-lts.Need-collect-requires-3 (claims t) (collect-at t) collect.Post
@@ -95,9 +95,9 @@ collect-collect-requires-3 t c κs =
     let c14 = c12 .before .before in
     let c15 = c14 .before in
     let c20 = c15 .before .before .before .before .before in
-    let r = c20 .args in others-asks (r .arities .now) (r .s .now) (r .starts .now) (r .ends .now) (r .powers .now) (r .n) (r .at) (r .k) (r .minus)
+    let r = c20 .args in others-asks (r .arities .now) (r .src .now) (r .starts .now) (r .ends .now) (r .powers .now) (r .n) (r .at) (r .k) (r .minus)
     (c15 .if1 .left) _ _ _ _ (c8 .enter-at .kept .0) (c8 .enter-at .kept .1 .0) (c8 .enter-at .kept .1 .1 .0)
-    (factor-done (r .arities .now) (r .s .now) (r .starts .now) (r .ends .now) (r .powers .now) (r .n) (r .at) (r .k) (r .minus) (c15 .if1 .left)
+    (factor-done (r .arities .now) (r .src .now) (r .starts .now) (r .ends .now) (r .powers .now) (r .n) (r .at) (r .k) (r .minus) (c15 .if1 .left)
     (sym (c14 .way-at .ensures) ∙ c12 .enum-told .given .1) _ _ _ _ (c8 .enter-at .ensures)) t (c20 .pre .0) (c20 .pre .1)
 
 collect-same-length : (t : ℕ) → collect-lts.Need-same-length (claims t) (collect-at t) collect.Post
@@ -126,9 +126,9 @@ collect-returns-2 t c =
     let c21 = c19 .before .before in
     let c22 = c21 .before in
     let c27 = c22 .before .before .before .before .before in
-    let r = c27 .args in others-returns (r .arities .now) (r .s .now) (r .starts .now) (r .ends .now) (r .powers .now) (r .n) (r .at) (r .k) (r .minus)
+    let r = c27 .args in others-returns (r .arities .now) (r .src .now) (r .starts .now) (r .ends .now) (r .powers .now) (r .n) (r .at) (r .k) (r .minus)
     (c22 .if1 .left) _ _ _ _ (c14 .collect .kept .0) (c14 .collect .kept .1 .0) (c14 .collect .kept .1 .1 .0)
-    (into-done (r .arities .now) (r .s .now) (r .starts .now) (r .ends .now) (r .powers .now) (r .n) (r .at) (r .k) (r .minus) (c22 .if1 .left)
+    (into-done (r .arities .now) (r .src .now) (r .starts .now) (r .ends .now) (r .powers .now) (r .n) (r .at) (r .k) (r .minus) (c22 .if1 .left)
     (c19 .m .given .0 .0) (c19 .m .given .0 .1 .0) (c19 .m .given .0 .1 .1 .0) (sym (c21 .way-at .ensures) ∙ c19 .m .given .1) _ _ _ _
     (c14 .collect .ensures)) _ _ _ _ (c5 .collect2 .ensures)
 
@@ -158,9 +158,9 @@ collect-returns-3 t c =
     let c20 = c18 .before .before in
     let c21 = c20 .before in
     let c26 = c21 .before .before .before .before .before in
-    let r = c26 .args in others-returns (r .arities .now) (r .s .now) (r .starts .now) (r .ends .now) (r .powers .now) (r .n) (r .at) (r .k) (r .minus)
+    let r = c26 .args in others-returns (r .arities .now) (r .src .now) (r .starts .now) (r .ends .now) (r .powers .now) (r .n) (r .at) (r .k) (r .minus)
     (c21 .if1 .left) _ _ _ _ (c14 .enter-at .kept .0) (c14 .enter-at .kept .1 .0) (c14 .enter-at .kept .1 .1 .0)
-    (factor-done (r .arities .now) (r .s .now) (r .starts .now) (r .ends .now) (r .powers .now) (r .n) (r .at) (r .k) (r .minus) (c21 .if1 .left)
+    (factor-done (r .arities .now) (r .src .now) (r .starts .now) (r .ends .now) (r .powers .now) (r .n) (r .at) (r .k) (r .minus) (c21 .if1 .left)
     (sym (c20 .way-at .ensures) ∙ c18 .enum-told .given .1) _ _ _ _ (c14 .enter-at .ensures)) _ _ _ _ (c5 .collect3 .ensures)
 
 pub +collect-spec : {M : Type 1} → statement M

@@ -8,11 +8,11 @@ use Rattle.factors.proofs.find_place.Statement.{statement}
 use Rattle.factors.proofs.find_place.Tie as tie
 
 abbrev Inv-loop : tie.InvT-loop
-Inv-loop key s starts ends n i₀ i =
-    (i ≤ n) × Passed key s starts ends n i
+Inv-loop key src starts ends n i₀ i =
+    (i ≤ n) × Passed key src starts ends n i
 
 abbrev μ-loop : tie.MeasureT-loop
-μ-loop key s starts ends n i₀ i =
+μ-loop key src starts ends n i₀ i =
     n - i
 
 loop-holds : tie.Need-loop-holds Inv-loop μ-loop
@@ -68,7 +68,7 @@ loop-again c =
     let c11 = c6 .before .before .before .before .before in
     let r = c11 .args in (
       omega arith,
-      passed-more (r .key .now) (r .s .now) (r .starts .now) (r .ends .now) (r .n) _ _ (c6 .loop .inv .1)
+      passed-more (r .key .now) (r .src .now) (r .starts .now) (r .ends .now) (r .n) _ _ (c6 .loop .inv .1)
           (c .before .before .compare-at .ensures) (c .enum-told3 .given .1),
     )
 

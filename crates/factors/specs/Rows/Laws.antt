@@ -20,8 +20,8 @@ use Rattle.factors.specs.Rows.{Rows, orderAt, Moved}
 
 -- the order of these bytes and an entry is that of the terms
 terms-order :
-    (t u : Term) {key s : List ℕ} {c d : ℕ} {o : Order} → key ≡ encode t → Stands s c (encode u) d
-    → compareBytes key (take (d - c) (drop c s)) ≡ o → order t u ≡ o
+    (t u : Term) {key src : List ℕ} {c d : ℕ} {o : Order} → key ≡ encode t → Stands src c (encode u) d
+    → compareBytes key (take (d - c) (drop c src)) ≡ o → order t u ≡ o
 terms-order t u K Q h = sym (ap₂ compareBytes K (stands-part Q)) ∙ h
 
 -- an entry x at i: those from i on moved up
@@ -39,11 +39,11 @@ opened d old mid i n x M h = record {
   above = λ j l g. getD-set-other mid i (j + 1) x d (λ z. omega arith) ∙ M .above j l g;
 }
 
-module _ (s S E : List ℕ) (P : List ℤ) where
+module _ (src S E : List ℕ) (P : List ℤ) where
   -- ── what the entries are ──
   pub rows-bounds :
-      (base : ℕ) (l : Exps) → Rows s S E P base l → (j : ℕ) → base ≤ j → j < base + size l
-      → (getD S j 0 ≤ getD E j 0) × (getD E j 0 ≤ length s)
+      (base : ℕ) (l : Exps) → Rows src S E P base l → (j : ℕ) → base ≤ j → j < base + size l
+      → (getD S j 0 ≤ getD E j 0) × (getD E j 0 ≤ length src)
   unfolding Rows size
   rows-bounds base empty R j h g = absurd (omega arith)
   rows-bounds base (part t k l) R j h g = elim (decLt base j) [
@@ -51,7 +51,7 @@ module _ (s S E : List ℕ) (P : List ℤ) where
     | no p ↦ (let z : j ≡ base = omega arith in rw z (omega (arith, R .0 .ends), stands-within (R .0) (encode-some t)))
   ]
 
-  pub rows-abs : (base : ℕ) (l : Exps) → Rows s S E P base l → (j : ℕ) → base ≤ j → j < base + size l → natAbs (getD P j (pos 0)) ≤ mass l
+  pub rows-abs : (base : ℕ) (l : Exps) → Rows src S E P base l → (j : ℕ) → base ≤ j → j < base + size l → natAbs (getD P j (pos 0)) ≤ mass l
   unfolding Rows size mass
   rows-abs base empty R j h g = absurd (omega arith)
   rows-abs base (part t k l) R j h g = elim (decLt base j) [
@@ -59,12 +59,12 @@ module _ (s S E : List ℕ) (P : List ℤ) where
     | no p ↦ (let z : j ≡ base = omega arith in rw (z, R .1) (omega arith))
   ]
 
-  module _ (key : List ℕ) (n i : ℕ) (k : ℤ) (t : Term) (K : key ≡ encode t) (before : (j : ℕ) → j < i → orderAt key s S E j ≡ Greater) where
+  module _ (key : List ℕ) (n i : ℕ) (k : ℤ) (t : Term) (K : key ≡ encode t) (before : (j : ℕ) → j < i → orderAt key src S E j ≡ Greater) where
     -- ── a new entry ──
-    module _ (here : i < n → orderAt key s S E i ≡ Less) where
-      module _ (a e : ℕ) (there : Stands s a (encode t) e) (S′ E′ : List ℕ) (P′ : List ℤ)
+    module _ (here : i < n → orderAt key src S E i ≡ Less) where
+      module _ (a e : ℕ) (there : Stands src a (encode t) e) (S′ E′ : List ℕ) (P′ : List ℤ)
           (OS : Opened 0 S S′ i n a) (OE : Opened 0 E E′ i n e) (OP : Opened (pos 0) P P′ i n k) where
-        rows-up : (base : ℕ) (l : Exps) → i ≤ base → base + size l ≤ n → Rows s S E P base l → Rows s S′ E′ P′ (base + 1) l
+        rows-up : (base : ℕ) (l : Exps) → i ≤ base → base + size l ≤ n → Rows src S E P base l → Rows src S′ E′ P′ (base + 1) l
         unfolding Rows size
         rows-up base empty h g R = tt
         rows-up base (part u j l) h g R = (
@@ -73,7 +73,7 @@ module _ (s S E : List ℕ) (P : List ℤ) where
           rows-up (base + 1) l (omega arith) (omega arith) (R .2),
         )
 
-        pub rows-in : (base : ℕ) (l : Exps) → base ≤ i → i ≤ n → base + size l ≡ n → Rows s S E P base l → Rows s S′ E′ P′ base (enter t k l)
+        pub rows-in : (base : ℕ) (l : Exps) → base ≤ i → i ≤ n → base + size l ≡ n → Rows src S E P base l → Rows src S′ E′ P′ base (enter t k l)
         unfolding Rows size enter
         rows-in base empty h g q R = let z : base ≡ i = omega arith in rw z (rw (OS .here, OE .here) there, OP .here, tt)
         rows-in base (part u j l) h g q R = elim (decLt base i) [
@@ -86,7 +86,7 @@ module _ (s S E : List ℕ) (P : List ℤ) where
               rw o (rw (z, OS .here, OE .here) there, rw z (OP .here), rows-up base (part u j l) (omega arith) (omega arith) R))
         ]
 
-      pub size-in : (base : ℕ) (l : Exps) → base ≤ i → i ≤ n → base + size l ≡ n → Rows s S E P base l → size (enter t k l) ≡ size l + 1
+      pub size-in : (base : ℕ) (l : Exps) → base ≤ i → i ≤ n → base + size l ≡ n → Rows src S E P base l → size (enter t k l) ≡ size l + 1
       unfolding Rows size enter
       size-in base empty h g q R = omega arith
       size-in base (part u j l) h g q R = elim (decLt base i) [
@@ -100,15 +100,15 @@ module _ (s S E : List ℕ) (P : List ℤ) where
       ]
 
     -- ── an entry that stands there already ──
-    module _ (here : orderAt key s S E i ≡ Equal) where
+    module _ (here : orderAt key src S E i ≡ Equal) where
       module _ (v : ℤ) (ev : v ≡ getD P i (pos 0) +ℤ k) (il : i < length P) where
-        rows-far : (base : ℕ) (l : Exps) → i < base → Rows s S E P base l → Rows s S E (set P i v) base l
+        rows-far : (base : ℕ) (l : Exps) → i < base → Rows src S E P base l → Rows src S E (set P i v) base l
         unfolding Rows
         rows-far base empty h R = tt
         rows-far base (part u j l) h R =
             (R .0, getD-set-other P i base v (pos 0) (λ z. omega arith) ∙ R .1, rows-far (base + 1) l (omega arith) (R .2))
 
-        pub rows-same : (base : ℕ) (l : Exps) → base ≤ i → i < n → base + size l ≡ n → Rows s S E P base l → Rows s S E (set P i v) base (enter t k l)
+        pub rows-same : (base : ℕ) (l : Exps) → base ≤ i → i < n → base + size l ≡ n → Rows src S E P base l → Rows src S E (set P i v) base (enter t k l)
         unfolding Rows size enter
         rows-same base empty h g q R = absurd (omega arith)
         rows-same base (part u j l) h g q R = elim (decLt base i) [
@@ -122,7 +122,7 @@ module _ (s S E : List ℕ) (P : List ℤ) where
               rw o (R .0, rw z (getD-set-same P i v (pos 0) il) ∙ w, rows-far (base + 1) l (omega arith) (R .2)))
         ]
 
-      pub size-same : (base : ℕ) (l : Exps) → base ≤ i → i < n → base + size l ≡ n → Rows s S E P base l → size (enter t k l) ≡ size l
+      pub size-same : (base : ℕ) (l : Exps) → base ≤ i → i < n → base + size l ≡ n → Rows src S E P base l → size (enter t k l) ≡ size l
       unfolding Rows size enter
       size-same base empty h g q R = absurd (omega arith)
       size-same base (part u j l) h g q R = elim (decLt base i) [

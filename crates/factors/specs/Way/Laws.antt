@@ -37,37 +37,37 @@ module _ (m : Bool) (f k e : ℕ) where
 
 -- ── at a term that stands there ──
 -- a term that is gone into: its arguments, and that they have its factors
-pub record GoneInto (slots s : List ℕ) (at : ℕ) (minus m : Bool) (c next : ℕ) (t : Term) : Type 0 where
+pub record GoneInto (arities src : List ℕ) (at : ℕ) (minus m : Bool) (c next : ℕ) (t : Term) : Type 0 where
   pub args : Terms
-  pub laid : Laid slots s next args
+  pub laid : Laid arities src next args
   pub many : count args ≡ c
   pub ends : next + length (encodes args) ≡ at + length (encode t)
   pub after : at < next
   pub fewer : symbolss args ≤ symbols t
   pub same : (l : Exps) → pour minus t l ≡ pours m args l
 
-module _ {slots s : List ℕ} {at e : ℕ} (minus : Bool) where
+module _ {arities src : List ℕ} {at e : ℕ} (minus : Bool) where
   -- what the walk does at a term
-  way-leaf : (k : _) (n : ℕ) → OneAt slots s at e (leaf k n) → wayOf minus (symbolAt s slots at) ≡ way.Factor
-  way-leaf k n O = ap (wayOf minus) (symbol-of-leaf s slots k n at (drop e s) (O .range) (O .there .there))
+  way-leaf : (k : _) (n : ℕ) → OneAt arities src at e (leaf k n) → wayOf minus (symbolAt src arities at) ≡ way.Factor
+  way-leaf k n O = ap (wayOf minus) (symbol-of-leaf src arities k n at (drop e src) (O .range) (O .there .there))
 
   way-app :
-      (f : ℕ) (ts : Terms) → OneAt slots s at e (app f ts)
-      → wayOf minus (symbolAt s slots at) ≡ wayAt minus f (count ts) (at + length (groups f))
+      (f : ℕ) (ts : Terms) → OneAt arities src at e (app f ts)
+      → wayOf minus (symbolAt src arities at) ≡ wayAt minus f (count ts) (at + length (groups f))
   way-app f ts O =
-      ap (wayOf minus) (symbol-of-app s slots f ts at (drop e s) (O .formed .0) (O .range .0) (O .there .there))
+      ap (wayOf minus) (symbol-of-app src arities f ts at (drop e src) (O .formed .0) (O .range .0) (O .there .there))
 
   -- ── it is gone into ──
   module _ (m : Bool) (c next : ℕ) where
     entered-at :
-        (f : ℕ) (ts : Terms) (w : Bool) → OneAt slots s at e (app f ts) → ((l : Exps) → pour minus (app f ts) l ≡ pours w ts l)
-        → way.Into w (count ts) (at + length (groups f)) ≡ way.Into m c next → GoneInto slots s at minus m c next (app f ts)
+        (f : ℕ) (ts : Terms) (w : Bool) → OneAt arities src at e (app f ts) → ((l : Exps) → pour minus (app f ts) l ≡ pours w ts l)
+        → way.Into w (count ts) (at + length (groups f)) ≡ way.Into m c next → GoneInto arities src at minus m c next (app f ts)
     entered-at f ts w O same h =
         let a : at + length (groups f) ≡ next = cc in
         let b : w ≡ m = cc in
         record {
           args = ts;
-          laid = subst (λ (n : ℕ). Laid slots s n ts) a (args-of O);
+          laid = subst (λ (n : ℕ). Laid arities src n ts) a (args-of O);
           many = cc;
           ends = omega (arith, length-append (groups f) (encodes ts));
           after = omega (arith, groups-some f);
@@ -75,7 +75,7 @@ module _ {slots s : List ℕ} {at e : ℕ} (minus : Bool) where
           same = λ l. same l ∙ ap (λ (x : Bool). pours x ts l) b;
         }
 
-    pub way-into : (t : Term) → OneAt slots s at e t → wayOf minus (symbolAt s slots at) ≡ way.Into m c next → GoneInto slots s at minus m c next t
+    pub way-into : (t : Term) → OneAt arities src at e t → wayOf minus (symbolAt src arities at) ≡ way.Into m c next → GoneInto arities src at minus m c next t
     way-into (leaf k n) O h = let z : way.Factor ≡ way.Into m c next = sym (way-leaf k n O) ∙ h in clash (cc)
     way-into (app f ts) O h =
         cut-eq _ _ _ f 3 (sym (way-app f ts O) ∙ h)
@@ -88,7 +88,7 @@ module _ {slots s : List ℕ} {at e : ℕ} (minus : Bool) where
 
   -- ── it is a factor ──
   pub way-factor :
-      (t : Term) → OneAt slots s at e t → wayOf minus (symbolAt s slots at) ≡ way.Factor
+      (t : Term) → OneAt arities src at e t → wayOf minus (symbolAt src arities at) ≡ way.Factor
       → (l : Exps) → pour minus t l ≡ enter t (sign minus) l
   unfolding pour
   way-factor (leaf k n) O h l = refl

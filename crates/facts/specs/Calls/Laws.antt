@@ -13,7 +13,7 @@ use Rattle.number.specs.Reading.{got, readNumber, many, below}
 use Rattle.term.specs.Term.{Term}
 use Rattle.term.specs.Reader.{term}
 use Rattle.message.specs.Substitution.{sub}
-use Rattle.protocol.specs.Protocol.{Fact, Rule, Protocol, part, noFact, fact}
+use Rattle.protocol.specs.Protocol.{Fact, Rule, Protocol, listOf, noFact, fact}
 use Rattle.protocol.specs.Protocol.Walks.{sortsAt}
 use Rattle.protocol.specs.Places.{Here, listPlace, factPlace, valueOf}
 use Rattle.protocol.specs.Places.Laws.{symbol-law}
@@ -31,10 +31,10 @@ use Rattle.facts.specs.declared.writing.Wanted.{Wanted}
 use Rattle.facts.specs.declared.writing.Wanted.the-variants as want
 use Rattle.facts.specs.Writing.{Has, FactJob, WantedJob}
 use Rattle.facts.specs.Writing.Nodes.{node-job}
-use Rattle.facts.specs.declared.nodes.Place.{Place}
-use Rattle.facts.specs.declared.nodes.Form.{Form}
+use Rattle.facts.specs.declared.nodes.FactId.{FactId}
+use Rattle.facts.specs.declared.nodes.WrittenFact.{WrittenFact}
 use Rattle.facts.specs.Rules.{part-fact, facts-counted, fact-filled}
-use Rattle.facts.specs.Calls.{factAt, ruleFact, Room, FactOf, FactFrom, RuleFact, Written}
+use Rattle.facts.specs.Calls.{factAt, ruleFact, Room, FactOf, FactFrom, RuleFact, FactWritten}
 
 -- ── filled in one by one ──
 has-filled : (q : Wanted) (vs : List Term) (f : Fact) → Has q (filledFact vs f) → Has q f
@@ -42,86 +42,87 @@ has-filled want.All vs f h = tt
 has-filled (want.One x) vs f h = omega (arith, length-map (f .terms) (sub (valueAt vs)))
 
 -- ── a node whose rule was found ──
-module _ (p : Protocol) (s : List ℕ) (number at w i : ℕ) (q : Wanted) (x : Node) (e : ℕ) (from : FactFrom p s number at w i q x e) (u : Rule)
+module _ (p : Protocol) (file : List ℕ) (number at list i : ℕ) (q : Wanted) (x : Node) (e : ℕ) (from : FactFrom p file number at list i q x e) (u : Rule)
     (is : ruleOf p number ≡ some u) where
   known : ruleOf p (x .rule) ≡ some u
   known = ap (ruleOf p) (from .from .is-number) ∙ is
 
-  pub fact-is : ruleFact (x .values) w i u ≡ factAt p w i x
-  fact-is = sym (fact-filled p x u known w i (from .listed))
+  pub fact-is : ruleFact (x .values) list i u ≡ factAt p list i x
+  fact-is = sym (fact-filled p x u known list i (from .listed))
 
-module _ {file table rules : List ℕ} {nr : ℕ} {p : Protocol} (index : IndexOf file table rules nr p) (ars s : List ℕ) (bytes : Bytes s)
-    (number at w i : ℕ) (q : Wanted) (x : Node) (e : ℕ) (from : FactFrom p s number at w i q x e) (u : Rule) (is : ruleOf p number ≡ some u) where
+module _ {protocol table rules : List ℕ} {nr : ℕ} {p : Protocol} (index : IndexOf protocol table rules nr p) (ars file : List ℕ) (bytes : Bytes file)
+    (number at list i : ℕ) (q : Wanted) (x : Node) (e : ℕ) (from : FactFrom p file number at list i q x e) (u : Rule) (is : ruleOf p number ≡ some u) where
   abbrev Jobs : List ℕ → ℕ → ℕ → Rule → Type 0
   Jobs src n o v =
-      (starts : List ℕ) (f : ℕ) → Placed (term s table) noTerm starts (x .values) (length (v .sorts)) → length (v .sorts) ≤ length starts
-      → Here (fact src table ars) (getD (part w v) i noFact) f → FactJob table ars s starts src f n o (x .values) (getD (part w v) i noFact)
+      (starts : List ℕ) (f : ℕ) → Placed (term file table) noTerm starts (x .values) (length (v .sorts)) → length (v .sorts) ≤ length starts
+      → Here (fact src table ars) (getD (listOf list v) i noFact) f → FactJob table ars file starts src f n o (x .values) (getD (listOf list v) i noFact)
 
   pub rule-fact :
-      (out src : List ℕ) (place o : ℕ) → Room out o → Bytes src → length src ≤ longest → FillsRule table ars s src place at u (x .values) e
-      → RuleFact table ars s src place at (length out) o w i q u (x .values) e
+      (out src : List ℕ) (place o : ℕ) → Room out o → Bytes src → length src ≤ longest → FillsRule table ars file src place at u (x .values) e
+      → RuleFact table ars file src place at (length out) o list i q u (x .values) e
   rule-fact out src place o room bsrc short fills = record {
     fills = fills;
     short = short;
-    inside = omega (arith, from .listed, facts-counted p x u (known p s number at w i q x e from u is) w);
-    has = has-filled q (x .values) (getD (part w u) i noFact) (subst (Has q) (sym (fact-is p s number at w i q x e from u is)) (from .has));
+    inside = omega (arith, from .listed, facts-counted p x u (known p file number at list i q x e from u is) list);
+    has = has-filled q (x .values) (getD (listOf list u) i noFact) (subst (Has q) (sym (fact-is p file number at list i q x e from u is)) (from .has));
     job =
-        subst (Jobs src (length out) o) (Option·some-injective (from .within .is) u (sym (from .within .known) ∙ known p s number at w i q x e from u is))
+        subst (Jobs src (length out) o) (Option·some-injective (from .within .is) u (sym (from .within .known) ∙ known p file number at list i q x e from u is))
         (λ starts f placed many here.
-        node-job p (index-within index) x (from .within) (from .right) table ars s starts src f w i (length out) o (index-slots index)
+        node-job p (index-within index) x (from .within) (from .right) table ars file starts src f list i (length out) o (index-slots index)
         bytes bsrc placed here many (from .short) short (room .enough) (room .short));
   }
 
 -- ── a rule at a place, and the places of a node's values ──
-module _ {table ars s src : List ℕ} {place at n o w i : ℕ} {q : Wanted} {u : Rule} {vs : List Term} {e : ℕ}
-    (r : RuleFact table ars s src place at n o w i q u vs e) where
+module _ {table ars file src : List ℕ} {place at n o list i : ℕ} {q : Wanted} {u : Rule} {vs : List Term} {e : ℕ}
+    (r : RuleFact table ars file src place at n o list i q u vs e) where
   -- the values have places enough
-  pub values-few : (k : ℕ) → k ≡ valueOf (sortsAt src place) → (length s ≤ longest) × (k ≤ mostVariables)
+  pub values-few : (k : ℕ) → k ≡ valueOf (sortsAt src place) → (length file ≤ longest) × (k ≤ mostVariables)
   values-few k h = (r .fills .is .short, omega (arith, h, count-here (r .fills .is), r .fills .is .few))
 
-  module _ (list f : ℕ) (hl : list ≡ listPlace src table ars place w) (hf : f ≡ factPlace src table ars list i) where
-    fact-here : Here (fact src table ars) (getD (part w u) i noFact) f
-    fact-here = part-fact src table ars place u (r .fills .here) w i list f (r .inside) hl hf
+  module _ (start f : ℕ) (hl : start ≡ listPlace src table ars place list) (hf : f ≡ factPlace src table ars start i) where
+    fact-here : Here (fact src table ars) (getD (listOf list u) i noFact) f
+    fact-here = part-fact src table ars place u (r .fills .here) list i start f (r .inside) hl hf
 
     module _ (k : ℕ) (counted : k ≡ valueOf (sortsAt src place)) (starts : List ℕ)
-        (told : (vs : List Term) (d : ℕ) → many (term s table) k at ≡ got vs d → Placed (term s table) noTerm starts vs k)
+        (told : (vs : List Term) (d : ℕ) → many (term file table) k at ≡ got vs d → Placed (term file table) noTerm starts vs k)
         (room : length starts ≡ mostVariables) where
       many-are : k ≡ length (u .sorts)
       many-are = counted ∙ count-here (r .fills .is)
 
-      fact-job : FactJob table ars s starts src f n o vs (getD (part w u) i noFact)
+      fact-job : FactJob table ars file starts src f n o vs (getD (listOf list u) i noFact)
       fact-job =
           r .job starts f
-          (subst (λ (j : ℕ). Placed (term s table) noTerm starts vs j) many-are
-          (told vs e (ap (λ (j : ℕ). many (term s table) j at) many-are ∙ r .fills .is .reads)))
+          (subst (λ (j : ℕ). Placed (term file table) noTerm starts vs j) many-are
+          (told vs e (ap (λ (j : ℕ). many (term file table) j at) many-are ∙ r .fills .is .reads)))
           (omega (arith, room, r .fills .is .few)) fact-here
 
-      pub wanted-job : WantedJob table ars s starts src f n o q vs (getD (part w u) i noFact)
+      pub wanted-job : WantedJob table ars file starts src f n o q vs (getD (listOf list u) i noFact)
       wanted-job = record { job = fact-job; has = r .has }
 
-      pub wanted-ready : Asks₂ (WantedJob table ars s starts src f n o q)
-      wanted-ready = (vs, getD (part w u) i noFact, wanted-job)
+      pub wanted-ready : Asks₂ (WantedJob table ars file starts src f n o q)
+      wanted-ready = (vs, getD (listOf list u) i noFact, wanted-job)
 
-    pub symbol-is : (y : ℕ) → y ≡ valueOf (below src (length ars) f) → y ≡ ruleFact vs w i u .symbol
-    symbol-is y h = h ∙ symbol-law src table ars f (getD (part w u) i noFact) fact-here
+    pub symbol-is : (y : ℕ) → y ≡ valueOf (below src (length ars) f) → y ≡ ruleFact vs list i u .symbol
+    symbol-is y h = h ∙ symbol-law src table ars f (getD (listOf list u) i noFact) fact-here
 
-pub written-is : (q : Wanted) (out : List ℕ) (o : ℕ) (out′ : List ℕ) (r : Form) (f g : Fact) → f ≡ g → Written q out o out′ r f → Written q out o out′ r g
-written-is q out o out′ r f g same h = subst (Written q out o out′ r) same h
+pub written-is : (q : Wanted) (out : List ℕ) (o : ℕ) (out′ : List ℕ) (r : WrittenFact) (f g : Fact) → f ≡ g → FactWritten q out o out′ r f → FactWritten q out
+    o out′ r g
+written-is q out o out′ r f g same h = subst (FactWritten q out o out′ r) same h
 
 -- ── a node at its place ──
-pub fact-within : (p : Protocol) (s : List ℕ) → Bytes s → (a : Place) (q : Wanted) (x : Node) → FactOf p s a q x → NodeWithin p x
-fact-within p s bytes a q x f = node-exact p s bytes .form x (a .node) (f .here .next) (f .here .reads) .0
+pub fact-within : (p : Protocol) (file : List ℕ) → Bytes file → (a : FactId) (q : Wanted) (x : Node) → FactOf p file a q x → NodeWithin p x
+fact-within p file bytes a q x f = node-exact p file bytes .form x (a .node) (f .here .next) (f .here .reads) .0
 
 -- its rule number was read
 pub fact-read :
-    (p : Protocol) (s : List ℕ) → Bytes s → length s ≤ longest → (a : Place) (q : Wanted) (number at : ℕ) (x : Node)
-    → readNumber s (a .node) ≡ got number at → FactOf p s a q x → (e : ℕ) × FactFrom p s number at (a .part) (a .number) q x e
-fact-read p s bytes short a q number at x h f =
-    let (e, g) = node-from p s (a .node) number at x h (f .here) in (
+    (p : Protocol) (file : List ℕ) → Bytes file → length file ≤ longest → (a : FactId) (q : Wanted) (number at : ℕ) (x : Node)
+    → readNumber file (a .node) ≡ got number at → FactOf p file a q x → (e : ℕ) × FactFrom p file number at (a .list) (a .number) q x e
+fact-read p file bytes short a q number at x h f =
+    let (e, g) = node-from p file (a .node) number at x h (f .here) in (
       e,
       record {
         from = g;
-        within = fact-within p s bytes a q x f;
+        within = fact-within p file bytes a q x f;
         right = f .right;
         listed = f .listed;
         has = f .has;

@@ -7,7 +7,7 @@ use mathlib.Core.Path.{_≡_}
 use Rattle.octets.specs.Head.{Bytes}
 use Rattle.lists.specs.All.{All}
 use Rattle.term.specs.Term.{public, leaf, Formed}
-use Rattle.term.specs.Arity.{arity, slots}
+use Rattle.term.specs.Arity.{arity, tagArities}
 use Rattle.message.specs.Promise.{Message, SameMessage, publicName}
 use Rattle.message.specs.Substitution.{Ground}
 use Rattle.message.specs.Theorems.{declared}
@@ -20,51 +20,51 @@ use Rattle.steps.specs.Facts.Formed.{FactFormed, facts-formed, formed-decides, 
 use Rattle.steps.specs.Facts.Laws.{term-decides}
 use Rattle.steps.specs.Values.Parts.{noTerm}
 use Rattle.facts.specs.declared.writing.Wanted.{Wanted}
-use Rattle.facts.specs.declared.nodes.Place.{Place}
+use Rattle.facts.specs.declared.nodes.FactId.{FactId}
 use Rattle.facts.specs.Writing.Nodes.{node-ground}
 use Rattle.facts.specs.Calls.{factAt, argumentAt, FactOf, WholeFact, OneOf}
 use Rattle.facts.specs.Calls.Laws.{fact-within}
 
-module _ (p : Protocol) (s : List ℕ) (fit : Within p) (bytes : Bytes s) where
-  module _ (a : Place) (q : Wanted) (x : Node) (f : FactOf p s a q x) where
+module _ (p : Protocol) (file : List ℕ) (fit : Within p) (bytes : Bytes file) where
+  module _ (a : FactId) (q : Wanted) (x : Node) (f : FactOf p file a q x) where
     within : NodeWithin p x
-    within = fact-within p s bytes a q x f
+    within = fact-within p file bytes a q x f
 
-    pub fact-of-formed : FactFormed p (factAt p (a .part) (a .number) x)
-    fact-of-formed = all-inside (FactFormed p) noFact (factsOf p (a .part) x) (facts-formed p fit x within (a .part)) (a .number) (f .listed)
+    pub fact-of-formed : FactFormed p (factAt p (a .list) (a .number) x)
+    fact-of-formed = all-inside (FactFormed p) noFact (factsOf p (a .list) x) (facts-formed p fit x within (a .list)) (a .number) (f .listed)
 
-    pub fact-of-ground : All Ground (factAt p (a .part) (a .number) x .terms)
+    pub fact-of-ground : All Ground (factAt p (a .list) (a .number) x .terms)
     fact-of-ground =
-        all-inside (λ (g : Fact). All Ground (g .terms)) noFact (factsOf p (a .part) x)
-        (facts-ground p fit x within (node-ground p fit x within (f .right)) (a .part)) (a .number) (f .listed)
+        all-inside (λ (g : Fact). All Ground (g .terms)) noFact (factsOf p (a .list) x)
+        (facts-ground p fit x within (node-ground p fit x within (f .right)) (a .list)) (a .number) (f .listed)
 
   -- an argument is a message
-  abbrev pub argument : (a : Place) (j : ℕ) (x : Node) → OneOf p s a j x → Message (arity (slots (p .functions)))
+  abbrev pub argument : (a : FactId) (j : ℕ) (x : Node) → OneOf p file a j x → Message (arity (tagArities (p .functions)))
   argument a j x f = record {
-    term = argumentAt p (a .part) (a .number) j x;
+    term = argumentAt p (a .list) (a .number) j x;
     formed =
-        all-inside (Formed (arity (slots (p .functions)))) noTerm (factAt p (a .part) (a .number) x .terms) (fact-of-formed a _ x f .each) j (f .has);
-    ground = all-inside Ground noTerm (factAt p (a .part) (a .number) x .terms) (fact-of-ground a _ x f) j (f .has);
+        all-inside (Formed (arity (tagArities (p .functions)))) noTerm (factAt p (a .list) (a .number) x .terms) (fact-of-formed a _ x f .each) j (f .has);
+    ground = all-inside Ground noTerm (factAt p (a .list) (a .number) x .terms) (fact-of-ground a _ x f) j (f .has);
   }
 
   -- ── "equal facts count as the same fact" ──
   pub same-fact-means :
-      (a b : Place) (x y : Node) → WholeFact p s a x → WholeFact p s b y
-      → (sameFact (factAt p (a .part) (a .number) x) (factAt p (b .part) (b .number) y) ≡ true)
-      ↔ SameFact (arity (slots (p .functions))) (factAt p (a .part) (a .number) x) (factAt p (b .part) (b .number) y)
+      (a b : FactId) (x y : Node) → WholeFact p file a x → WholeFact p file b y
+      → (sameFact (factAt p (a .list) (a .number) x) (factAt p (b .list) (b .number) y) ≡ true)
+      ↔ SameFact (arity (tagArities (p .functions))) (factAt p (a .list) (a .number) x) (factAt p (b .list) (b .number) y)
   same-fact-means a b x y f g = formed-decides p fit _ _ (fact-of-formed a _ x f) (fact-of-formed b _ y g)
 
   -- ── "Two messages count as equal exactly when the paper's ten equations make them equal" ──
   pub same-argument-means :
-      (a : Place) (i : ℕ) (x : Node) (f : OneOf p s a i x) (b : Place) (j : ℕ) (y : Node) (g : OneOf p s b j y)
-      → (sameTerm (argumentAt p (a .part) (a .number) i x) (argumentAt p (b .part) (b .number) j y) ≡ true)
-      ↔ SameMessage (arity (slots (p .functions))) (argument a i x f) (argument b j y g)
+      (a : FactId) (i : ℕ) (x : Node) (f : OneOf p file a i x) (b : FactId) (j : ℕ) (y : Node) (g : OneOf p file b j y)
+      → (sameTerm (argumentAt p (a .list) (a .number) i x) (argumentAt p (b .list) (b .number) j y) ≡ true)
+      ↔ SameMessage (arity (tagArities (p .functions))) (argument a i x f) (argument b j y g)
   same-argument-means a i x f b j y g =
-      term-decides (arity (slots (p .functions))) (declared (p .functions)) _ _ (argument a i x f .formed) (argument b j y g .formed)
+      term-decides (arity (tagArities (p .functions))) (declared (p .functions)) _ _ (argument a i x f .formed) (argument b j y g .formed)
 
   pub is-public-means :
-      (a : Place) (i : ℕ) (x : Node) (f : OneOf p s a i x) (n : ℕ)
-      → (sameTerm (argumentAt p (a .part) (a .number) i x) (leaf public n) ≡ true)
-      ↔ SameMessage (arity (slots (p .functions))) (argument a i x f) (publicName (arity (slots (p .functions))) n)
+      (a : FactId) (i : ℕ) (x : Node) (f : OneOf p file a i x) (n : ℕ)
+      → (sameTerm (argumentAt p (a .list) (a .number) i x) (leaf public n) ≡ true)
+      ↔ SameMessage (arity (tagArities (p .functions))) (argument a i x f) (publicName (arity (tagArities (p .functions))) n)
   is-public-means a i x f n =
-      term-decides (arity (slots (p .functions))) (declared (p .functions)) _ _ (argument a i x f .formed) tt
+      term-decides (arity (tagArities (p .functions))) (declared (p .functions)) _ _ (argument a i x f .formed) tt

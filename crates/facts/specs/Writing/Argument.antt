@@ -45,15 +45,15 @@ part-few θ (suc j) (t ∷ ts) l =
     let r = part-few θ j ts (omega arith) in
     omega (arith, r, length-append (encode (sub θ t)) (flat encode (map (sub θ) ts)))
 
-module _ (slots ars vals starts src : List ℕ) (place n o : ℕ) (bytes : Bytes src) (vs : List Term) (f : Fact)
-    (J : FactJob slots ars vals starts src place n o vs f) where
+module _ (arities ars vals starts src : List ℕ) (place n o : ℕ) (bytes : Bytes src) (vs : List Term) (f : Fact)
+    (J : FactJob arities ars vals starts src place n o vs f) where
   argument-job :
-      (x at : ℕ) → x < length (f .terms) → at ≡ termPlace src slots ars place x
-      → Job slots vals starts src at 1 n o (valueAt vs) (getD (f .terms) x noTerm & nil)
+      (x at : ℕ) → x < length (f .terms) → at ≡ termPlace src arities ars place x
+      → Job arities vals starts src at 1 n o (valueAt vs) (getD (f .terms) x noTerm & nil)
   argument-job x at l ha =
       let t : Term = getD (f .terms) x noTerm in
-      let (e, h) = term-there src slots ars bytes place f (J .here) x at l ha in
-      let g = term-form src slots bytes t at e h in
+      let (e, h) = term-there src arities ars bytes place f (J .here) x at l ha in
+      let g = term-form src arities bytes t at e h in
       let few = part-few (valueAt vs) x (f .terms) l in
       let same = ap length (append-nil (encode (sub (valueAt vs) t))) in
       record {
@@ -74,40 +74,40 @@ module _ (slots ars vals starts src : List ℕ) (place n o : ℕ) (bytes : Bytes
   argument-few x l =
       let us : List Term = filledFact vs f .terms in
       let m : x < length us = omega (arith, length-map (f .terms) (sub (valueAt vs))) in
-      let b = fewer-bytes (arity slots) (group slots (J .table)) (getD us x noTerm)
-      (all-inside (Formed (arity slots)) noTerm us (job-formed slots ars vals starts src place n o bytes vs f J) x m) in
+      let b = fewer-bytes (arity arities) (group arities (J .table)) (getD us x noTerm)
+      (all-inside (Formed (arity arities)) noTerm us (job-formed arities ars vals starts src place n o bytes vs f J) x m) in
       let c = part-few (valueAt vs) x (f .terms) l in
       omega (arith, b, c, J .few, ap (λ (t : Term). length (encode t)) (sym (map-at (sub (valueAt vs)) (f .terms) x noTerm noTerm l)))
 
-module _ (slots ars vals starts src : List ℕ) (place : ℕ) (bytes : Bytes src) (x at : ℕ) (ha : at ≡ termPlace src slots ars place x) where
-  pub argument-ready : (n o : ℕ) → Asks₂ (WantedJob slots ars vals starts src place n o (want.One x)) → Asks₂ (Job slots vals starts src at 1 n o)
+module _ (arities ars vals starts src : List ℕ) (place : ℕ) (bytes : Bytes src) (x at : ℕ) (ha : at ≡ termPlace src arities ars place x) where
+  pub argument-ready : (n o : ℕ) → Asks₂ (WantedJob arities ars vals starts src place n o (want.One x)) → Asks₂ (Job arities vals starts src at 1 n o)
   argument-ready n o r = (
     valueAt (r .0),
     getD (r .1 .terms) x noTerm & nil,
-    argument-job slots ars vals starts src place n o bytes (r .0) (r .1) (r .2 .job) x at (r .2 .has) ha,
+    argument-job arities ars vals starts src place n o bytes (r .0) (r .1) (r .2 .job) x at (r .2 .has) ha,
   )
 
   pub argument-done :
-      (out out′ : List ℕ) (o at′ o′ : ℕ) → Promises₂ (Job slots vals starts src at 1 (length out) o)
+      (out out′ : List ℕ) (o at′ o′ : ℕ) → Promises₂ (Job arities vals starts src at 1 (length out) o)
       (λ (θ : ℕ → Term) (ts : Terms). Out (o + length (encodes (subs θ ts))) at out o out′ at′ o′ (encodes ts) (encodes (filleds θ ts)))
-      → Promises₂ (WantedJob slots ars vals starts src place (length out) o (want.One x))
+      → Promises₂ (WantedJob arities ars vals starts src place (length out) o (want.One x))
       (λ (vs : List Term) (f : Fact). Put out o out′ o′ (wantedBytes (want.One x) (filledFact vs f)))
   argument-done out out′ o at′ o′ done vs f w =
       let J = w .job in
       let l : x < length (f .terms) = w .has in
       let t : Term = getD (f .terms) x noTerm in
-      let j = argument-job slots ars vals starts src place (length out) o bytes vs f J x at l ha in
+      let j = argument-job arities ars vals starts src place (length out) o bytes vs f J x at l ha in
       let e : sub (valueAt vs) t ≡ getD (filledFact vs f .terms) x noTerm = sym (map-at (sub (valueAt vs)) (f .terms) x noTerm noTerm l) in
       record {
         wrote =
             widen (o + factRoom) (omega (arith, J .few, part-few (valueAt vs) x (f .terms) l, ap length (append-nil (encode (sub (valueAt vs) t)))))
             (subst (λ (q : List ℕ). Wrote (o + length (encodes (subs (valueAt vs) (t & nil)))) out o out′ o′ q)
-            (written-canons slots vals starts src at 1 (length out) o (valueAt vs) (t & nil) j ∙ ap (λ (u : Term). encode (canon u) ++ []) e)
+            (written-canons arities vals starts src at 1 (length out) o (valueAt vs) (t & nil) j ∙ ap (λ (u : Term). encode (canon u) ++ []) e)
             (done (valueAt vs) (t & nil) j .wrote));
         few =
             omega (
               arith,
-              argument-few slots ars vals starts src place (length out) o bytes vs f J x l,
+              argument-few arities ars vals starts src place (length out) o bytes vs f J x l,
               ap length (append-nil (encode (canon (getD (filledFact vs f .terms) x noTerm)))),
             );
       }

@@ -35,54 +35,54 @@ use Rattle.steps.specs.Values.Parts.{noTerm}
 
 -- ── the variables of a fact's terms ──
 all-below :
-    (slots : List ℕ) (k v : ℕ) (ts : List Term) → All (TermWithin slots) ts → All (λ t. holds t 0 k numberLimit ≡ false) ts
+    (arities : List ℕ) (k v : ℕ) (ts : List Term) → All (TermWithin arities) ts → All (λ t. holds t 0 k numberLimit ≡ false) ts
     → Occurss variable v (terms ts) → v < k
-all-below slots k v [] a b o = absurd o
-all-below slots k v (t ∷ ts) a b o =
-    ⊎-elim (λ q. occurs-below variable t v k (a .0 .range) (b .0) q) (λ q. all-below slots k v ts (a .1) (b .1) q) o
+all-below arities k v [] a b o = absurd o
+all-below arities k v (t ∷ ts) a b o =
+    ⊎-elim (λ q. occurs-below variable t v k (a .0 .range) (b .0) q) (λ q. all-below arities k v ts (a .1) (b .1) q) o
 
 -- ── the room that the terms take ──
 filled-few :
-    (slots : List ℕ) (θ : ℕ → Term) (ts : List Term) → All (TermWithin slots) ts → ((v : ℕ) → Occurss variable v (terms ts) → InRange (θ v))
+    (arities : List ℕ) (θ : ℕ → Term) (ts : List Term) → All (TermWithin arities) ts → ((v : ℕ) → Occurss variable v (terms ts) → InRange (θ v))
     → All (λ t. symbols (sub θ t) ≤ mostSymbols) ts → length (flat encode (map (sub θ) ts)) ≤ termRoom * length ts
-filled-few slots θ [] a h s = omega arith
-filled-few slots θ (t ∷ ts) a h s =
+filled-few arities θ [] a h file = omega arith
+filled-few arities θ (t ∷ ts) a h file =
     let b = bytes-few (sub θ t) (sub-range θ t (a .0 .range) (λ v o. h v (inl o))) in
-    let r = filled-few slots θ ts (a .1) (λ v o. h v (inr o)) (s .1) in
-    omega (arith, b, r, s .0, length-append (encode (sub θ t)) (flat encode (map (sub θ) ts)))
+    let r = filled-few arities θ ts (a .1) (λ v o. h v (inr o)) (file .1) in
+    omega (arith, b, r, file .0, length-append (encode (sub θ t)) (flat encode (map (sub θ) ts)))
 
 -- ── the values stand at their places, each its own canonical form ──
-pub record Valued (slots s starts : List ℕ) (vs : List Term) (k : ℕ) : Type 0 where
-  pub table : Builtins slots
-  pub bytes : Bytes s
-  pub short : length s ≤ longest
-  pub placed : Placed (term s slots) noTerm starts vs k
+pub record Valued (arities file starts : List ℕ) (vs : List Term) (k : ℕ) : Type 0 where
+  pub table : Builtins arities
+  pub bytes : Bytes file
+  pub short : length file ≤ longest
+  pub placed : Placed (term file arities) noTerm starts vs k
   pub many : k ≤ length starts
   pub own : All (λ t. canon t ≡ t) vs
 
 -- a fact of no other variables, its terms small enough filled in
-pub record Fillable (slots ars src : List ℕ) (place : ℕ) (vs : List Term) (k : ℕ) (f : Fact) : Type 0 where
+pub record Fillable (arities ars src : List ℕ) (place : ℕ) (vs : List Term) (k : ℕ) (f : Fact) : Type 0 where
   pub bytes : Bytes src
   pub short : length src ≤ longest
-  pub here : Here (fact src slots ars) f place
+  pub here : Here (fact src arities ars) f place
   pub bound : leafIn 0 k numberLimit f ≡ false
   pub few : length (f .terms) ≤ 8
   pub small : All (λ t. symbols (sub (valueAt vs) t) ≤ mostSymbols) (f .terms)
 
-module _ (slots ars s starts src : List ℕ) (place : ℕ) (vs : List Term) (k : ℕ) (f : Fact) (has : Valued slots s starts vs k)
-    (fits : Fillable slots ars src place vs k f) where
-  within : All (TermWithin slots) (f .terms)
-  within = fact-terms src slots ars place (fits .bytes) f (fits .here) .0
+module _ (arities ars file starts src : List ℕ) (place : ℕ) (vs : List Term) (k : ℕ) (f : Fact) (has : Valued arities file starts vs k)
+    (fits : Fillable arities ars src place vs k f) where
+  within : All (TermWithin arities) (f .terms)
+  within = fact-terms src arities ars place (fits .bytes) f (fits .here) .0
 
-  value-of : (v : ℕ) → Occurss variable v (terms (f .terms)) → Value slots s starts v (valueAt vs v)
+  value-of : (v : ℕ) → Occurss variable v (terms (f .terms)) → Value arities file starts v (valueAt vs v)
   value-of v o =
-      placed-value s slots starts vs k (has .bytes) (has .placed) (has .many) v
-      (all-below slots k v (f .terms) within (none-all (λ t. holds t 0 k numberLimit) (f .terms) (fits .bound)) o)
+      placed-value file arities starts vs k (has .bytes) (has .placed) (has .many) v
+      (all-below arities k v (f .terms) within (none-all (λ t. holds t 0 k numberLimit) (f .terms) (fits .bound)) o)
       (all-at (λ t. canon t ≡ t) (leaf variable v) refl vs (has .own) v)
 
-  pub fillable-job : (n o : ℕ) → o + factRoom ≤ n → n ≤ longest → FactJob slots ars s starts src place n o vs f
+  pub fillable-job : (n o : ℕ) → o + factRoom ≤ n → n ≤ longest → FactJob arities ars file starts src place n o vs f
   fillable-job n o room short =
-      let b = filled-few slots (valueAt vs) (f .terms) within (λ v q. value-of v q .range) (fits .small) in
+      let b = filled-few arities (valueAt vs) (f .terms) within (λ v q. value-of v q .range) (fits .small) in
       record {
         table = has .table;
         here = fits .here;

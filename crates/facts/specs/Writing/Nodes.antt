@@ -13,7 +13,7 @@ use Rattle.number.specs.Groups.{numberLimit}
 use Rattle.lists.specs.Lists.{anyBy, _∈_}
 use Rattle.lists.specs.All.{All}
 use Rattle.term.specs.Term.{Term, symbols}
-use Rattle.term.specs.Arity.{slots}
+use Rattle.term.specs.Arity.{tagArities}
 use Rattle.term.specs.Reader.{term}
 use Rattle.term.specs.Reader.Exact.{Good}
 use Rattle.lists.specs.Tests.{not-split}
@@ -22,7 +22,7 @@ use Rattle.message.specs.Substitution.{sub, Ground}
 use Rattle.message.specs.Canon.{canon}
 use Rattle.canonical.specs.Builtins.{Builtins, declared}
 use Rattle.canonical.specs.Contract.Laws.{own-canonical}
-use Rattle.protocol.specs.Protocol.{Fact, Rule, Own, Protocol, part, noFact, factArities, fact, leafIn}
+use Rattle.protocol.specs.Protocol.{Fact, Rule, Own, Protocol, listOf, noFact, factArities, fact, leafIn}
 use Rattle.protocol.specs.Protocol.Limits.{FactWithin, OwnWithin, RuleWithin, Within}
 use Rattle.protocol.specs.Places.{Here}
 use Rattle.protocol.specs.Index.{Placed}
@@ -51,13 +51,13 @@ each-sorted :
     → ((i sort : ℕ) (v : Term) → getElem? ss i ≡ some sort → getElem? vs i ≡ some v → P v) → All P vs
 each-sorted P ss [] n h = tt
 each-sorted P [] (v ∷ vs) n h = absurd (omega arith)
-each-sorted P (s ∷ ss) (v ∷ vs) n h = (h 0 s v refl refl, each-sorted P ss vs (omega arith) (λ i t u a c. h (suc i) t u a c))
+each-sorted P (file ∷ ss) (v ∷ vs) n h = (h 0 file v refl refl, each-sorted P ss vs (omega arith) (λ i t u a c. h (suc i) t u a c))
 
 module _ (p : Protocol) (fit : Within p) (x : Node) (b : NodeWithin p x) (r : NodeRight p x) where
   same-rule : r .is ≡ b .is
   same-rule = Option·some-injective (r .is) (b .is) (sym (r .known) ∙ b .known)
 
-  lawful : RuleWithin (slots (p .functions)) (factArities (p .symbols)) (b .is)
+  lawful : RuleWithin (tagArities (p .functions)) (factArities (p .symbols)) (b .is)
   lawful = rule-within p fit (x .rule) (b .is) (b .known)
 
   -- what holds of a value that fits holds of all its values
@@ -72,9 +72,9 @@ module _ (p : Protocol) (fit : Within p) (x : Node) (b : NodeWithin p x) (r : No
   -- they are their own canonical forms
   node-own : All (λ t. canon t ≡ t) (x .values)
   node-own =
-      all-map (λ t. Good (slots (p .functions)) t × Canonical t) (λ t. canon t ≡ t)
-      (λ t g. own-canonical (slots (p .functions)) (declared (p .functions)) t (g .0 .0) .1 (g .1)) (x .values)
-      (all-both (Good (slots (p .functions))) Canonical (x .values) (b .each) (node-fits Canonical (λ sort v f. f .canonical)))
+      all-map (λ t. Good (tagArities (p .functions)) t × Canonical t) (λ t. canon t ≡ t)
+      (λ t g. own-canonical (tagArities (p .functions)) (declared (p .functions)) t (g .0 .0) .1 (g .1)) (x .values)
+      (all-both (Good (tagArities (p .functions))) Canonical (x .values) (b .each) (node-fits Canonical (λ sort v f. f .canonical)))
 
   abbrev Small : Fact → Type 0
   Small f = All (λ t. symbols (sub (valueAt (x .values)) t) ≤ mostSymbols) (f .terms)
@@ -82,37 +82,37 @@ module _ (p : Protocol) (fit : Within p) (x : Node) (b : NodeWithin p x) (r : No
   abbrev Bound : Fact → Type 0
   Bound f = leafIn 0 (length (b .is .sorts)) numberLimit f ≡ false
 
-  node-small : All (All Small) (b .is .parts)
+  node-small : All (All Small) (b .is .lists)
   node-small =
-      each-member (All Small) (b .is .parts) (λ fs m. each-member Small fs (λ f k.
+      each-member (All Small) (b .is .lists) (λ fs m. each-member Small fs (λ f k.
       each-member (λ t. symbols (sub (valueAt (x .values)) t) ≤ mostSymbols) (f .terms) (λ t l.
-      r .small t (record { facts = fs; fact = f; of-rule = subst (λ (u : Rule). fs ∈ u .parts) (sym same-rule) m; of-facts = k; of-fact = l }))))
+      r .small t (record { facts = fs; fact = f; of-rule = subst (λ (u : Rule). fs ∈ u .lists) (sym same-rule) m; of-facts = k; of-fact = l }))))
 
-  node-bound : All (All Bound) (b .is .parts)
+  node-bound : All (All Bound) (b .is .lists)
   node-bound =
       all-map (λ fs. anyBy (leafIn 0 (length (b .is .sorts)) numberLimit) fs ≡ false) (All Bound)
-      (λ fs h. none-all (leafIn 0 (length (b .is .sorts)) numberLimit) fs h) (b .is .parts)
-      (none-all (anyBy (leafIn 0 (length (b .is .sorts)) numberLimit)) (b .is .parts) (not-split _ (lawful .bound)))
+      (λ fs h. none-all (leafIn 0 (length (b .is .sorts)) numberLimit) fs h) (b .is .lists)
+      (none-all (anyBy (leafIn 0 (length (b .is .sorts)) numberLimit)) (b .is .lists) (not-split _ (lawful .bound)))
 
-  node-few : (w : ℕ) → All (λ f. length (f .terms) ≤ 8) (part w (b .is))
+  node-few : (w : ℕ) → All (λ f. length (f .terms) ≤ 8) (listOf w (b .is))
   node-few w =
-      all-map (FactWithin (slots (p .functions)) (factArities (p .symbols))) (λ f. length (f .terms) ≤ 8)
-      (λ f q. omega (arith, q .takes, arities-few (p .symbols) (fit .symbols) (f .symbol))) (part w (b .is)) (part-within p (b .is) lawful w)
+      all-map (FactWithin (tagArities (p .functions)) (factArities (p .symbols))) (λ f. length (f .terms) ≤ 8)
+      (λ f q. omega (arith, q .takes, arities-few (p .symbols) (fit .symbols) (f .symbol))) (listOf w (b .is)) (part-within p (b .is) lawful w)
 
-  -- fact i of its list w, which stands at a place of src, can be written with its values, which stand at their places in s
+  -- fact i of its list w, which stands at a place of src, can be written with its values, which stand at their places in file
   pub node-job :
-      (table ars s starts src : List ℕ) (place w i n o : ℕ) → table ≡ slots (p .functions) → Bytes s → Bytes src
-      → Placed (term s table) noTerm starts (x .values) (length (b .is .sorts)) → Here (fact src table ars) (getD (part w (b .is)) i noFact) place
-      → length (b .is .sorts) ≤ length starts → length s ≤ longest → length src ≤ longest → o + factRoom ≤ n → n ≤ longest
-      → FactJob table ars s starts src place n o (x .values) (getD (part w (b .is)) i noFact)
-  node-job table ars s starts src place w i n o same bs bsrc placed here many short short-src room short-out =
-      fillable-job table ars s starts src place (x .values) (length (b .is .sorts)) (getD (part w (b .is)) i noFact)
+      (table ars file starts src : List ℕ) (place w i n o : ℕ) → table ≡ tagArities (p .functions) → Bytes file → Bytes src
+      → Placed (term file table) noTerm starts (x .values) (length (b .is .sorts)) → Here (fact src table ars) (getD (listOf w (b .is)) i noFact) place
+      → length (b .is .sorts) ≤ length starts → length file ≤ longest → length src ≤ longest → o + factRoom ≤ n → n ≤ longest
+      → FactJob table ars file starts src place n o (x .values) (getD (listOf w (b .is)) i noFact)
+  node-job table ars file starts src place w i n o same bs bsrc placed here many short short-src room short-out =
+      fillable-job table ars file starts src place (x .values) (length (b .is .sorts)) (getD (listOf w (b .is)) i noFact)
       (record { table = subst Builtins (sym same) (declared (p .functions)); bytes = bs; short = short; placed = placed; many = many; own = node-own })
       (record {
         bytes = bsrc;
         short = short-src;
         here = here;
-        bound = all-at Bound noFact refl (part w (b .is)) (all-at (All Bound) [] tt (b .is .parts) node-bound w) i;
-        few = all-at (λ f. length (f .terms) ≤ 8) noFact (omega arith) (part w (b .is)) (node-few w) i;
-        small = all-at Small noFact tt (part w (b .is)) (all-at (All Small) [] tt (b .is .parts) node-small w) i;
+        bound = all-at Bound noFact refl (listOf w (b .is)) (all-at (All Bound) [] tt (b .is .lists) node-bound w) i;
+        few = all-at (λ f. length (f .terms) ≤ 8) noFact (omega arith) (listOf w (b .is)) (node-few w) i;
+        small = all-at Small noFact tt (listOf w (b .is)) (all-at (All Small) [] tt (b .is .lists) node-small w) i;
       }) n o room short-out

@@ -33,10 +33,10 @@ ended-fault fault h = refl
 -- ── the values at their places ──
 -- a value that stands at its place and is its own canonical form is what canonical forms are filled in with
 pub placed-value :
-    (s slots starts : List ℕ) (vs : List Term) (k : ℕ) → Bytes s → Placed (term s slots) noTerm starts vs k → k ≤ length starts
-    → (v : ℕ) → v < k → canon (valueAt vs v) ≡ valueAt vs v → Value slots s starts v (valueAt vs v)
-placed-value s slots starts vs k bytes placed room v l own =
+    (file arities starts : List ℕ) (vs : List Term) (k : ℕ) → Bytes file → Placed (term file arities) noTerm starts vs k → k ≤ length starts
+    → (v : ℕ) → v < k → canon (valueAt vs v) ≡ valueAt vs v → Value arities file starts v (valueAt vs v)
+placed-value file arities starts vs k bytes placed room v l own =
     let h = placed .each v l in
     let same : getD vs v noTerm ≡ valueAt vs v = same-inside vs v noTerm (leaf variable v) (omega (arith, placed .count)) in
-    let f = term-form s slots bytes (valueAt vs v) (getD starts v 0) (h .next) (h .reads ∙ ap (λ (t : Term). got t (h .next)) same) in
-    record { listed = omega arith; rest = drop (h .next) s; there = f .1 .there; formed = f .0 .0; range = f .0 .1; own = own }
+    let f = term-form file arities bytes (valueAt vs v) (getD starts v 0) (h .next) (h .reads ∙ ap (λ (t : Term). got t (h .next)) same) in
+    record { listed = omega arith; rest = drop (h .next) file; there = f .1 .there; formed = f .0 .0; range = f .0 .1; own = own }

@@ -50,52 +50,52 @@ each-terms : (P : Term → Type 0) (ts : List Term) → All P ts → Each P (ter
 each-terms P [] a = tt
 each-terms P (t ∷ ts) a = (a .0, each-terms P ts (a .1))
 
-terms-good : (slots : List ℕ) (ts : List Term) → All (TermWithin slots) ts → Formeds (arity slots) (terms ts) × InRanges (terms ts)
-terms-good slots [] a = (tt, tt)
-terms-good slots (t ∷ ts) a = let r = terms-good slots ts (a .1) in ((a .0 .formed, r .0), (a .0 .range, r .1))
+terms-good : (arities : List ℕ) (ts : List Term) → All (TermWithin arities) ts → Formeds (arity arities) (terms ts) × InRanges (terms ts)
+terms-good arities [] a = (tt, tt)
+terms-good arities (t ∷ ts) a = let r = terms-good arities ts (a .1) in ((a .0 .formed, r .0), (a .0 .range, r .1))
 
 -- ── the terms of a fact that stands at a place ──
 pub fact-terms :
-    (src slots ars : List ℕ) (place : ℕ) (bytes : Bytes src) (f : Fact) (h : Here (fact src slots ars) f place)
-    → All (TermWithin slots) (f .terms) × Stands src (fact-fields src slots ars place f h .behind) (flat encode (f .terms)) (h .next)
-fact-terms src slots ars place bytes f h =
-    let x = fact-fields src slots ars place f h in
-    let m = many-form src (ruleTerm src slots) (TermWithin slots) encode (rule-term-exact src bytes slots .form)
+    (src arities ars : List ℕ) (place : ℕ) (bytes : Bytes src) (f : Fact) (h : Here (fact src arities ars) f place)
+    → All (TermWithin arities) (f .terms) × Stands src (fact-fields src arities ars place f h .behind) (flat encode (f .terms)) (h .next)
+fact-terms src arities ars place bytes f h =
+    let x = fact-fields src arities ars place f h in
+    let m = many-form src (ruleTerm src arities) (TermWithin arities) encode (rule-term-exact src bytes arities .form)
     (getD ars (f .symbol) 0) (f .terms) (x .behind) (h .next) (x .terms) in
     (m .0 .1, m .1)
 
 -- ── canonical forms take no more room ──
 pub filled-formed :
-    (slots : List ℕ) (θ : ℕ → Term) (ts : List Term) → All (TermWithin slots) ts → ((v : ℕ) → Occurss variable v (terms ts) → Formed (arity slots) (θ v))
-    → All (Formed (arity slots)) (map (sub θ) ts)
-filled-formed slots θ [] a h = tt
-filled-formed slots θ (t ∷ ts) a h =
-    (sub-formed (arity slots) θ t (a .0 .formed) (λ v o. h v (inl o)), filled-formed slots θ ts (a .1) (λ v o. h v (inr o)))
+    (arities : List ℕ) (θ : ℕ → Term) (ts : List Term) → All (TermWithin arities) ts → ((v : ℕ) → Occurss variable v (terms ts) → Formed (arity arities) (θ v))
+    → All (Formed (arity arities)) (map (sub θ) ts)
+filled-formed arities θ [] a h = tt
+filled-formed arities θ (t ∷ ts) a h =
+    (sub-formed (arity arities) θ t (a .0 .formed) (λ v o. h v (inl o)), filled-formed arities θ ts (a .1) (λ v o. h v (inr o)))
 
-canon-few : (slots : List ℕ) → Builtins slots → (ts : List Term) → All (Formed (arity slots)) ts → length (canonBytes ts) ≤ length (flat encode ts)
-canon-few slots table [] a = omega arith
-canon-few slots table (t ∷ ts) a =
-    let b = fewer-bytes (arity slots) (group slots table) t (a .0) in
-    let r = canon-few slots table ts (a .1) in
+canon-few : (arities : List ℕ) → Builtins arities → (ts : List Term) → All (Formed (arity arities)) ts → length (canonBytes ts) ≤ length (flat encode ts)
+canon-few arities table [] a = omega arith
+canon-few arities table (t ∷ ts) a =
+    let b = fewer-bytes (arity arities) (group arities table) t (a .0) in
+    let r = canon-few arities table ts (a .1) in
     omega (arith, b, r, length-append (encode t) (flat encode ts), length-append (encode (canon t)) (canonBytes ts))
 
 -- ── a fact's arguments are k terms at the place of the first ──
-module _ (slots ars vals starts src : List ℕ) (place n o : ℕ) (bytes : Bytes src) (vs : List Term) (f : Fact)
-    (J : FactJob slots ars vals starts src place n o vs f) where
-  first-place : termPlace src slots ars place 0 ≡ fact-fields src slots ars place f (J .here) .behind
+module _ (arities ars vals starts src : List ℕ) (place n o : ℕ) (bytes : Bytes src) (vs : List Term) (f : Fact)
+    (J : FactJob arities ars vals starts src place n o vs f) where
+  first-place : termPlace src arities ars place 0 ≡ fact-fields src arities ars place f (J .here) .behind
   unfolding termPlace many
   first-place =
-      ap (λ (r : Read ℕ). placeOf (andThen r (λ y e. many (ruleTerm src slots) 0 e))) (fact-fields src slots ars place f (J .here) .symbol)
+      ap (λ (r : Read ℕ). placeOf (andThen r (λ y e. many (ruleTerm src arities) 0 e))) (fact-fields src arities ars place f (J .here) .symbol)
 
   pub fact-job :
-      (y at k : ℕ) → y ≡ valueOf (below src (length ars) place) → k ≡ getD ars y 0 → at ≡ termPlace src slots ars place 0
-      → Job slots vals starts src at k n o (valueAt vs) (terms (f .terms))
+      (y at k : ℕ) → y ≡ valueOf (below src (length ars) place) → k ≡ getD ars y 0 → at ≡ termPlace src arities ars place 0
+      → Job arities vals starts src at k n o (valueAt vs) (terms (f .terms))
   fact-job y at k hy hk ha =
-      let m = fact-terms src slots ars place bytes f (J .here) in
-      let g = terms-good slots (f .terms) (m .0) in
+      let m = fact-terms src arities ars place bytes f (J .here) in
+      let g = terms-good arities (f .terms) (m .0) in
       record {
         table = J .table;
-        many = count-terms (f .terms) ∙ sym (terms-many src slots ars bytes place f (J .here) y hy) ∙ sym hk;
+        many = count-terms (f .terms) ∙ sym (terms-many src arities ars bytes place f (J .here) y hy) ∙ sym hk;
         formed = g .0;
         range = g .1;
         rest = drop (J .here .next) src;
@@ -109,44 +109,44 @@ module _ (slots ars vals starts src : List ℕ) (place n o : ℕ) (bytes : Bytes
         values-short = J .values-short;
       }
 
-  pub job-formed : All (Formed (arity slots)) (filledFact vs f .terms)
+  pub job-formed : All (Formed (arity arities)) (filledFact vs f .terms)
   job-formed =
-      filled-formed slots (valueAt vs) (f .terms) (fact-terms src slots ars place bytes f (J .here) .0) (λ v i. J .values v i .formed)
+      filled-formed arities (valueAt vs) (f .terms) (fact-terms src arities ars place bytes f (J .here) .0) (λ v i. J .values v i .formed)
 
   fact-few : length (canonBytes (filledFact vs f .terms)) ≤ factRoom
-  fact-few = omega (arith, J .few, canon-few slots (J .table) (filledFact vs f .terms) job-formed)
+  fact-few = omega (arith, J .few, canon-few arities (J .table) (filledFact vs f .terms) job-formed)
 
-module _ (slots ars vals starts src : List ℕ) (place : ℕ) (bytes : Bytes src) (y at k : ℕ)
-    (hy : y ≡ valueOf (below src (length ars) place)) (hk : k ≡ getD ars y 0) (ha : at ≡ termPlace src slots ars place 0) where
-  pub fact-ready : (n o : ℕ) → Asks₂ (WantedJob slots ars vals starts src place n o want.All) → Asks₂ (Job slots vals starts src at k n o)
-  fact-ready n o r = (valueAt (r .0), terms (r .1 .terms), fact-job slots ars vals starts src place n o bytes (r .0) (r .1) (r .2 .job) y at k hy hk ha)
+module _ (arities ars vals starts src : List ℕ) (place : ℕ) (bytes : Bytes src) (y at k : ℕ)
+    (hy : y ≡ valueOf (below src (length ars) place)) (hk : k ≡ getD ars y 0) (ha : at ≡ termPlace src arities ars place 0) where
+  pub fact-ready : (n o : ℕ) → Asks₂ (WantedJob arities ars vals starts src place n o want.All) → Asks₂ (Job arities vals starts src at k n o)
+  fact-ready n o r = (valueAt (r .0), terms (r .1 .terms), fact-job arities ars vals starts src place n o bytes (r .0) (r .1) (r .2 .job) y at k hy hk ha)
 
   pub fact-done :
-      (out out′ : List ℕ) (o at′ o′ : ℕ) → Promises₂ (Job slots vals starts src at k (length out) o)
+      (out out′ : List ℕ) (o at′ o′ : ℕ) → Promises₂ (Job arities vals starts src at k (length out) o)
       (λ (θ : ℕ → Term) (ts : Terms). Out (o + length (encodes (subs θ ts))) at out o out′ at′ o′ (encodes ts) (encodes (filleds θ ts)))
-      → Promises₂ (WantedJob slots ars vals starts src place (length out) o want.All)
+      → Promises₂ (WantedJob arities ars vals starts src place (length out) o want.All)
       (λ (vs : List Term) (f : Fact). Put out o out′ o′ (wantedBytes want.All (filledFact vs f)))
   fact-done out out′ o at′ o′ done vs f w =
       let J = w .job in
-      let j = fact-job slots ars vals starts src place (length out) o bytes vs f J y at k hy hk ha in
+      let j = fact-job arities ars vals starts src place (length out) o bytes vs f J y at k hy hk ha in
       record {
         wrote =
             widen (o + factRoom) (omega (arith, J .few))
             (subst₂ (λ (p q : List ℕ). Wrote (o + length p) out o out′ o′ q) (filled-bytes (valueAt vs) (f .terms))
-            (written-canons slots vals starts src at k (length out) o (valueAt vs) (terms (f .terms)) j ∙ canonical-bytes (valueAt vs) (f .terms))
+            (written-canons arities vals starts src at k (length out) o (valueAt vs) (terms (f .terms)) j ∙ canonical-bytes (valueAt vs) (f .terms))
             (done (valueAt vs) (terms (f .terms)) j .wrote));
-        few = fact-few slots ars vals starts src place (length out) o bytes vs f J;
+        few = fact-few arities ars vals starts src place (length out) o bytes vs f J;
       }
 
 -- ── by what is wanted ──
-module _ (slots ars vals starts src : List ℕ) (place : ℕ) (p q : Wanted) (same : p ≡ q) where
-  pub ready-as : (n o : ℕ) → Asks₂ (WantedJob slots ars vals starts src place n o p) → Asks₂ (WantedJob slots ars vals starts src place n o q)
-  ready-as n o h = subst (λ (w : Wanted). (Asks₂ (WantedJob slots ars vals starts src place n o w))) same h
+module _ (arities ars vals starts src : List ℕ) (place : ℕ) (p q : Wanted) (same : p ≡ q) where
+  pub ready-as : (n o : ℕ) → Asks₂ (WantedJob arities ars vals starts src place n o p) → Asks₂ (WantedJob arities ars vals starts src place n o q)
+  ready-as n o h = subst (λ (w : Wanted). (Asks₂ (WantedJob arities ars vals starts src place n o w))) same h
 
   pub done-as :
-      (out out′ : List ℕ) (o o′ : ℕ) → Promises₂ (WantedJob slots ars vals starts src place (length out) o q)
+      (out out′ : List ℕ) (o o′ : ℕ) → Promises₂ (WantedJob arities ars vals starts src place (length out) o q)
       (λ (vs : List Term) (f : Fact). Put out o out′ o′ (wantedBytes q (filledFact vs f)))
-      → Promises₂ (WantedJob slots ars vals starts src place (length out) o p) (λ (vs : List Term) (f : Fact). Put out o out′ o′
+      → Promises₂ (WantedJob arities ars vals starts src place (length out) o p) (λ (vs : List Term) (f : Fact). Put out o out′ o′
       (wantedBytes p (filledFact vs f)))
-  done-as out out′ o o′ h = subst (λ (w : Wanted). (Promises₂ (WantedJob slots ars vals starts src place (length out) o w)
+  done-as out out′ o o′ h = subst (λ (w : Wanted). (Promises₂ (WantedJob arities ars vals starts src place (length out) o w)
       (λ (vs : List Term) (f : Fact). Put out o out′ o′ (wantedBytes w (filledFact vs f))))) (sym same) h

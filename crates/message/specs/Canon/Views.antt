@@ -15,7 +15,7 @@ use Rattle.message.specs.Substitution.{sub, subs}
 use Rattle.message.specs.Substitution.Laws.{sub-agree, subs-agree}
 use Rattle.message.specs.Rules.{Rule, Ordinary}
 use Rattle.message.specs.Parts.{Role, plain, power, inverse, product, role}
-use Rattle.message.specs.Canon.{Two, not, two, twoOf, as2, on2, eqT, eqTs, orElse, find, finds, found, reduceAt}
+use Rattle.message.specs.Canon.{Binary, not, binary, twoOf, asBinary, onBinary, eqT, eqTs, orElse, find, finds, found, reduceAt}
 
 pub tag : {f g : ℕ} {ts us : Terms} → app f ts ≡ app g us → f ≡ g
 tag e = cc
@@ -55,31 +55,31 @@ ordinary-role f o = go f (role f) (roleOf f) o
     go f k (is-plain p) o = refl
 
 -- ── two arguments ──
-pub data As2 (f : ℕ) : Term → Two → Type 0 where
-  isTwo : (x y : Term) → As2 f (app f (x & (y & nil))) (two x y)
-  isNot : {t : Term} → ((x y : Term) → t ≢ app f (x & (y & nil))) → As2 f t not
+pub data AsBinary (f : ℕ) : Term → Binary → Type 0 where
+  isBinary : (x y : Term) → AsBinary f (app f (x & (y & nil))) (binary x y)
+  isNot : {t : Term} → ((x y : Term) → t ≢ app f (x & (y & nil))) → AsBinary f t not
 
-pub as2-view : (f : ℕ) (t : Term) → As2 f t (as2 f t)
-as2-view f (leaf s n) = isNot {t = leaf s n} (λ x y e. clash (cc))
-as2-view f (app g ts) = go (eqb g f) refl
+pub binary-view : (f : ℕ) (t : Term) → AsBinary f t (asBinary f t)
+binary-view f (leaf s n) = isNot {t = leaf s n} (λ x y e. clash (cc))
+binary-view f (app g ts) = go (eqb g f) refl
   where
-    shape : (us : Terms) → As2 f (app f us) (twoOf us)
+    shape : (us : Terms) → AsBinary f (app f us) (twoOf us)
     shape nil = isNot {t = app f nil} (λ x y e. clash (cc))
     shape (x & nil) = isNot {t = app f (x & nil)} (λ u v e. clash (cc))
-    shape (x & (y & nil)) = isTwo x y
+    shape (x & (y & nil)) = isBinary x y
     shape (x & (y & (z & us))) = isNot {t = app f (x & (y & (z & us)))} (λ u v e. clash (cc))
 
-    go : (t : Bool) → eqb g f ≡ t → As2 f (app g ts) (cond t (twoOf ts) not)
-    go true e = subst (λ (i : ℕ). As2 f (app i ts) (twoOf ts)) (sym (eqb-true g f e)) (shape ts)
+    go : (t : Bool) → eqb g f ≡ t → AsBinary f (app g ts) (cond t (twoOf ts) not)
+    go true e = subst (λ (i : ℕ). AsBinary f (app i ts) (twoOf ts)) (sym (eqb-true g f e)) (shape ts)
     go false e = isNot {t = app g ts} (λ x y q. eqb-false g f e (tag q))
 
-pub on2-ind :
+pub on-binary-ind :
     (P : Term → Type 0) (g : Term → Term → Term) (f : ℕ) (ts : Terms) → count ts ≡ 2 → ((x y : Term) → ts ≡ x & (y & nil) → P (g x y))
-    → P (on2 g f ts)
-on2-ind P g f nil c h = absurd (omega arith)
-on2-ind P g f (x & nil) c h = absurd (omega arith)
-on2-ind P g f (x & (y & nil)) c h = h x y refl
-on2-ind P g f (x & (y & (z & ts))) c h = absurd (omega arith)
+    → P (onBinary g f ts)
+on-binary-ind P g f nil c h = absurd (omega arith)
+on-binary-ind P g f (x & nil) c h = absurd (omega arith)
+on-binary-ind P g f (x & (y & nil)) c h = h x y refl
+on-binary-ind P g f (x & (y & (z & ts))) c h = absurd (omega arith)
 
 -- ── equality of terms, as a test ──
 mutual

@@ -20,8 +20,8 @@ use Rattle.message.specs.Parts.Coefficients.{at, coef, at-add, at-neg, k
 use Rattle.message.specs.Parts.Ascending.{order-flip, above-trans, above-keep, asc-keep, parts-asc, sums-asc}
 use Rattle.message.specs.Parts.Entries.{Entries, entries-keep}
 use Rattle.message.specs.Parts.Laws.{ext, formed-sums}
-use Rattle.message.specs.Canon.{Two, as2, baseOf, expoOf, raise, mkExp}
-use Rattle.message.specs.Canon.Views.{As2, isTwo, isNot, as2-view}
+use Rattle.message.specs.Canon.{Binary, asBinary, baseOf, expoOf, raise, applyExp}
+use Rattle.message.specs.Canon.Views.{AsBinary, isBinary, isNot, binary-view}
 use Rattle.message.specs.Gather.Laws.{pourAt-ind}
 use Rattle.message.specs.Gather.{enterAt, enter, sign, pourAt, pour, pours, gather, multiplied, any, powered, raised}
 
@@ -231,11 +231,11 @@ module _ (σ : Theory) where
       ap₂ (λ x y. pick (any x) (exp b (quotient x y)) (pick (any y) (exp b (quotient x y)) b)) u d
       ∙ raise-pick b (sums ts) (sums-asc ts)
 
-  raised-is : (y x : Term) (o : Two) → As2 10 x o → WF σ x → WF σ y → raised o x y ≡ raise (baseOf o x) (add (expoOf o) (parts y))
+  raised-is : (y x : Term) (o : Binary) → AsBinary 10 x o → WF σ x → WF σ y → raised o x y ≡ raise (baseOf o x) (add (expoOf o) (parts y))
   unfolding raised
   raised-is y x o (isNot n) w v = same-power x (y & nil) (v, tt) ∙ ap (raise x) (add-empty (parts y) (parts-asc y))
-  raised-is y x o (isTwo b z) w v =
+  raised-is y x o (isBinary b z) w v =
       same-power b (z & y & nil) (w .1 .1 .0, (v, tt)) ∙ ap (λ (l : Exps). raise b (add (parts z) l)) (add-empty (parts y) (parts-asc y))
 
-  pub same-exp : (x y : Term) → WF σ x → WF σ y → raised (as2 expTag x) x y ≡ mkExp x y
-  same-exp x y w v = raised-is y x (as2 expTag x) (as2-view expTag x) w v
+  pub same-exp : (x y : Term) → WF σ x → WF σ y → raised (asBinary expTag x) x y ≡ applyExp x y
+  same-exp x y w v = raised-is y x (asBinary expTag x) (binary-view expTag x) w v

@@ -33,7 +33,7 @@ read-groups-returns : (t : ℕ) → read-groups-lts.Need-returns (
   longer-reads.Learnt,
 ) (read-groups-at t) read-groups.Post
 read-groups-returns t c =
-    sym (now-none (c .before .before .args .left) (now (c .before .before .args .s)) (c .before .before .args .at) (c .if1 .taken))
+    sym (now-none (c .before .before .args .left) (now (c .before .before .args .file)) (c .before .before .args .at) (c .if1 .taken))
 
 read-groups-returns-2 : (t : ℕ) → read-groups-lts.Need-returns-2 (
   read-groups-below t,
@@ -43,7 +43,7 @@ read-groups-returns-2 : (t : ℕ) → read-groups-lts.Need-returns-2 (
 ) (read-groups-at t) read-groups.Post
 read-groups-returns-2 t c =
     let c3 = c .before .before .before in
-    sym (now-end (now (c3 .args .s)) (c3 .args .at) (c3 .args .left) (c .if2 .taken))
+    sym (now-end (now (c3 .args .file)) (c3 .args .at) (c3 .args .left) (c .if2 .taken))
 
 read-groups-shared-slice-read-b : (t : ℕ) → read-groups-lts.Need-shared-slice-read-b (
   read-groups-below t,
@@ -81,7 +81,7 @@ read-groups-returns-3 : (t : ℕ) → read-groups-lts.Need-returns-3 (
 read-groups-returns-3 t c =
     let c3 = c .before .before .before in
     let c5 = c3 .before .before in
-    sym (now-one (now (c5 .args .s)) (c5 .args .at) (c5 .args .left) (c3 .if1 .left) (omega arith) (c .if3 .taken))
+    sym (now-one (now (c5 .args .file)) (c5 .args .at) (c5 .args .left) (c3 .if1 .left) (omega arith) (c .if3 .taken))
 
 read-groups-add-read-groups : (t : ℕ) → read-groups-lts.Need-add-read-groups (
   read-groups-below t,
@@ -131,7 +131,7 @@ read-groups-longer-requires t c κs =
     let c5 = c4 .before in
     let c9 = c5 .before .before .before .before in (
       c4 .if3 .left,
-      in-small (now (c9 .args .s)) (λ i. omega (arith, c5 .shared-slice-known2 .given i)) (c9 .args .left - 1) (c9 .args .at + 1) _ _
+      in-small (now (c9 .args .file)) (λ i. omega (arith, c5 .shared-slice-known2 .given i)) (c9 .args .left - 1) (c9 .args .at + 1) _ _
           (omega arith) (sym (c3 .read-groups .ensures) ∙ ap asRead (c .before .v .given .1)),
     )
 
@@ -156,7 +156,7 @@ read-groups-returns-4 t c =
     let c8 = c5 .before .before .before in
     let c10 = c8 .before .before in
     let a = c10 .args in
-    c .longer .ensures ∙ sym (now-more (now (a .s)) (a .at) (a .left) (c8 .if1 .left) (omega arith) (c5 .if3 .left) ∙ ap (longer _)
+    c .longer .ensures ∙ sym (now-more (now (a .file)) (a .at) (a .left) (c8 .if1 .left) (omega arith) (c5 .if3 .left) ∙ ap (longer _)
     (sym (c4 .read-groups .ensures) ∙ ap asRead (c .before .before .v .given .1)))
 
 read-groups-returns-5 : (t : ℕ) → read-groups-lts.Need-returns-5 (
@@ -170,7 +170,7 @@ read-groups-returns-5 t c =
     let c6 = c3 .before .before .before in
     let c8 = c6 .before .before in
     let a = c8 .args in
-    sym (now-more (now (a .s)) (a .at) (a .left) (c6 .if1 .left) (omega arith) (c3 .if3 .left) ∙ ap (longer _)
+    sym (now-more (now (a .file)) (a .at) (a .left) (c6 .if1 .left) (omega arith) (c3 .if3 .left) ∙ ap (longer _)
     (sym (c .before .before .read-groups .ensures) ∙ ap asRead (c .enum-told .given .1)))
 
 pub +read-groups-spec : {M : Type 1} → statement M

@@ -19,7 +19,7 @@ returns : tie.Need-returns
 returns c =
     let c4 = c .before .before .before .before in
     let c6 = c4 .before .before in
-    sym (below-yes (now (c6 .args .s)) (c6 .args .n) (c6 .args .at) (sym (c4 .read-number .ensures) ∙ ap asRead (c .before .before .v .given .1))
+    sym (below-yes (now (c6 .args .file)) (c6 .args .n) (c6 .args .at) (sym (c4 .read-number .ensures) ∙ ap asRead (c .before .before .v .given .1))
     (c .if1 .taken))
 
 enum-told : tie.Need-enum-told
@@ -29,12 +29,13 @@ returns-2 : tie.Need-returns-2
 returns-2 c =
     let c4 = c .before .before .before .before in
     let c6 = c4 .before .before in
-    sym (below-no (now (c6 .args .s)) (c6 .args .n) (c6 .args .at) (sym (c4 .read-number .ensures) ∙ ap asRead (c .before .before .v .given .1)) (c .if1 .left))
+    sym (below-no (now (c6 .args .file)) (c6 .args .n) (c6 .args .at) (sym (c4 .read-number .ensures) ∙ ap asRead (c .before .before .v .given .1))
+    (c .if1 .left))
 
 returns-3 : tie.Need-returns-3
 returns-3 c =
     let c4 = c .before .before .before .before in
-    sym (below-none (now (c4 .args .s)) (c4 .args .n) (c4 .args .at) (sym (c .before .before .read-number .ensures) ∙ ap asRead (c .enum-told .given .1)))
+    sym (below-none (now (c4 .args .file)) (c4 .args .n) (c4 .args .at) (sym (c .before .before .read-number .ensures) ∙ ap asRead (c .enum-told .given .1)))
 
 pub below-spec : {M : Type 1} → statement M
 below-spec =

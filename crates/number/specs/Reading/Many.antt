@@ -154,11 +154,11 @@ module _ {A : Type 0} (p : ℕ → Read A) where
     unfolding many
     walk-none at = refl
 
-module _ {A : Type 0} (s : List ℕ) (p : ℕ → Read A) (limit at : ℕ) where
-  pub counted-got : (n e : ℕ) → below s (limit + 1) at ≡ got n e → counted s limit p at ≡ many p n e
+module _ {A : Type 0} (file : List ℕ) (p : ℕ → Read A) (limit at : ℕ) where
+  pub counted-got : (n e : ℕ) → below file (limit + 1) at ≡ got n e → counted file limit p at ≡ many p n e
   unfolding counted
-  counted-got n e h = then-got (below s (limit + 1) at) _ h
+  counted-got n e h = then-got (below file (limit + 1) at) _ h
 
-  pub counted-fault : below s (limit + 1) at ≡ fault → counted s limit p at ≡ fault
+  pub counted-fault : below file (limit + 1) at ≡ fault → counted file limit p at ≡ fault
   unfolding counted
-  counted-fault h = then-fault (below s (limit + 1) at) _ h
+  counted-fault h = then-fault (below file (limit + 1) at) _ h

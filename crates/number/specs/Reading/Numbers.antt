@@ -16,19 +16,19 @@ use Rattle.number.specs.Reading.{Read, got, fault, longer, readIn, readN
 use Rattle.number.specs.Reading.Laws.{cut-got, then-got, then-fault}
 
 -- ── readIn case by case: shared by the code's proof and the laws ──
-module _ (k : ℕ) (s : List ℕ) (at : ℕ) where
-  pub in-end : length s ≤ at → readIn (suc k) s at ≡ fault
+module _ (k : ℕ) (file : List ℕ) (at : ℕ) where
+  pub in-end : length file ≤ at → readIn (suc k) file at ≡ fault
   unfolding readIn
-  in-end h = simp (le-ltb at (length s) h)
+  in-end h = simp (le-ltb at (length file) h)
 
-  module _ (inside : at < length s) where
-    pub in-one : getD s at 0 < 128 → readIn (suc k) s at ≡ got (getD s at 0) (at + 1)
+  module _ (inside : at < length file) where
+    pub in-one : getD file at 0 < 128 → readIn (suc k) file at ≡ got (getD file at 0) (at + 1)
     unfolding readIn
-    in-one h = simp (lt-ltb at (length s) inside, lt-ltb (getD s at 0) 128 h)
+    in-one h = simp (lt-ltb at (length file) inside, lt-ltb (getD file at 0) 128 h)
 
-    pub in-more : 128 ≤ getD s at 0 → readIn (suc k) s at ≡ longer (getD s at 0) (readIn k s (at + 1))
+    pub in-more : 128 ≤ getD file at 0 → readIn (suc k) file at ≡ longer (getD file at 0) (readIn k file (at + 1))
     unfolding readIn
-    in-more h = simp (lt-ltb at (length s) inside, le-ltb (getD s at 0) 128 h)
+    in-more h = simp (lt-ltb at (length file) inside, le-ltb (getD file at 0) 128 h)
 
 pub longer-zero : (b v e : ℕ) → v ≡ 0 → longer b (got v e) ≡ fault
 longer-zero b v e h = simp (eq-eqb v 0 h)
@@ -37,64 +37,65 @@ pub longer-some : (b v e : ℕ) → (v ≡ 0 → ⊥) → longer b (got v e) ≡
 longer-some b v e h = simp (ne-eqb v 0 h)
 
 -- the same, as the code has it
-pub now-none : (k : ℕ) (s : List ℕ) (at : ℕ) → k ≡ 0 → readIn k s at ≡ fault
+pub now-none : (k : ℕ) (file : List ℕ) (at : ℕ) → k ≡ 0 → readIn k file at ≡ fault
 unfolding readIn
-now-none zero s at z = refl
-now-none (suc k) s at z = absurd (omega arith)
+now-none zero file at z = refl
+now-none (suc k) file at z = absurd (omega arith)
 
-module _ (s : List ℕ) (at : ℕ) where
-  pub now-end : (k : ℕ) → length s ≤ at → readIn k s at ≡ fault
-  now-end zero h = now-none zero s at refl
-  now-end (suc k) h = in-end k s at h
+module _ (file : List ℕ) (at : ℕ) where
+  pub now-end : (k : ℕ) → length file ≤ at → readIn k file at ≡ fault
+  now-end zero h = now-none zero file at refl
+  now-end (suc k) h = in-end k file at h
 
-  pub now-one : (k : ℕ) → (k ≡ 0 → ⊥) → at < length s → getD s at 0 < 128 → readIn k s at ≡ got (getD s at 0) (at + 1)
+  pub now-one : (k : ℕ) → (k ≡ 0 → ⊥) → at < length file → getD file at 0 < 128 → readIn k file at ≡ got (getD file at 0) (at + 1)
   now-one zero z inside h = absurd (z refl)
-  now-one (suc k) z inside h = in-one k s at inside h
+  now-one (suc k) z inside h = in-one k file at inside h
 
   pub now-more :
-      (k : ℕ) → (k ≡ 0 → ⊥) → at < length s → 128 ≤ getD s at 0
-      → readIn k s at ≡ longer (getD s at 0) (readIn (k - 1) s (at + 1))
+      (k : ℕ) → (k ≡ 0 → ⊥) → at < length file → 128 ≤ getD file at 0
+      → readIn k file at ≡ longer (getD file at 0) (readIn (k - 1) file (at + 1))
   now-more zero z inside h = absurd (z refl)
   now-more (suc k) z inside h =
       let e : suc k - 1 ≡ k = omega arith in
-      in-more k s at inside h ∙ ap (λ (j : ℕ). longer (getD s at 0) (readIn j s (at + 1))) (sym e)
+      in-more k file at inside h ∙ ap (λ (j : ℕ). longer (getD file at 0) (readIn j file (at + 1))) (sym e)
 
-pub number-in : (s : List ℕ) (at : ℕ) → readIn mostGroups s at ≡ readNumber s at
+pub number-in : (file : List ℕ) (at : ℕ) → readIn mostGroups file at ≡ readNumber file at
 unfolding readNumber
-number-in s at = refl
+number-in file at = refl
 
 -- ── what is written reads back ──
-module _ (n at : ℕ) (s rest : List ℕ) (e : drop at s ≡ groups n ++ rest) where
-  one-back : (k : ℕ) → n < 128 → readIn (suc k) s at ≡ got n (at + length (groups n))
+module _ (n at : ℕ) (file rest : List ℕ) (e : drop at file ≡ groups n ++ rest) where
+  one-back : (k : ℕ) → n < 128 → readIn (suc k) file at ≡ got n (at + length (groups n))
   one-back k h =
       let g = groups-one n h in
-      let p = head-at s at n rest (e ∙ ap (λ (q : List ℕ). q ++ rest) g) in
-      in-one k s at (p .inside) (rw (p .here) h) ∙ ap₂ got (p .here) (rw g)
+      let p = head-at file at n rest (e ∙ ap (λ (q : List ℕ). q ++ rest) g) in
+      in-one k file at (p .inside) (rw (p .here) h) ∙ ap₂ got (p .here) (rw g)
 
   more-back :
       (k : ℕ) → 128 ≤ n
-      → (drop (at + 1) s ≡ groups (n / 128) ++ rest → readIn k s (at + 1) ≡ got (n / 128) (at + 1 + length (groups (n / 128))))
-      → readIn (suc k) s at ≡ got n (at + length (groups n))
+      → (drop (at + 1) file ≡ groups (n / 128) ++ rest → readIn k file (at + 1) ≡ got (n / 128) (at + 1 + length (groups (n / 128))))
+      → readIn (suc k) file at ≡ got n (at + length (groups n))
   more-back k h ih =
       let g = groups-more n h in
-      let p = head-at s at (128 + n % 128) (groups (n / 128) ++ rest) (e ∙ ap (λ (q : List ℕ). q ++ rest) g) in
-      in-more k s at (p .inside) (rw (p .here) (omega arith))
+      let p = head-at file at (128 + n % 128) (groups (n / 128) ++ rest) (e ∙ ap (λ (q : List ℕ). q ++ rest) g) in
+      in-more k file at (p .inside) (rw (p .here) (omega arith))
       ∙ ap₂ longer (p .here) (ih (p .next))
       ∙ longer-some (128 + n % 128) (n / 128) (at + 1 + length (groups (n / 128))) (omega arith)
       ∙ ap₂ got (omega arith) (rw g (omega arith))
 
 pub in-back :
-    (k n at : ℕ) (s rest : List ℕ) → n < 128 ^ suc k → drop at s ≡ groups n ++ rest
-    → readIn (suc k) s at ≡ got n (at + length (groups n))
-in-back zero n at s rest small e = one-back n at s rest e zero (omega (arith, pow-succ' 128 0, pow-zero 128))
-in-back (suc k) n at s rest small e =
+    (k n at : ℕ) (file rest : List ℕ) → n < 128 ^ suc k → drop at file ≡ groups n ++ rest
+    → readIn (suc k) file at ≡ got n (at + length (groups n))
+in-back zero n at file rest small e = one-back n at file rest e zero (omega (arith, pow-succ' 128 0, pow-zero 128))
+in-back (suc k) n at file rest small e =
     by-size n 128
-    (one-back n at s rest e (suc k))
-    (λ h. more-back n at s rest e (suc k) h (λ e. in-back k (n / 128) (at + 1) s rest (omega (arith, pow-succ' 128 (suc k))) e))
+    (one-back n at file rest e (suc k))
+    (λ h. more-back n at file rest e (suc k) h (λ e. in-back k (n / 128) (at + 1) file rest (omega (arith, pow-succ' 128 (suc k))) e))
 
-pub read-back : (s : List ℕ) (at n : ℕ) (rest : List ℕ) → n < numberLimit → drop at s ≡ groups n ++ rest → readNumber s at ≡ got n (at + length (groups n))
+pub read-back : (file : List ℕ) (at n : ℕ) (rest : List ℕ) → n < numberLimit → drop at file ≡ groups n ++ rest → readNumber file at ≡ got n
+    (at + length (groups n))
 unfolding readNumber numberLimit
-read-back s at n rest small e = in-back 2 n at s rest small e
+read-back file at n rest small e = in-back 2 n at file rest small e
 
 -- reading where a number was written
 pub read-written :
@@ -103,42 +104,42 @@ pub read-written :
 read-written l at n small room = read-back (splice l at (groups n)) at n _ small (part-splice l at (groups n) room)
 
 -- ── what reads is the groups of its value ──
-pub record Written (k : ℕ) (s : List ℕ) (at v e : ℕ) : Type 0 where
+pub record Written (k : ℕ) (file : List ℕ) (at v e : ℕ) : Type 0 where
   pub small : v < 128 ^ k
-  pub stands : Stands s at (groups v) e
+  pub stands : Stands file at (groups v) e
 
-module _ (s : List ℕ) (bytes : Bytes s) where
-  one-form : (k at : ℕ) → at < length s → getD s at 0 < 128 → Written (suc k) s at (getD s at 0) (at + 1)
+module _ (file : List ℕ) (bytes : Bytes file) where
+  one-form : (k at : ℕ) → at < length file → getD file at 0 < 128 → Written (suc k) file at (getD file at 0) (at + 1)
   one-form k at inside h =
-      let g = groups-one (getD s at 0) h in
+      let g = groups-one (getD file at 0) h in
       record {
         small = omega (arith, pow-succ' 128 k, one-le-pow k 128 (omega arith));
-        stands = record { ends = rw g; there = rw g (head-of s at inside) };
+        stands = record { ends = rw g; there = rw g (head-of file at inside) };
       }
 
   more-form :
-      (k at v e : ℕ) → at < length s → 128 ≤ getD s at 0 → (v ≡ 0 → ⊥) → Written k s (at + 1) v e
-      → Written (suc k) s at (getD s at 0 - 128 + 128 * v) e
+      (k at v e : ℕ) → at < length file → 128 ≤ getD file at 0 → (v ≡ 0 → ⊥) → Written k file (at + 1) v e
+      → Written (suc k) file at (getD file at 0 - 128 + 128 * v) e
   more-form k at v e inside h some w =
-      let b : getD s at 0 < 256 = bytes at in
-      let n : ℕ = getD s at 0 - 128 + 128 * v in
+      let b : getD file at 0 < 256 = bytes at in
+      let n : ℕ = getD file at 0 - 128 + 128 * v in
       let l : 128 ≤ n = omega arith in
       let d : n / 128 ≡ v = omega arith in
-      let m : 128 + n % 128 ≡ getD s at 0 = omega arith in
-      let g : groups n ≡ getD s at 0 ∷ groups v = groups-more n l ∙ ap₂ (λ (x y : ℕ). x ∷ groups y) m d in
+      let m : 128 + n % 128 ≡ getD file at 0 = omega arith in
+      let g : groups n ≡ getD file at 0 ∷ groups v = groups-more n l ∙ ap₂ (λ (x y : ℕ). x ∷ groups y) m d in
       record {
         small = omega (arith, w .small, pow-succ' 128 k);
         stands = record {
           ends = rw g (omega (arith, w .stands .ends));
-          there = rw g (head-of s at inside ∙ ap (λ (r : List ℕ). getD s at 0 ∷ r) (w .stands .there));
+          there = rw g (head-of file at inside ∙ ap (λ (r : List ℕ). getD file at 0 ∷ r) (w .stands .there));
         };
       }
 
-  same : {k at v e v′ e′ : ℕ} → Written k s at v e → got v e ≡ got v′ e′ → Written k s at v′ e′
+  same : {k at v e v′ e′ : ℕ} → Written k file at v e → got v e ≡ got v′ e′ → Written k file at v′ e′
   same {k} {at} {v} {e} {v′} {e′} w p =
       let q : v ≡ v′ = cc in
       let r : e ≡ e′ = cc in
-      subst₂ (Written k s at) q r w
+      subst₂ (Written k file at) q r w
 
   cut-longer :
       {C : Type 0} {v e : ℕ} (b : ℕ) (r : Read ℕ) → longer b r ≡ got v e
@@ -147,55 +148,55 @@ module _ (s : List ℕ) (bytes : Bytes s) where
       cut-eq _ _ _ w 0 h (λ z h. clash (cc)) (λ z h. k w (ap (got w) (cc)) z (cc))
   cut-longer b fault h k = clash (cc)
 
-  pub in-form : (k at v e : ℕ) → readIn k s at ≡ got v e → Written k s at v e
+  pub in-form : (k at v e : ℕ) → readIn k file at ≡ got v e → Written k file at v e
   unfolding readIn
   in-form zero at v e h = clash (cc)
   in-form (suc k) at v e h =
-      cut-lt _ _ _ at (length s) h
-      (λ inside h. cut-lt _ _ _ (getD s at 0) 128 h
+      cut-lt _ _ _ at (length file) h
+      (λ inside h. cut-lt _ _ _ (getD file at 0) 128 h
       (λ l h. same (one-form k at inside l) h)
-      (λ l h. cut-longer (getD s at 0) (readIn k s (at + 1)) h
-      (λ w r z q. subst (λ (x : ℕ). Written (suc k) s at x e) q (more-form k at w e inside l z (in-form k (at + 1) w e r)))))
+      (λ l h. cut-longer (getD file at 0) (readIn k file (at + 1)) h
+      (λ w r z q. subst (λ (x : ℕ). Written (suc k) file at x e) q (more-form k at w e inside l z (in-form k (at + 1) w e r)))))
       (λ out h. clash (cc))
 
   -- a value of fewer groups than the code has room for
-  pub in-small : (k at v e : ℕ) → k ≤ roomGroups - 1 → readIn k s at ≡ got v e → v < base ^ (roomGroups - 1)
+  pub in-small : (k at v e : ℕ) → k ≤ roomGroups - 1 → readIn k file at ≡ got v e → v < base ^ (roomGroups - 1)
   in-small k at v e l h = omega (arith, in-form k at v e h .small, pow-le-pow-right {n = base} (omega arith) {i = k} {j = roomGroups - 1} l)
 
-  pub read-form : (at v e : ℕ) → readNumber s at ≡ got v e → (v < numberLimit) × Stands s at (groups v) e
+  pub read-form : (at v e : ℕ) → readNumber file at ≡ got v e → (v < numberLimit) × Stands file at (groups v) e
   unfolding readNumber numberLimit
   read-form at v e h = let w = in-form mostGroups at v e h in (w .small, w .stands)
 
 -- ── below a bound, case by case ──
-module _ (s : List ℕ) (n at : ℕ) where
-  pub below-yes : {v e : ℕ} → readNumber s at ≡ got v e → v < n → below s n at ≡ got v e
+module _ (file : List ℕ) (n at : ℕ) where
+  pub below-yes : {v e : ℕ} → readNumber file at ≡ got v e → v < n → below file n at ≡ got v e
   unfolding below
-  below-yes {v} {e} h l = then-got (readNumber s at) _ h ∙ simp (lt-ltb v n l)
+  below-yes {v} {e} h l = then-got (readNumber file at) _ h ∙ simp (lt-ltb v n l)
 
-  pub below-no : {v e : ℕ} → readNumber s at ≡ got v e → n ≤ v → below s n at ≡ fault
+  pub below-no : {v e : ℕ} → readNumber file at ≡ got v e → n ≤ v → below file n at ≡ fault
   unfolding below
-  below-no {v} {e} h l = then-got (readNumber s at) _ h ∙ simp (le-ltb v n l)
+  below-no {v} {e} h l = then-got (readNumber file at) _ h ∙ simp (le-ltb v n l)
 
-  pub below-none : readNumber s at ≡ fault → below s n at ≡ fault
+  pub below-none : readNumber file at ≡ fault → below file n at ≡ fault
   unfolding below
-  below-none h = then-fault (readNumber s at) _ h
+  below-none h = then-fault (readNumber file at) _ h
 
   -- a number read is in the file
   pub record Inside (v e : ℕ) : Type 0 where
     pub small : v < n
     pub range : v < numberLimit
-    pub stands : Stands s at (groups v) e
+    pub stands : Stands file at (groups v) e
     pub after : at < e
-    pub within : e ≤ length s
+    pub within : e ≤ length file
 
-  pub below-inside : (bytes : Bytes s) (v e : ℕ) → below s n at ≡ got v e → Inside v e
+  pub below-inside : (bytes : Bytes file) (v e : ℕ) → below file n at ≡ got v e → Inside v e
   unfolding below
   below-inside bytes v e h =
-      cut-got (readNumber s at) _ h (λ w d r h.
+      cut-got (readNumber file at) _ h (λ w d r h.
       cut-lt _ _ _ w n h
       (λ l h. let a : w ≡ v = cc in
       let b : d ≡ e = cc in
-      let f = read-form s bytes at v e (r ∙ ap₂ got a b) in
+      let f = read-form file bytes at v e (r ∙ ap₂ got a b) in
       record {
         small = omega arith;
         range = f .0;
@@ -206,5 +207,5 @@ module _ (s : List ℕ) (n at : ℕ) where
       (λ l h. clash (cc)))
 
   -- what is written reads back
-  pub below-back : (v : ℕ) (rest : List ℕ) → v < n → v < numberLimit → drop at s ≡ groups v ++ rest → below s n at ≡ got v (at + length (groups v))
-  below-back v rest l small there = below-yes (read-back s at v rest small there) l
+  pub below-back : (v : ℕ) (rest : List ℕ) → v < n → v < numberLimit → drop at file ≡ groups v ++ rest → below file n at ≡ got v (at + length (groups v))
+  below-back v rest l small there = below-yes (read-back file at v rest small there) l

@@ -10,12 +10,12 @@ term-part-requires c κs = search needs
 add-result : tie.Need-add-result
 add-result c =
     let c3 = c .before .before .before in
-    let r = c3 .args in let w = behind-within (r .arities .now) (r .s .now) (r .at) (λ i. c .before .before .shared-slice-known .given i .fits) _
+    let r = c3 .args in let w = behind-within (r .arities .now) (r .src .now) (r .at) (λ i. c .before .before .shared-slice-known .given i .fits) _
     (c .term-part .ensures) (c3 .pre) in omega arith
 
 returns : tie.Need-returns
 returns c =
-    let r = c .before .before .before .args in behind-is (r .arities .now) (r .s .now) (r .at) (λ i. c .before .before .shared-slice-known .given i .fits) _
+    let r = c .before .before .before .args in behind-is (r .arities .now) (r .src .now) (r .at) (λ i. c .before .before .shared-slice-known .given i .fits) _
     (c .term-part .ensures)
 
 pub behind-spec : {M : Type 1} → statement M

@@ -16,7 +16,7 @@ slice-aggregate-collect-3 c = search needs
 collect-requires : tie.Need-collect-requires
 collect-requires c κs =
     let c6 = c .before .before .before .before .before .before in
-    let r = c6 .args in collect-asks (r .arities .now) (r .s .now) (r .at) (r .k) (r .out .now) _ _ _
+    let r = c6 .args in collect-asks (r .arities .now) (r .src .now) (r .at) (r .k) (r .out .now) _ _ _
     (record { starts = omega arith; ends = omega arith; powers = omega arith }) (c6 .pre)
 
 slice-aggregate-write-table : tie.Need-slice-aggregate-write-table
@@ -32,7 +32,7 @@ write-table-requires : tie.Need-write-table-requires
 write-table-requires c κs =
     let c7 = c .before .before .before .before .before .before .before in
     let c14 = c7 .before .before .before .before .before .before .before in
-    let r = c14 .args in table-asks (r .arities .now) (r .s .now) (r .at) (r .k) (r .out .now) _ _ _
+    let r = c14 .args in table-asks (r .arities .now) (r .src .now) (r .at) (r .k) (r .out .now) _ _ _
     (record { starts = omega arith; ends = omega arith; powers = omega arith }) _ _ _ _ (c7 .collect .ensures) (c7 .collect .kept .0)
     (c7 .collect .kept .1 .0) (c7 .collect .kept .1 .1 .0) (c14 .pre)
 
@@ -43,7 +43,7 @@ returns : tie.Need-returns
 returns c =
     let c10 = c .before .before .before .before .before .before .before .before .before .before in
     let c17 = c10 .before .before .before .before .before .before .before in
-    let r = c17 .args in table-wrote (r .arities .now) (r .s .now) (r .at) (r .k) (r .out .now) _ _ _
+    let r = c17 .args in table-wrote (r .arities .now) (r .src .now) (r .at) (r .k) (r .out .now) _ _ _
     (record { starts = omega arith; ends = omega arith; powers = omega arith }) _ _ _ _ (c10 .collect .ensures) (c10 .collect .kept .0)
     (c10 .collect .kept .1 .0) (c10 .collect .kept .1 .1 .0) _ _ (c .before .before .write-table .ensures)
 

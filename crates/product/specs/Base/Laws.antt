@@ -17,7 +17,7 @@ use Rattle.term.specs.Reader.{symbolAt}
 use Rattle.term.specs.Reader.Exact.{symbol-of-leaf, symbol-of-app}
 use Rattle.message.specs.Functions.{exp}
 use Rattle.message.specs.Rules.{FitArities}
-use Rattle.message.specs.Canon.{Two, twoOf, as2}
+use Rattle.message.specs.Canon.{Binary, twoOf, asBinary}
 use Rattle.factors.specs.Laid.{Laid, OneAt}
 use Rattle.factors.specs.Laid.Laws.{first-of, others-of, args-of}
 use Rattle.product.specs.declared.Base.the-variants as base
@@ -30,15 +30,15 @@ pub base-other : (f e : ℕ) → (f ≡ expTag → ⊥) → base.Plain ≡ baseA
 base-other f e h = simp (ne-eqb f 10 h)
 
 -- ── the two arguments of an exp ──
-pub record Args (slots s : List ℕ) (at e : ℕ) (x y : Term) : Type 0 where
+pub record Args (arities src : List ℕ) (at e : ℕ) (x y : Term) : Type 0 where
   pub middle : ℕ
-  pub first : OneAt slots s (at + 1) middle x
-  pub second : OneAt slots s middle e y
+  pub first : OneAt arities src (at + 1) middle x
+  pub second : OneAt arities src middle e y
 
-pub args-two : {slots s : List ℕ} {at e : ℕ} (x y : Term) → OneAt slots s at e (exp x y) → Args slots s at e x y
-args-two {slots} {s} {at} {e} x y O =
+pub args-two : {arities src : List ℕ} {at e : ℕ} (x y : Term) → OneAt arities src at e (exp x y) → Args arities src at e x y
+args-two {arities} {src} {at} {e} x y O =
     let g : length (groups 10) ≡ 1 = ap length (groups-one 10 (omega arith)) in
-    let L = subst (λ (j : ℕ). Laid slots s (at + j) (x & y & nil)) g (args-of O) in
+    let L = subst (λ (j : ℕ). Laid arities src (at + j) (x & y & nil)) g (args-of O) in
     let M = others-of L in
     let ends : at + 1 + length (encode x) + length (encode y) ≡ e =
     omega (
@@ -52,36 +52,36 @@ args-two {slots} {s} {at} {e} x y O =
     record {
       middle = at + 1 + length (encode x);
       first = first-of L;
-      second = subst (λ (j : ℕ). OneAt slots s (at + 1 + length (encode x)) j y) ends (first-of M);
+      second = subst (λ (j : ℕ). OneAt arities src (at + 1 + length (encode x)) j y) ends (first-of M);
     }
 
 -- ── what the code answers where a term stands ──
 -- it is an exp
-pub record Inner (slots s : List ℕ) (at e b : ℕ) (t : Term) : Type 0 where
+pub record Inner (arities src : List ℕ) (at e b : ℕ) (t : Term) : Type 0 where
   pub x : Term
   pub y : Term
   pub is : t ≡ exp x y
   pub start : b ≡ at + 1
-  pub args : Args slots s at e x y
+  pub args : Args arities src at e x y
 
-module _ {slots s : List ℕ} {at e : ℕ} (group : FitArities (arity slots)) where
-  base-leaf : (k : _) (n : ℕ) → OneAt slots s at e (leaf k n) → baseOf (symbolAt s slots at) ≡ base.Plain
-  base-leaf k n O = ap baseOf (symbol-of-leaf s slots k n at (drop e s) (O .range) (O .there .there))
+module _ {arities src : List ℕ} {at e : ℕ} (group : FitArities (arity arities)) where
+  base-leaf : (k : _) (n : ℕ) → OneAt arities src at e (leaf k n) → baseOf (symbolAt src arities at) ≡ base.Plain
+  base-leaf k n O = ap baseOf (symbol-of-leaf src arities k n at (drop e src) (O .range) (O .there .there))
 
-  base-app : (f : ℕ) (ts : Terms) → OneAt slots s at e (app f ts) → baseOf (symbolAt s slots at) ≡ baseAt f (at + length (groups f))
-  base-app f ts O = ap baseOf (symbol-of-app s slots f ts at (drop e s) (O .formed .0) (O .range .0) (O .there .there))
+  base-app : (f : ℕ) (ts : Terms) → OneAt arities src at e (app f ts) → baseOf (symbolAt src arities at) ≡ baseAt f (at + length (groups f))
+  base-app f ts O = ap baseOf (symbol-of-app src arities f ts at (drop e src) (O .formed .0) (O .range .0) (O .there .there))
 
-  inner-of : (b : ℕ) (ts : Terms) → OneAt slots s at e (app expTag ts) → count ts ≡ 2 → b ≡ at + 1 → Inner slots s at e b (app expTag ts)
+  inner-of : (b : ℕ) (ts : Terms) → OneAt arities src at e (app expTag ts) → count ts ≡ 2 → b ≡ at + 1 → Inner arities src at e b (app expTag ts)
   inner-of b nil O c h = absurd (omega arith)
   inner-of b (x & nil) O c h = absurd (omega arith)
   inner-of b (x & (y & nil)) O c h = record { x = x; y = y; is = refl; start = h; args = args-two x y O }
   inner-of b (x & (y & (z & ts))) O c h = absurd (omega arith)
 
-  pub base-power : (b : ℕ) (t : Term) → OneAt slots s at e t → baseOf (symbolAt s slots at) ≡ base.Power b → Inner slots s at e b t
+  pub base-power : (b : ℕ) (t : Term) → OneAt arities src at e t → baseOf (symbolAt src arities at) ≡ base.Power b → Inner arities src at e b t
   base-power b (leaf k n) O h = let z : base.Plain ≡ base.Power b = sym (base-leaf k n O) ∙ h in clash (cc)
   base-power b (app f ts) O h =
       cut-eq _ _ _ f 10 (sym (base-app f ts O) ∙ h)
-      (λ q h. subst (λ (g : ℕ). OneAt slots s at e (app g ts) → Inner slots s at e b (app g ts)) (sym q)
+      (λ q h. subst (λ (g : ℕ). OneAt arities src at e (app g ts) → Inner arities src at e b (app g ts)) (sym q)
       (λ O.
       let a : some (count ts) ≡ some 2 = sym (O .formed .0) ∙ group .exp-arity in
       let g : length (groups f) ≡ 1 = ap (λ (j : ℕ). length (groups j)) q ∙ ap length (groups-one 10 (omega arith)) in
@@ -90,9 +90,9 @@ module _ {slots s : List ℕ} {at e : ℕ} (group : FitArities (arity slots)) wh
       (λ q h. clash (cc))
 
   -- it is none
-  pub base-plain : (t : Term) → OneAt slots s at e t → baseOf (symbolAt s slots at) ≡ base.Plain → as2 expTag t ≡ Two.not
+  pub base-plain : (t : Term) → OneAt arities src at e t → baseOf (symbolAt src arities at) ≡ base.Plain → asBinary expTag t ≡ Binary.not
   base-plain (leaf k n) O h = refl
   base-plain (app f ts) O h =
       cut-eq _ _ _ f 10 (sym (base-app f ts O) ∙ h)
       (λ q h. clash (cc))
-      (λ q h. ap (λ b. cond b (twoOf ts) Two.not) (ne-eqb f 10 q))
+      (λ q h. ap (λ b. cond b (twoOf ts) Binary.not) (ne-eqb f 10 q))

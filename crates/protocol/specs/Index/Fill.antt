@@ -16,7 +16,7 @@ use Rattle.number.specs.Reading.Laws.{then-got, then-fault}
 use Rattle.number.specs.Reading.Many.{Came, many-snoc, many-length}
 use Rattle.number.specs.declared.Number.{Number}
 use Rattle.number.specs.declared.Number.the-variants as num
-use Rattle.term.specs.Arity.{builtin, padded, slots}
+use Rattle.term.specs.Arity.{builtin, padded, tagArities}
 use Rattle.protocol.specs.declared.index.OwnRead.{OwnRead}
 use Rattle.protocol.specs.declared.index.OwnRead.the-variants as ow
 use Rattle.protocol.specs.Protocol.{Own, own-of, factArities, factFlags, own}
@@ -52,8 +52,8 @@ padded-more (suc n) (a ∷ l) zero v h k = absurd (omega arith)
 padded-more (suc n) (a ∷ l) (suc j) v h k = ap (λ (r : List ℕ). a ∷ r) (padded-more n l j v (omega arith) (omega arith))
 
 -- one function more
-pub slots-more : (fs : List ℕ) (j v : ℕ) → length fs ≡ j → j < 16 → set (slots fs) (13 + j) v ≡ slots (fs ++ (v ∷ []))
-unfolding slots
+pub slots-more : (fs : List ℕ) (j v : ℕ) → length fs ≡ j → j < 16 → set (tagArities fs) (13 + j) v ≡ tagArities (fs ++ (v ∷ []))
+unfolding tagArities
 slots-more fs j v h k =
     set-behind builtin (padded 16 fs) (13 + j) j v (omega arith) ∙ ap (λ (l : List ℕ). builtin ++ l) (padded-more 16 fs j v h k)
 
@@ -65,32 +65,33 @@ splice-all l vs h =
 
 -- no function: the table that the code copies
 pub slots-none :
-    slots [] ≡ 255 ∷ 255 ∷ 255 ∷ 0 ∷ 2 ∷ 2 ∷ 1 ∷ 2 ∷ 1 ∷ 1 ∷ 2 ∷ 1 ∷ 2 ∷ 255 ∷ 255 ∷ 255 ∷ 255 ∷ 255 ∷ 255 ∷ 255 ∷ 255 ∷ 255 ∷ 255 ∷ 255 ∷ 255 ∷ 255 ∷ 255 ∷
+    tagArities [] ≡ 255 ∷ 255 ∷ 255 ∷ 0 ∷ 2 ∷ 2 ∷ 1 ∷ 2 ∷ 1 ∷ 1 ∷ 2 ∷ 1 ∷ 2 ∷ 255 ∷ 255 ∷ 255 ∷ 255 ∷ 255 ∷ 255 ∷ 255 ∷ 255 ∷ 255 ∷ 255 ∷ 255 ∷ 255 ∷ 255 ∷ 255
+    ∷
     255 ∷ 255 ∷ []
-unfolding slots
+unfolding tagArities
 slots-none = refl
 
 -- j functions are read, and have their slots
-pub record Slotting (s : List ℕ) (at j i : ℕ) (arities : List ℕ) : Type 0 where
+pub record Slotting (file : List ℕ) (at j i : ℕ) (arities : List ℕ) : Type 0 where
   pub items : List ℕ
-  pub there : many (below s arityLimit) j at ≡ got items i
-  pub slotted : arities ≡ slots items
+  pub there : many (below file arityLimit) j at ≡ got items i
+  pub slotted : arities ≡ tagArities items
 
-module _ (s : List ℕ) (at : ℕ) where
-  pub slots-begin : (arities : List ℕ) → arities ≡ slots [] → Slotting s at 0 at arities
+module _ (file : List ℕ) (at : ℕ) where
+  pub slots-begin : (arities : List ℕ) → arities ≡ tagArities [] → Slotting file at 0 at arities
   unfolding many
   slots-begin arities h = record { items = []; there = refl; slotted = h }
 
   pub slots-next :
-      (j i e v : ℕ) (arities : List ℕ) → Slotting s at j i arities → below s arityLimit i ≡ got v e → j < 16
-      → Slotting s at (j + 1) e (set arities (13 + j) v)
+      (j i e v : ℕ) (arities : List ℕ) → Slotting file at j i arities → below file arityLimit i ≡ got v e → j < 16
+      → Slotting file at (j + 1) e (set arities (13 + j) v)
   slots-next j i e v arities o h l =
       record {
         items = o .items ++ (v ∷ []);
-        there = rw add-one (many-snoc (below s arityLimit) j at i e (o .items) v (o .there) h);
+        there = rw add-one (many-snoc (below file arityLimit) j at i e (o .items) v (o .there) h);
         slotted =
             ap (λ (r : List ℕ). set r (13 + j) v) (o .slotted)
-            ∙ slots-more (o .items) j v (many-length (below s arityLimit) j at i (o .items) (o .there)) l;
+            ∙ slots-more (o .items) j v (many-length (below file arityLimit) j at i (o .items) (o .there)) l;
       }
 
 -- ── the fact symbols ──
@@ -98,21 +99,21 @@ abbrev pub asOwn : OwnRead → Read Own
 asOwn (ow.Got a l e) = got (own-of a l) e
 asOwn ow.Fault = fault
 
-module _ (s : List ℕ) (at : ℕ) where
-  pub own-got : {a e l f : ℕ} → below s factArityLimit at ≡ got a e → below s flagCount e ≡ got l f → own s at ≡ got (own-of a l) f
+module _ (file : List ℕ) (at : ℕ) where
+  pub own-got : {a e l f : ℕ} → below file factArityLimit at ≡ got a e → below file flagCount e ≡ got l f → own file at ≡ got (own-of a l) f
   unfolding own
-  own-got {a} {e} {l} {f} h k = then-got (below s factArityLimit at) _ h ∙ then-got (below s flagCount e) _ k
+  own-got {a} {e} {l} {f} h k = then-got (below file factArityLimit at) _ h ∙ then-got (below file flagCount e) _ k
 
-  pub own-first : below s factArityLimit at ≡ fault → own s at ≡ fault
+  pub own-first : below file factArityLimit at ≡ fault → own file at ≡ fault
   unfolding own
-  own-first h = then-fault (below s factArityLimit at) _ h
+  own-first h = then-fault (below file factArityLimit at) _ h
 
-  pub own-second : {a e : ℕ} → below s factArityLimit at ≡ got a e → below s flagCount e ≡ fault → own s at ≡ fault
+  pub own-second : {a e : ℕ} → below file factArityLimit at ≡ got a e → below file flagCount e ≡ fault → own file at ≡ fault
   unfolding own
-  own-second {a} {e} h k = then-got (below s factArityLimit at) _ h ∙ then-fault (below s flagCount e) _ k
+  own-second {a} {e} h k = then-got (below file factArityLimit at) _ h ∙ then-fault (below file flagCount e) _ k
 
-  pub own-small : Bytes s → {a l e : ℕ} → own s at ≡ got (own-of a l) e → OwnWithin (own-of a l)
-  own-small bytes {a} {l} {e} h = own-exact s bytes .form (own-of a l) at e h .0
+  pub own-small : Bytes file → {a l e : ℕ} → own file at ≡ got (own-of a l) e → OwnWithin (own-of a l)
+  own-small bytes {a} {l} {e} h = own-exact file bytes .form (own-of a l) at e h .0
 
 -- the first m entries of a table: some that stand there before, then one for each thing read
 module _ {A : Type 0} (f : A → ℕ) (before : List ℕ) where
@@ -130,16 +131,16 @@ module _ {A : Type 0} (f : A → ℕ) (before : List ℕ) where
       ∙ ap (λ (r : List ℕ). before ++ r) (sym (map-append f xs (x ∷ [])))
 
 -- j own symbols are read, and stand in both tables
-pub record Owned (s : List ℕ) (at j i : ℕ) (ars flags : List ℕ) : Type 0 where
+pub record Owned (file : List ℕ) (at j i : ℕ) (ars flags : List ℕ) : Type 0 where
   pub items : List Own
-  pub there : many (own s) j at ≡ got items i
+  pub there : many (own file) j at ≡ got items i
   pub arities : take (j + 4) ars ≡ factArities items
   pub flagged : take (j + 4) flags ≡ factFlags items
 
-module _ (s : List ℕ) (at : ℕ) where
+module _ (file : List ℕ) (at : ℕ) where
   pub own-begins :
       (ars flags ars₀ flags₀ : List ℕ) → ars ≡ splice ars₀ 0 (1 ∷ 1 ∷ 1 ∷ 1 ∷ []) → flags ≡ splice flags₀ 0 (0 ∷ 0 ∷ 0 ∷ 1 ∷ [])
-      → 4 ≤ length ars₀ → 4 ≤ length flags₀ → Owned s at 0 at ars flags
+      → 4 ≤ length ars₀ → 4 ≤ length flags₀ → Owned file at 0 at ars flags
   unfolding many
   own-begins ars flags ars₀ flags₀ a f h k =
       record {
@@ -150,12 +151,12 @@ module _ (s : List ℕ) (at : ℕ) where
       }
 
   pub own-more :
-      (j i e a l : ℕ) (ars flags : List ℕ) → Owned s at j i ars flags → own s i ≡ got (own-of a l) e
-      → j + 4 < length ars → j + 4 < length flags → Owned s at (j + 1) e (set ars (j + 4) a) (set flags (j + 4) l)
+      (j i e a l : ℕ) (ars flags : List ℕ) → Owned file at j i ars flags → own file i ≡ got (own-of a l) e
+      → j + 4 < length ars → j + 4 < length flags → Owned file at (j + 1) e (set ars (j + 4) a) (set flags (j + 4) l)
   own-more j i e a l ars flags o h x y =
       record {
         items = o .items ++ (own-of a l ∷ []);
-        there = rw add-one (many-snoc (own s) j at i e (o .items) (own-of a l) (o .there) h);
+        there = rw add-one (many-snoc (own file) j at i e (o .items) (own-of a l) (o .there) h);
         arities = holds-more (λ o. o .arity) (1 ∷ 1 ∷ 1 ∷ 1 ∷ []) (o .items) (own-of a l) (j + 4) a (j + 1 + 4) ars (o .arities) x refl (omega arith);
         flagged = holds-more (λ o. o .flag) (0 ∷ 0 ∷ 0 ∷ 1 ∷ []) (o .items) (own-of a l) (j + 4) l (j + 1 + 4) flags (o .flagged) y refl (omega arith);
       }

@@ -20,7 +20,7 @@ use Rattle.number.specs.Layout.{flat, listed, Exact}
 use Rattle.lists.specs.All.{All}
 use Rattle.number.specs.Layout.Laws.{below-exact, test-exact, many-exact, counted-exact, then-exact}
 use Rattle.term.specs.Term.{encode, symbols}
-use Rattle.term.specs.Arity.{slots}
+use Rattle.term.specs.Arity.{tagArities}
 use Rattle.term.specs.Reader.{term}
 use Rattle.term.specs.Reader.Exact.{Good, term-exact}
 use Rattle.protocol.specs.Protocol.{Rule, Own, Protocol, fact-of, rule-of, own-of, protocol-of, factArities, declared, encodeFact}
@@ -32,9 +32,9 @@ pick-true x y h = ap (λ (t : Bool). pick t x y) h
 
 -- the same condition in other words
 exact-as :
-    {A : Type 0} (s : List ℕ) (p : ℕ → Read A) (Good Fine : A → Type 0) (code : A → List ℕ) → Exact s p Good code
-    → ((x : A) → Fine x → Good x) → ((x : A) → Good x → Fine x) → Exact s p Fine code
-exact-as s p Good Fine code exact there back = record {
+    {A : Type 0} (file : List ℕ) (p : ℕ → Read A) (Good Fine : A → Type 0) (code : A → List ℕ) → Exact file p Good code
+    → ((x : A) → Fine x → Good x) → ((x : A) → Good x → Fine x) → Exact file p Fine code
+exact-as file p Good Fine code exact there back = record {
   back = λ x at rest fine h. exact .back x at rest (there x fine) h;
   form = λ x at e h. let f = exact .form x at e h in (back x (f .0), f .1);
 }
@@ -43,84 +43,84 @@ small-limit : 256 < numberLimit
 unfolding numberLimit
 small-limit = omega arith
 
-module _ (s : List ℕ) (bytes : Bytes s) where
+module _ (file : List ℕ) (bytes : Bytes file) where
   -- a number below a small bound
-  small-exact : (n : ℕ) → n ≤ 256 → Exact s (below s n) (λ v. v < n) groups
+  small-exact : (n : ℕ) → n ≤ 256 → Exact file (below file n) (λ v. v < n) groups
   small-exact n h =
-      exact-as s (below s n) _ (λ v. v < n) groups (below-exact s bytes n)
+      exact-as file (below file n) _ (λ v. v < n) groups (below-exact file bytes n)
       (λ v l. (l, omega (arith, small-limit))) (λ v g. g .0)
 
   -- a count and that many
   list-exact :
-      {A : Type 0} (p : ℕ → Read A) (Fine : A → Type 0) (code : A → List ℕ) → Exact s p Fine code → (limit : ℕ) → limit ≤ 256
-      → Exact s (counted s limit p) (λ xs. (length xs ≤ limit) × All Fine xs) (listed code)
-  list-exact p Fine code exact limit h = counted-exact s p Fine code exact bytes limit (omega (arith, small-limit))
+      {A : Type 0} (p : ℕ → Read A) (Fine : A → Type 0) (code : A → List ℕ) → Exact file p Fine code → (limit : ℕ) → limit ≤ 256
+      → Exact file (counted file limit p) (λ xs. (length xs ≤ limit) × All Fine xs) (listed code)
+  list-exact p Fine code exact limit h = counted-exact file p Fine code exact bytes limit (omega (arith, small-limit))
 
-  module _ (slots : List ℕ) where
-    pub rule-term-exact : Exact s (ruleTerm s slots) (TermWithin slots) encode
+  module _ (arities : List ℕ) where
+    pub rule-term-exact : Exact file (ruleTerm file arities) (TermWithin arities) encode
     unfolding ruleTerm
     rule-term-exact =
-        exact-as s (ruleTerm s slots) _ (TermWithin slots) encode
-        (test-exact s (term s slots) (Good slots) encode (term-exact s slots bytes) (λ t. ltb (symbols t) 65))
+        exact-as file (ruleTerm file arities) _ (TermWithin arities) encode
+        (test-exact file (term file arities) (Good arities) encode (term-exact file arities bytes) (λ t. ltb (symbols t) 65))
         (λ t w. ((w .formed, w .range), lt-ltb (symbols t) 65 (omega (arith, w .short))))
         (λ t g. record { formed = g .0 .0; range = g .0 .1; short = omega (arith, ltb-true (symbols t) 65 (g .1)) })
 
     module _ (ars : List ℕ) (few : length ars ≤ 256) where
-      pub fact-exact : Exact s (fact s slots ars) (FactWithin slots ars) encodeFact
+      pub fact-exact : Exact file (fact file arities ars) (FactWithin arities ars) encodeFact
       unfolding fact
       fact-exact =
-          exact-as s (fact s slots ars) _ (FactWithin slots ars) encodeFact
-          (then-exact s (below s (length ars)) (λ y. y < length ars) groups (small-exact (length ars) few)
-          (λ y. many (ruleTerm s slots) (getD ars y 0)) (λ y ts. (length ts ≡ getD ars y 0) × All (TermWithin slots) ts) (flat encode)
-          (λ y g. many-exact s (ruleTerm s slots) (TermWithin slots) encode rule-term-exact (getD ars y 0))
+          exact-as file (fact file arities ars) _ (FactWithin arities ars) encodeFact
+          (then-exact file (below file (length ars)) (λ y. y < length ars) groups (small-exact (length ars) few)
+          (λ y. many (ruleTerm file arities) (getD ars y 0)) (λ y ts. (length ts ≡ getD ars y 0) × All (TermWithin arities) ts) (flat encode)
+          (λ y g. many-exact file (ruleTerm file arities) (TermWithin arities) encode rule-term-exact (getD ars y 0))
           fact-of (λ f. f .symbol) (λ f. f .terms) (λ f. refl) (λ y ts. refl) (λ y ts. refl))
           (λ f w. (w .known, (w .takes, w .each)))
           (λ f g. record { known = g .0; takes = g .1 .0; each = g .1 .1 })
 
-      pub facts-exact : Exact s (facts s slots ars) (FactsWithin slots ars) (listed encodeFact)
+      pub facts-exact : Exact file (facts file arities ars) (FactsWithin arities ars) (listed encodeFact)
       unfolding facts
       facts-exact =
-          exact-as s (facts s slots ars) _ (FactsWithin slots ars) (listed encodeFact)
-          (list-exact (fact s slots ars) (FactWithin slots ars) encodeFact fact-exact 8 (omega arith))
+          exact-as file (facts file arities ars) _ (FactsWithin arities ars) (listed encodeFact)
+          (list-exact (fact file arities ars) (FactWithin arities ars) encodeFact fact-exact 8 (omega arith))
           (λ fs w. (w .few, w .each))
           (λ fs g. record { few = g .0; each = g .1 })
 
-      pub layout-exact : Exact s (layout s slots ars) (LayoutWithin slots ars) encodeRule
+      pub layout-exact : Exact file (layout file arities ars) (LayoutWithin arities ars) encodeRule
       unfolding layout
       layout-exact =
-          exact-as s (layout s slots ars) _ (LayoutWithin slots ars) encodeRule
-          (then-exact s (counted s mostVariables (below s sortCount)) (λ vs. (length vs ≤ 16) × All (λ v. v < 3) vs) (listed groups)
-          (list-exact (below s sortCount) (λ v. v < 3) groups (small-exact 3 (omega arith)) 16 (omega arith))
-          (λ vs. many (facts s slots ars) listCount) (λ vs ps. (length ps ≡ 3) × All (FactsWithin slots ars) ps) (flat (listed encodeFact))
-          (λ vs g. many-exact s (facts s slots ars) (FactsWithin slots ars) (listed encodeFact) facts-exact 3)
-          rule-of (λ r. r .sorts) (λ r. r .parts) (λ r. refl) (λ vs ps. refl) (λ vs ps. refl))
+          exact-as file (layout file arities ars) _ (LayoutWithin arities ars) encodeRule
+          (then-exact file (counted file mostVariables (below file sortCount)) (λ vs. (length vs ≤ 16) × All (λ v. v < 3) vs) (listed groups)
+          (list-exact (below file sortCount) (λ v. v < 3) groups (small-exact 3 (omega arith)) 16 (omega arith))
+          (λ vs. many (facts file arities ars) listCount) (λ vs ps. (length ps ≡ 3) × All (FactsWithin arities ars) ps) (flat (listed encodeFact))
+          (λ vs g. many-exact file (facts file arities ars) (FactsWithin arities ars) (listed encodeFact) facts-exact 3)
+          rule-of (λ r. r .sorts) (λ r. r .lists) (λ r. refl) (λ vs ps. refl) (λ vs ps. refl))
           (λ r w. ((w .few, w .sorted), (w .three, w .each)))
           (λ r g. record { few = g .0 .0; sorted = g .0 .1; three = g .1 .0; each = g .1 .1 })
 
-      pub rule-exact : Exact s (rule s slots ars) (RuleWithin slots ars) encodeRule
+      pub rule-exact : Exact file (rule file arities ars) (RuleWithin arities ars) encodeRule
       unfolding rule
       rule-exact =
-          exact-as s (rule s slots ars) _ (RuleWithin slots ars) encodeRule
-          (test-exact s (layout s slots ars) (LayoutWithin slots ars) encodeRule layout-exact declared)
+          exact-as file (rule file arities ars) _ (RuleWithin arities ars) encodeRule
+          (test-exact file (layout file arities ars) (LayoutWithin arities ars) encodeRule layout-exact declared)
           (λ r w. (w .laid, w .bound))
           (λ r g. record { laid = g .0; bound = g .1 })
 
       -- a rule that reads is in the file
-      pub rule-inside : (r : Rule) (at e : ℕ) → rule s slots ars at ≡ got r e → (at < e) × (e ≤ length s)
+      pub rule-inside : (r : Rule) (at e : ℕ) → rule file arities ars at ≡ got r e → (at < e) × (e ≤ length file)
       rule-inside r at e h =
           let f = rule-exact .form r at e h in
           let S : List ℕ = listed groups (r .sorts) in
-          let P : List ℕ = flat (listed encodeFact) (r .parts) in
+          let P : List ℕ = flat (listed encodeFact) (r .lists) in
           let some : 0 < length (S ++ P) =
           omega (arith, groups-some (length (r .sorts)), length-append S P, length-append (groups (length (r .sorts))) (flat groups (r .sorts))) in
           (omega (arith, f .1 .ends), stands-within (f .1) some)
 
-  pub own-exact : Exact s (own s) OwnWithin encodeOwn
+  pub own-exact : Exact file (own file) OwnWithin encodeOwn
   unfolding own
   own-exact =
-      exact-as s (own s) _ OwnWithin encodeOwn
-      (then-exact s (below s factLimit) (λ a. a < 9) groups (small-exact 9 (omega arith))
-      (λ a. below s flagCount) (λ a l. l < 2) groups (λ a g. small-exact 2 (omega arith))
+      exact-as file (own file) _ OwnWithin encodeOwn
+      (then-exact file (below file factLimit) (λ a. a < 9) groups (small-exact 9 (omega arith))
+      (λ a. below file flagCount) (λ a l. l < 2) groups (λ a g. small-exact 2 (omega arith))
       own-of (λ o. o .arity) (λ o. o .flag) (λ o. refl) (λ a l. refl) (λ a l. refl))
       (λ o w. (w .small, w .either))
       (λ o g. record { small = g .0; either = g .1 })
@@ -129,59 +129,59 @@ module _ (s : List ℕ) (bytes : Bytes s) where
 pub few-arities : (os : List Own) → length os ≤ 32 → length (factArities os) ≤ 36
 few-arities os h = omega (arith, length-map os (λ (o : Own). o .arity))
 
-module _ (s : List ℕ) (bytes : Bytes s) where
-  functions-exact : Exact s (counted s mostFunctions (below s arityLimit)) (λ fs. (length fs ≤ 16) × All (λ a. a < 5) fs) (listed groups)
-  functions-exact = list-exact s bytes (below s arityLimit) (λ a. a < 5) groups (small-exact s bytes 5 (omega arith)) 16 (omega arith)
+module _ (file : List ℕ) (bytes : Bytes file) where
+  functions-exact : Exact file (counted file mostFunctions (below file arityLimit)) (λ fs. (length fs ≤ 16) × All (λ a. a < 5) fs) (listed groups)
+  functions-exact = list-exact file bytes (below file arityLimit) (λ a. a < 5) groups (small-exact file bytes 5 (omega arith)) 16 (omega arith)
 
-  symbols-exact : Exact s (counted s mostOwn (own s)) (λ os. (length os ≤ 32) × All OwnWithin os) (listed encodeOwn)
-  symbols-exact = list-exact s bytes (own s) OwnWithin encodeOwn (own-exact s bytes) 32 (omega arith)
+  symbols-exact : Exact file (counted file mostOwn (own file)) (λ os. (length os ≤ 32) × All OwnWithin os) (listed encodeOwn)
+  symbols-exact = list-exact file bytes (own file) OwnWithin encodeOwn (own-exact file bytes) 32 (omega arith)
 
   module _ (fs : List ℕ) (os : List Own) (few : length os ≤ 32) where
     rules-exact :
-        Exact s (counted s mostRules (rule s (slots fs) (factArities os)))
-        (λ rs. (length rs ≤ 64) × All (RuleWithin (slots fs) (factArities os)) rs) (listed encodeRule)
+        Exact file (counted file mostRules (rule file (tagArities fs) (factArities os)))
+        (λ rs. (length rs ≤ 64) × All (RuleWithin (tagArities fs) (factArities os)) rs) (listed encodeRule)
     rules-exact =
-        list-exact s bytes (rule s (slots fs) (factArities os)) (RuleWithin (slots fs) (factArities os)) encodeRule
-        (rule-exact s bytes (slots fs) (factArities os) (omega (arith, few-arities os few))) 64 (omega arith)
+        list-exact file bytes (rule file (tagArities fs) (factArities os)) (RuleWithin (tagArities fs) (factArities os)) encodeRule
+        (rule-exact file bytes (tagArities fs) (factArities os) (omega (arith, few-arities os few))) 64 (omega arith)
 
   -- what is within the limits reads back from its bytes
-  pub protocol-back : (p : Protocol) → Within p → s ≡ encodeProtocol p → protocol s ≡ got p (length s)
+  pub protocol-back : (p : Protocol) → Within p → file ≡ encodeProtocol p → protocol file ≡ got p (length file)
   unfolding protocol
   protocol-back p w h =
       let F : List ℕ = listed groups (p .functions) in
       let O : List ℕ = listed encodeOwn (p .symbols) in
       let R : List ℕ = listed encodeRule (p .rules) in
-      let a : drop 0 s ≡ F ++ (O ++ R) = h in
-      let b : drop (0 + length F) s ≡ O ++ R = behind s 0 F (O ++ R) a in
-      let c : drop (0 + length F + length O) s ≡ R ++ [] = behind s (0 + length F) O R b ∙ sym (append-nil R) in
-      let e : 0 + length F + length O + length R ≡ length s = omega (arith, ap length h, length-append F (O ++ R), length-append O R) in
-      then-got (counted s mostFunctions (below s arityLimit) 0) _ (functions-exact .back (p .functions) 0 (O ++ R) (w .few-functions, w .arities) a)
-      ∙ then-got (counted s mostOwn (own s) (0 + length F)) _
+      let a : drop 0 file ≡ F ++ (O ++ R) = h in
+      let b : drop (0 + length F) file ≡ O ++ R = behind file 0 F (O ++ R) a in
+      let c : drop (0 + length F + length O) file ≡ R ++ [] = behind file (0 + length F) O R b ∙ sym (append-nil R) in
+      let e : 0 + length F + length O + length R ≡ length file = omega (arith, ap length h, length-append F (O ++ R), length-append O R) in
+      then-got (counted file mostFunctions (below file arityLimit) 0) _ (functions-exact .back (p .functions) 0 (O ++ R) (w .few-functions, w .arities) a)
+      ∙ then-got (counted file mostOwn (own file) (0 + length F)) _
       (symbols-exact .back (p .symbols) (0 + length F) R (w .few-symbols, w .symbols) b)
-      ∙ then-got (counted s mostRules (rule s (slots (p .functions)) (factArities (p .symbols))) (0 + length F + length O)) _
+      ∙ then-got (counted file mostRules (rule file (tagArities (p .functions)) (factArities (p .symbols))) (0 + length F + length O)) _
       (rules-exact (p .functions) (p .symbols) (w .few-symbols) .back (p .rules) (0 + length F + length O) [] (w .few-rules, w .rules) c)
-      ∙ pick-true _ _ (eq-eqb (0 + length F + length O + length R) (length s) e)
+      ∙ pick-true _ _ (eq-eqb (0 + length F + length O + length R) (length file) e)
       ∙ ap (got p) e
 
   -- what reads is within the limits, the file is its bytes, and nothing is left over
   pub record Form (p : Protocol) (e : ℕ) : Type 0 where
     pub within : Within p
-    pub bytes-are : s ≡ encodeProtocol p
-    pub whole : e ≡ length s
+    pub bytes-are : file ≡ encodeProtocol p
+    pub whole : e ≡ length file
 
-  pub protocol-form : (p : Protocol) (e : ℕ) → protocol s ≡ got p e → Form p e
+  pub protocol-form : (p : Protocol) (e : ℕ) → protocol file ≡ got p e → Form p e
   unfolding protocol
   protocol-form p e h =
-      cut-got (counted s mostFunctions (below s arityLimit) 0) _ h (λ fs c hf h.
-      cut-got (counted s mostOwn (own s) c) _ h (λ os d ho h.
-      cut-got (counted s mostRules (rule s (slots fs) (factArities os)) d) _ h (λ rs f hr h.
-      cut-eq _ _ _ f (length s) h
+      cut-got (counted file mostFunctions (below file arityLimit) 0) _ h (λ fs c hf h.
+      cut-got (counted file mostOwn (own file) c) _ h (λ os d ho h.
+      cut-got (counted file mostRules (rule file (tagArities fs) (factArities os)) d) _ h (λ rs f hr h.
+      cut-eq _ _ _ f (length file) h
       (λ z h.
       let a = functions-exact .form fs 0 c hf in
       let b = symbols-exact .form os c d ho in
       let k = rules-exact fs os (b .0 .0) .form rs d f hr in
       let all = stands-join (a .1) (stands-join (b .1) (k .1)) in
-      let none : drop f s ≡ [] = drop-of-length-le s {i = f} (omega arith) in
+      let none : drop f file ≡ [] = drop-of-length-le file {i = f} (omega arith) in
       let q : protocol-of fs os rs ≡ p = cc in
       let r : f ≡ e = cc in
       subst (λ (x : Protocol). Form x e) q
@@ -193,6 +193,6 @@ module _ (s : List ℕ) (bytes : Bytes s) where
       (λ z h. clash (cc)))))
 
   -- exact in both directions
-  pub protocol-exact : (p : Protocol) → (protocol s ≡ got p (length s)) ↔ (Within p × (s ≡ encodeProtocol p))
+  pub protocol-exact : (p : Protocol) → (protocol file ≡ got p (length file)) ↔ (Within p × (file ≡ encodeProtocol p))
   protocol-exact p =
-      ((λ h. let f = protocol-form p (length s) h in (f .within, f .bytes-are)), (λ h. protocol-back p (h .0) (h .1)))
+      ((λ h. let f = protocol-form p (length file) h in (f .within, f .bytes-are)), (λ h. protocol-back p (h .0) (h .1)))

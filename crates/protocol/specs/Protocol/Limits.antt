@@ -9,14 +9,14 @@ use Rattle.protocol.specs.Figures.{mostOwn, flagCount, mostRules, arityL
 use Rattle.protocol.specs.Figures.{mostVariables, sortCount, listCount, mostFacts, mostRuleSymbols}
 use Rattle.lists.specs.All.{All}
 use Rattle.term.specs.Term.{Term, symbols, Formed, InRange}
-use Rattle.term.specs.Arity.{arity, slots}
+use Rattle.term.specs.Arity.{arity, tagArities}
 use Rattle.protocol.specs.Protocol.{Fact, Rule, Own, Protocol, factArities, declared}
 
 -- under the arities of functions (slots) and of fact symbols (ars)
-module _ (slots : List ℕ) where
+module _ (arities : List ℕ) where
   -- "a rule's term has at most 64 symbols", each a declared function's, its numbers as a file can hold them
   pub record TermWithin (t : Term) : Type 0 where
-    pub formed : Formed (arity slots) t
+    pub formed : Formed (arity arities) t
     pub range : InRange t
     pub short : symbols t ≤ mostRuleSymbols
 
@@ -35,8 +35,8 @@ module _ (slots : List ℕ) where
     pub record LayoutWithin (r : Rule) : Type 0 where
       pub few : length (r .sorts) ≤ mostVariables
       pub sorted : All (λ v. v < sortCount) (r .sorts)
-      pub three : length (r .parts) ≡ listCount
-      pub each : All FactsWithin (r .parts)
+      pub three : length (r .lists) ≡ listCount
+      pub each : All FactsWithin (r .lists)
 
     pub record RuleWithin (r : Rule) : Type 0 where
       pub laid : LayoutWithin r
@@ -56,4 +56,4 @@ pub record Within (p : Protocol) : Type 0 where
   pub symbols : All OwnWithin (p .symbols)
   -- "count of rules (64)"
   pub few-rules : length (p .rules) ≤ mostRules
-  pub rules : All (RuleWithin (slots (p .functions)) (factArities (p .symbols))) (p .rules)
+  pub rules : All (RuleWithin (tagArities (p .functions)) (factArities (p .symbols))) (p .rules)

@@ -37,7 +37,7 @@ asks kind lo hi f = pick (ltb kind symbolKind) (leafIn kind lo hi f) (symbolIn l
 
 -- in one of the three lists of a rule
 abbrev pub ruleAsks : ℕ → ℕ → ℕ → Rule → Bool
-ruleAsks kind lo hi r = anyBy (anyBy (asks kind lo hi)) (r .parts)
+ruleAsks kind lo hi r = anyBy (anyBy (asks kind lo hi)) (r .lists)
 
 -- ── a term of a rule ──
 abbrev cutWalk : Walk → Seen
@@ -55,23 +55,23 @@ module _ (kind lo hi : ℕ) where
   sized-seen (got t e) = pick-seen (leafAt kind lo hi) (ltb (symbols t) ruleSymbolLimit) t e
   sized-seen fault = refl
 
-  module _ (s slots : List ℕ) (at : ℕ) where
+  module _ (file arities : List ℕ) (at : ℕ) where
     abbrev Term-seen : Seen → Type 0
-    Term-seen r = r ≡ seen (leafAt kind lo hi) (ruleTerm s slots at)
+    Term-seen r = r ≡ seen (leafAt kind lo hi) (ruleTerm file arities at)
 
-    pub rule-term-seen : {w : Walk} → w ≡ walked kind lo hi (term s slots at) → Term-seen (cutWalk w)
+    pub rule-term-seen : {w : Walk} → w ≡ walked kind lo hi (term file arities at) → Term-seen (cutWalk w)
     unfolding ruleTerm
-    rule-term-seen h = ap cutWalk h ∙ sym (sized-seen (term s slots at))
+    rule-term-seen h = ap cutWalk h ∙ sym (sized-seen (term file arities at))
 
-    pub rule-term-end : {e n : ℕ} {b : Bool} → wk.End e n b ≡ walked kind lo hi (term s slots at) → n < ruleSymbolLimit → Term-seen (sn.End e b)
+    pub rule-term-end : {e n : ℕ} {b : Bool} → wk.End e n b ≡ walked kind lo hi (term file arities at) → n < ruleSymbolLimit → Term-seen (sn.End e b)
     rule-term-end {e} {n} {b} h l = simp (lt-ltb n ruleSymbolLimit l) at (rule-term-seen h)
 
-    pub rule-term-long : {e n : ℕ} {b : Bool} → wk.End e n b ≡ walked kind lo hi (term s slots at) → ruleSymbolLimit ≤ n → Term-seen sn.Fault
+    pub rule-term-long : {e n : ℕ} {b : Bool} → wk.End e n b ≡ walked kind lo hi (term file arities at) → ruleSymbolLimit ≤ n → Term-seen sn.Fault
     rule-term-long {e} {n} {b} h l = simp (le-ltb n ruleSymbolLimit l) at (rule-term-seen h)
 
 -- ── a fact, from behind its symbol ──
 unfoldable pub factFrom : List ℕ → List ℕ → List ℕ → ℕ → ℕ → Read Fact
-factFrom s slots ars y at = andThen (many (ruleTerm s slots) (getD ars y 0) at) (λ ts f. got (fact-of y ts) f)
+factFrom file arities ars y at = andThen (many (ruleTerm file arities) (getD ars y 0) at) (λ ts f. got (fact-of y ts) f)
 
 module _ (kind lo hi y : ℕ) where
   abbrev as-fact : Read (List Term) → Seen
@@ -91,71 +91,71 @@ module _ (kind lo hi y : ℕ) where
   fact-none (got ts f) h = clash (cc)
   fact-none fault h = refl
 
-  module _ (s slots ars : List ℕ) (at : ℕ) where
+  module _ (file arities ars : List ℕ) (at : ℕ) where
     abbrev its-terms : Read (List Term)
-    its-terms = many (ruleTerm s slots) (getD ars y 0) at
+    its-terms = many (ruleTerm file arities) (getD ars y 0) at
 
     pub from-leaves :
-        kind < symbolKind → {r : Seen} → r ≡ seen (anyBy (leafAt kind lo hi)) its-terms → r ≡ seen (asks kind lo hi) (factFrom s slots ars y at)
+        kind < symbolKind → {r : Seen} → r ≡ seen (anyBy (leafAt kind lo hi)) its-terms → r ≡ seen (asks kind lo hi) (factFrom file arities ars y at)
     unfolding factFrom
     from-leaves l h = h ∙ sym (fact-leaves l its-terms)
 
     pub from-symbol :
         symbolKind ≤ kind → {e : ℕ} {b : Bool} → sn.End e b ≡ seen (anyBy (leafAt kind lo hi)) its-terms
-        → sn.End e (not (ltb y lo) && ltb y hi) ≡ seen (asks kind lo hi) (factFrom s slots ars y at)
+        → sn.End e (not (ltb y lo) && ltb y hi) ≡ seen (asks kind lo hi) (factFrom file arities ars y at)
     unfolding factFrom
     from-symbol l h = sym (fact-symbol l its-terms h)
 
-    pub from-none : sn.Fault ≡ seen (anyBy (leafAt kind lo hi)) its-terms → sn.Fault ≡ seen (asks kind lo hi) (factFrom s slots ars y at)
+    pub from-none : sn.Fault ≡ seen (anyBy (leafAt kind lo hi)) its-terms → sn.Fault ≡ seen (asks kind lo hi) (factFrom file arities ars y at)
     unfolding factFrom
     from-none h = sym (fact-none its-terms h)
 
-module _ (s slots ars : List ℕ) (at : ℕ) where
-  pub fact-got : {y e : ℕ} → below s (length ars) at ≡ got y e → fact s slots ars at ≡ factFrom s slots ars y e
+module _ (file arities ars : List ℕ) (at : ℕ) where
+  pub fact-got : {y e : ℕ} → below file (length ars) at ≡ got y e → fact file arities ars at ≡ factFrom file arities ars y e
   unfolding fact factFrom
-  fact-got h = then-got (below s (length ars) at) _ h
+  fact-got h = then-got (below file (length ars) at) _ h
 
-  pub fact-fault : below s (length ars) at ≡ fault → fact s slots ars at ≡ fault
+  pub fact-fault : below file (length ars) at ≡ fault → fact file arities ars at ≡ fault
   unfolding fact
-  fact-fault h = then-fault (below s (length ars) at) _ h
+  fact-fault h = then-fault (below file (length ars) at) _ h
 
   -- ── a count and that many facts ──
-  pub facts-got : {n e : ℕ} → below s factLimit at ≡ got n e → facts s slots ars at ≡ many (fact s slots ars) n e
+  pub facts-got : {n e : ℕ} → below file factLimit at ≡ got n e → facts file arities ars at ≡ many (fact file arities ars) n e
   unfolding facts
-  facts-got {n} {e} h = counted-got s (fact s slots ars) 8 at n e h
+  facts-got {n} {e} h = counted-got file (fact file arities ars) 8 at n e h
 
-  pub facts-fault : below s factLimit at ≡ fault → facts s slots ars at ≡ fault
+  pub facts-fault : below file factLimit at ≡ fault → facts file arities ars at ≡ fault
   unfolding facts
-  facts-fault h = counted-fault s (fact s slots ars) 8 at h
+  facts-fault h = counted-fault file (fact file arities ars) 8 at h
 
 -- ── the sorts of the variables ──
 -- the number of variables of the rule at a place, and the place of its premises
 unfoldable pub sortsAt : List ℕ → ℕ → Read ℕ
-sortsAt s at = andThen (counted s mostVariables (below s sortCount) at) (λ vs e. got (length vs) e)
+sortsAt file at = andThen (counted file mostVariables (below file sortCount) at) (λ vs e. got (length vs) e)
 
 -- the sorts of n variables
 unfoldable pub sortsFrom : List ℕ → ℕ → ℕ → Read ℕ
-sortsFrom s n at = andThen (many (below s sortCount) n at) (λ vs e. got n e)
+sortsFrom file n at = andThen (many (below file sortCount) n at) (λ vs e. got n e)
 
-module _ (s : List ℕ) (n at : ℕ) where
-  pub sorts-came : {i : ℕ} → Came (below s sortCount) at n i → sortsFrom s n at ≡ got n i
+module _ (file : List ℕ) (n at : ℕ) where
+  pub sorts-came : {i : ℕ} → Came (below file sortCount) at n i → sortsFrom file n at ≡ got n i
   unfolding sortsFrom
-  sorts-came c = then-got (many (below s sortCount) n at) _ (c .there)
+  sorts-came c = then-got (many (below file sortCount) n at) _ (c .there)
 
-  pub sorts-stop : many (below s sortCount) n at ≡ fault → sortsFrom s n at ≡ fault
+  pub sorts-stop : many (below file sortCount) n at ≡ fault → sortsFrom file n at ≡ fault
   unfolding sortsFrom
-  sorts-stop h = then-fault (many (below s sortCount) n at) _ h
+  sorts-stop h = then-fault (many (below file sortCount) n at) _ h
 
-module _ (s : List ℕ) (at : ℕ) where
-  pub sorts-got : {n e : ℕ} → below s variableLimit at ≡ got n e → sortsAt s at ≡ sortsFrom s n e
+module _ (file : List ℕ) (at : ℕ) where
+  pub sorts-got : {n e : ℕ} → below file variableLimit at ≡ got n e → sortsAt file at ≡ sortsFrom file n e
   unfolding sortsAt sortsFrom
   sorts-got {n} {e} h =
-      ap (λ (r : Read (List ℕ)). andThen r (λ vs e. got (length vs) e)) (counted-got s (below s sortCount) 16 at n e h)
-      ∙ then-same-at (many (below s sortCount) n e) _ _ (λ vs f k. ap (λ (m : ℕ). got m f) (many-length (below s sortCount) n e f vs k))
+      ap (λ (r : Read (List ℕ)). andThen r (λ vs e. got (length vs) e)) (counted-got file (below file sortCount) 16 at n e h)
+      ∙ then-same-at (many (below file sortCount) n e) _ _ (λ vs f k. ap (λ (m : ℕ). got m f) (many-length (below file sortCount) n e f vs k))
 
-  pub sorts-fault : below s variableLimit at ≡ fault → sortsAt s at ≡ fault
+  pub sorts-fault : below file variableLimit at ≡ fault → sortsAt file at ≡ fault
   unfolding sortsAt
-  sorts-fault h = ap (λ (r : Read (List ℕ)). andThen r (λ vs e. got (length vs) e)) (counted-fault s (below s sortCount) 16 at h)
+  sorts-fault h = ap (λ (r : Read (List ℕ)). andThen r (λ vs e. got (length vs) e)) (counted-fault file (below file sortCount) 16 at h)
 
 -- ── a rule ──
 -- only the place behind it
@@ -175,9 +175,9 @@ module _ (n : ℕ) (o : Read (List (List Fact))) {w : Seen} (asked : w ≡ seen 
   pub parts-by : (e : ℕ) (b : Bool) → w ≡ sn.End e b → pick b sn.Fault (sn.End e false) ≡ closed (seen (anyBy (anyBy (asks 0 n numberLimit))) o)
   parts-by e b h = ap closed (sym h) ∙ parts-closed
 
-module _ (s slots ars : List ℕ) (at : ℕ) where
+module _ (file arities ars : List ℕ) (at : ℕ) where
   abbrev lists-from : List ℕ → ℕ → Read Rule
-  lists-from vs e = andThen (many (facts s slots ars) listCount e) (λ ps f. got (rule-of vs ps) f)
+  lists-from vs e = andThen (many (facts file arities ars) listCount e) (λ ps f. got (rule-of vs ps) f)
 
   module _ (kind lo hi : ℕ) where
     parts-seen :
@@ -188,26 +188,26 @@ module _ (s slots ars : List ℕ) (at : ℕ) where
 
     layout-from :
         (r : Read (List ℕ)) {n e : ℕ} → andThen r (λ vs e. got (length vs) e) ≡ got n e
-        → seen (ruleAsks kind lo hi) (andThen r lists-from) ≡ seen (anyBy (anyBy (asks kind lo hi))) (many (facts s slots ars) listCount e)
+        → seen (ruleAsks kind lo hi) (andThen r lists-from) ≡ seen (anyBy (anyBy (asks kind lo hi))) (many (facts file arities ars) listCount e)
     layout-from (got vs d) {n} {e} h =
         let b : d ≡ e = cc in
-        parts-seen vs (many (facts s slots ars) listCount d)
-        ∙ ap (λ (i : ℕ). seen (anyBy (anyBy (asks kind lo hi))) (many (facts s slots ars) listCount i)) b
+        parts-seen vs (many (facts file arities ars) listCount d)
+        ∙ ap (λ (i : ℕ). seen (anyBy (anyBy (asks kind lo hi))) (many (facts file arities ars) listCount i)) b
     layout-from fault h = clash (cc)
 
     pub layout-got :
-        {n e : ℕ} → sortsAt s at ≡ got n e
-        → seen (ruleAsks kind lo hi) (layout s slots ars at) ≡ seen (anyBy (anyBy (asks kind lo hi))) (many (facts s slots ars) listCount e)
+        {n e : ℕ} → sortsAt file at ≡ got n e
+        → seen (ruleAsks kind lo hi) (layout file arities ars at) ≡ seen (anyBy (anyBy (asks kind lo hi))) (many (facts file arities ars) listCount e)
     unfolding sortsAt layout
-    layout-got h = layout-from (counted s mostVariables (below s sortCount) at) h
+    layout-got h = layout-from (counted file mostVariables (below file sortCount) at) h
 
   no-sorts : (r : Read (List ℕ)) → andThen r (λ vs e. got (length vs) e) ≡ fault → r ≡ fault
   no-sorts (got vs d) h = clash (cc)
   no-sorts fault h = refl
 
-  pub layout-fault : sortsAt s at ≡ fault → layout s slots ars at ≡ fault
+  pub layout-fault : sortsAt file at ≡ fault → layout file arities ars at ≡ fault
   unfolding sortsAt layout
-  layout-fault h = then-fault (counted s mostVariables (below s sortCount) at) _ (no-sorts (counted s mostVariables (below s sortCount) at) h)
+  layout-fault h = then-fault (counted file mostVariables (below file sortCount) at) _ (no-sorts (counted file mostVariables (below file sortCount) at) h)
 
   -- ── its variables are declared: no leaf of kind 0 from their count on ──
   by-hit : (t : Bool) (x : Rule) (d : ℕ) → ended (pick (not t) (got x d) fault) ≡ pick t sn.Fault (sn.End d false)
@@ -224,20 +224,20 @@ module _ (s slots ars : List ℕ) (at : ℕ) where
   closed-from :
       (r : Read (List ℕ)) {n e : ℕ} → andThen r (λ vs e. got (length vs) e) ≡ got n e
       → ended (andThen (andThen r lists-from) (λ x f. pick (declared x) (got x f) fault))
-      ≡ closed (seen (anyBy (anyBy (asks 0 n numberLimit))) (many (facts s slots ars) listCount e))
+      ≡ closed (seen (anyBy (anyBy (asks 0 n numberLimit))) (many (facts file arities ars) listCount e))
   closed-from (got vs c) {n} {e} h =
       let a : length vs ≡ n = cc in
       let k : c ≡ e = cc in
-      lists-closed vs (many (facts s slots ars) listCount c)
-      ∙ ap₂ (λ (m i : ℕ). closed (seen (anyBy (anyBy (asks 0 m numberLimit))) (many (facts s slots ars) listCount i))) a k
+      lists-closed vs (many (facts file arities ars) listCount c)
+      ∙ ap₂ (λ (m i : ℕ). closed (seen (anyBy (anyBy (asks 0 m numberLimit))) (many (facts file arities ars) listCount i))) a k
   closed-from fault h = clash (cc)
 
   pub rule-got :
-      {n e : ℕ} → sortsAt s at ≡ got n e
-      → ended (rule s slots ars at) ≡ closed (seen (anyBy (anyBy (asks 0 n numberLimit))) (many (facts s slots ars) listCount e))
+      {n e : ℕ} → sortsAt file at ≡ got n e
+      → ended (rule file arities ars at) ≡ closed (seen (anyBy (anyBy (asks 0 n numberLimit))) (many (facts file arities ars) listCount e))
   unfolding sortsAt rule layout
-  rule-got h = closed-from (counted s mostVariables (below s sortCount) at) h
+  rule-got h = closed-from (counted file mostVariables (below file sortCount) at) h
 
-  pub rule-fault : layout s slots ars at ≡ fault → rule s slots ars at ≡ fault
+  pub rule-fault : layout file arities ars at ≡ fault → rule file arities ars at ≡ fault
   unfolding rule
-  rule-fault h = then-fault (layout s slots ars at) _ h
+  rule-fault h = then-fault (layout file arities ars at) _ h

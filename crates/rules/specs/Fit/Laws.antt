@@ -14,15 +14,15 @@ use Rattle.number.specs.Reading.{Read, got, fault, seen}
 use Rattle.lists.specs.Lists.{anyBy}
 use Rattle.number.specs.declared.Seen.{Seen}
 use Rattle.number.specs.declared.Seen.the-variants as sn
-use Rattle.protocol.specs.Protocol.{Rule, part, noRule, premises, conclusions, facts, layout, rule, protocol}
+use Rattle.protocol.specs.Protocol.{Rule, listOf, emptyRule, premises, conclusions, facts, layout, rule, protocol}
 use Rattle.protocol.specs.Protocol.Walks.{asks, ruleAsks, sortsAt, layout-fault}
 use Rattle.protocol.specs.Places.{Here, valueOf, listPlace, sortOf}
 use Rattle.protocol.specs.Places.Laws.{vars-law, list-law, sort-law, rule-layout}
 use Rattle.protocol.specs.Index.{Entries, Indexed, Placed}
 use Rattle.protocol.specs.declared.index.Index.{Index}
 use Rattle.protocol.specs.declared.index.Index.the-variants as ix
-use Rattle.rules.specs.declared.fit.Judged.{Judged}
-use Rattle.rules.specs.declared.fit.Judged.the-variants as jd
+use Rattle.rules.specs.declared.fit.FitVerdict.{FitVerdict}
+use Rattle.rules.specs.declared.fit.FitVerdict.the-variants as jd
 use Rattle.rules.specs.Fit.{p1, p4, bound, fits, Verdict, sound, broken, malformed, outcome, judged}
 use Rattle.lists.specs.Below.{least, allBelow}
 
@@ -36,22 +36,22 @@ hit-is q r h k = ap hitOf (h ∙ ap (seen q) k)
 
 -- the rule at a place, whatever rule that is, has this property
 abbrev pub OfRule : List ℕ → List ℕ → List ℕ → ℕ → (Rule → Type 0) → Type 0
-OfRule s slots ars at P = (r : Rule) → Here (layout s slots ars) r at → P r
+OfRule file arities ars at P = (r : Rule) → Here (layout file arities ars) r at → P r
 
-module _ (s slots ars : List ℕ) (at : ℕ) where
-  -- the answer on list w of the rule
+module _ (file arities ars : List ℕ) (at : ℕ) where
+  -- the answer on a list of the rule
   pub list-asked :
-      (w kind lo hi l : ℕ) {o : Seen} {b : Bool} → w < listCount → b ≡ hitOf o → l ≡ listPlace s slots ars at w
-      → o ≡ seen (anyBy (asks kind lo hi)) (facts s slots ars l) → OfRule s slots ars at (λ r. b ≡ anyBy (asks kind lo hi) (part w r))
-  list-asked w kind lo hi l {o} {b} small hb hl ho r h =
-      hb ∙ hit-is (anyBy (asks kind lo hi)) (facts s slots ars l) ho
-      (ap (facts s slots ars) hl ∙ list-law s slots ars at r h w small .reads)
+      (list kind lo hi l : ℕ) {o : Seen} {b : Bool} → list < listCount → b ≡ hitOf o → l ≡ listPlace file arities ars at list
+      → o ≡ seen (anyBy (asks kind lo hi)) (facts file arities ars l) → OfRule file arities ars at (λ r. b ≡ anyBy (asks kind lo hi) (listOf list r))
+  list-asked list kind lo hi l {o} {b} small hb hl ho r h =
+      hb ∙ hit-is (anyBy (asks kind lo hi)) (facts file arities ars l) ho
+      (ap (facts file arities ars) hl ∙ list-law file arities ars at r h list small .reads)
 
   -- the answer on all of the rule
   pub rule-asked :
-      (kind lo hi : ℕ) {o : Seen} {b : Bool} → b ≡ hitOf o → o ≡ seen (ruleAsks kind lo hi) (layout s slots ars at)
-      → OfRule s slots ars at (λ r. b ≡ ruleAsks kind lo hi r)
-  rule-asked kind lo hi hb ho r h = hb ∙ hit-is (ruleAsks kind lo hi) (layout s slots ars at) ho (h .reads)
+      (kind lo hi : ℕ) {o : Seen} {b : Bool} → b ≡ hitOf o → o ≡ seen (ruleAsks kind lo hi) (layout file arities ars at)
+      → OfRule file arities ars at (λ r. b ≡ ruleAsks kind lo hi r)
+  rule-asked kind lo hi hb ho r h = hb ∙ hit-is (ruleAsks kind lo hi) (layout file arities ars at) ho (h .reads)
 
   -- P1, with the limit as the code has it
   pub fresh-asked : (b : Bool) (r : Rule) → b ≡ ruleAsks 2 0 numberLimit r → not b ≡ p1 r
@@ -59,61 +59,61 @@ module _ (s slots ars : List ℕ) (at : ℕ) where
 
   -- a variable that the code finds bound
   pub bound-is :
-      (v m : ℕ) (b a c : Bool) → b ≡ eqb m 2 → m ≡ valueOf (sortOf s at v)
-      → OfRule s slots ars at (λ r. a ≡ anyBy (asks 0 v (v + 1)) (premises r))
-      → OfRule s slots ars at (λ r. c ≡ anyBy (asks 0 v (v + 1)) (conclusions r))
-      → OfRule s slots ars at (λ r. v < length (r .sorts) → (b || (a || not c)) ≡ bound r v)
+      (v m : ℕ) (b a c : Bool) → b ≡ eqb m 2 → m ≡ valueOf (sortOf file at v)
+      → OfRule file arities ars at (λ r. a ≡ anyBy (asks 0 v (v + 1)) (premises r))
+      → OfRule file arities ars at (λ r. c ≡ anyBy (asks 0 v (v + 1)) (conclusions r))
+      → OfRule file arities ars at (λ r. v < length (r .sorts) → (b || (a || not c)) ≡ bound r v)
   bound-is v m b a c hb hm ha hc r h l =
-      ap₂ _||_ (hb ∙ ap (λ (k : ℕ). eqb k 2) (hm ∙ sort-law s slots ars at r h v l))
+      ap₂ _||_ (hb ∙ ap (λ (k : ℕ). eqb k 2) (hm ∙ sort-law file arities ars at r h v l))
       (ap₂ (λ (x y : Bool). x || not y) (ha r h) (hc r h))
 
   -- all of them
   pub all-is :
-      (n d : ℕ) (b : Bool) → sortsAt s at ≡ got n d
-      → OfRule s slots ars at (λ r. n ≤ length (r .sorts) → b ≡ allBelow (bound r) n) → OfRule s slots ars at (λ r. b ≡ p4 r)
+      (n d : ℕ) (b : Bool) → sortsAt file at ≡ got n d
+      → OfRule file arities ars at (λ r. n ≤ length (r .sorts) → b ≡ allBelow (bound r) n) → OfRule file arities ars at (λ r. b ≡ p4 r)
   all-is n d b hn f r h =
-      let z : n ≡ length (r .sorts) = ap valueOf (sym hn) ∙ vars-law s slots ars at r h in
+      let z : n ≡ length (r .sorts) = ap valueOf (sym hn) ∙ vars-law file arities ars at r h in
       f r h (omega arith) ∙ ap (allBelow (bound r)) z
 
   -- no rule there
-  pub none-there : (P : Rule → Type 0) → sortsAt s at ≡ fault → OfRule s slots ars at P
-  none-there P n r h = let k = layout-fault s slots ars at n in let g = h .reads in clash (cc)
+  pub none-there : (P : Rule → Type 0) → sortsAt file at ≡ fault → OfRule file arities ars at P
+  none-there P n r h = let k = layout-fault file arities ars at n in let g = h .reads in clash (cc)
 
 -- ── the rules of a file ──
 -- whether the rule of number k breaks a condition
 abbrev pub unfit : List Rule → ℕ → Bool
-unfit rs k = not (fits (getD rs k noRule))
+unfit rs k = not (fits (getD rs k emptyRule))
 
 -- the code's answer on rule k
 pub placed-fits :
-    (s slots ars places : List ℕ) (n k : ℕ) (b : Bool) (rs : List Rule) → Placed (rule s slots ars) noRule places rs n → k < n
-    → OfRule s slots ars (getD places k 0) (λ r. b ≡ fits r) → not b ≡ unfit rs k
-placed-fits s slots ars places n k b rs p l h =
-    ap not (h (getD rs k noRule) (rule-layout s slots ars (getD places k 0) (getD rs k noRule) (p .each k l)))
+    (file arities ars places : List ℕ) (n k : ℕ) (b : Bool) (rs : List Rule) → Placed (rule file arities ars) emptyRule places rs n → k < n
+    → OfRule file arities ars (getD places k 0) (λ r. b ≡ fits r) → not b ≡ unfit rs k
+placed-fits file arities ars places n k b rs p l h =
+    ap not (h (getD rs k emptyRule) (rule-layout file arities ars (getD places k 0) (getD rs k emptyRule) (p .each k l)))
 
 -- ── what the code answers of a file ──
-abbrev pub verdictOf : Judged → Verdict
+abbrev pub verdictOf : FitVerdict → Verdict
 verdictOf (jd.Sound ns nr) = sound
 verdictOf (jd.Broken k) = broken k
 verdictOf jd.Fault = malformed
 
 -- where the file is sound, its index
-abbrev pub Indexes : List ℕ → Judged → List ℕ → List ℕ → List ℕ → List ℕ → Type 0
-Indexes s (jd.Sound ns nr) arities ars flags places = Entries s ns nr arities ars flags places
-Indexes s (jd.Broken k) arities ars flags places = Unit {0}
-Indexes s jd.Fault arities ars flags places = Unit {0}
+abbrev pub Indexes : List ℕ → FitVerdict → List ℕ → List ℕ → List ℕ → List ℕ → Type 0
+Indexes file (jd.Sound ns nr) arities ars flags places = Entries file ns nr arities ars flags places
+Indexes file (jd.Broken k) arities ars flags places = Unit {0}
+Indexes file jd.Fault arities ars flags places = Unit {0}
 
-module _ (s arities ars flags places : List ℕ) where
-  pub indexed-counts : {i : Index} {ns nr : ℕ} → i ≡ ix.Counts ns nr → Indexed s i arities ars flags places → Entries s ns nr arities ars flags places
-  indexed-counts h x = subst (λ (j : Index). Indexed s j arities ars flags places) h x
+module _ (file arities ars flags places : List ℕ) where
+  pub indexed-counts : {i : Index} {ns nr : ℕ} → i ≡ ix.Counts ns nr → Indexed file i arities ars flags places → Entries file ns nr arities ars flags places
+  indexed-counts h x = subst (λ (j : Index). Indexed file j arities ars flags places) h x
 
-  pub indexed-fault : {i : Index} → i ≡ ix.Fault → Indexed s i arities ars flags places → malformed ≡ judged (protocol s)
-  indexed-fault h x = sym (ap judged (subst (λ (j : Index). Indexed s j arities ars flags places) h x))
+  pub indexed-fault : {i : Index} → i ≡ ix.Fault → Indexed file i arities ars flags places → malformed ≡ judged (protocol file)
+  indexed-fault h x = sym (ap judged (subst (λ (j : Index). Indexed file j arities ars flags places) h x))
 
   pub judged-is :
-      {ns nr k : ℕ} (i : Entries s ns nr arities ars flags places)
-      → ((rs : List Rule) → Placed (rule s arities (take ns ars)) noRule places rs nr → k ≡ least (unfit rs) nr)
-      → outcome k ≡ judged (protocol s)
+      {ns nr k : ℕ} (i : Entries file ns nr arities ars flags places)
+      → ((rs : List Rule) → Placed (rule file arities (take ns ars)) emptyRule places rs nr → k ≡ least (unfit rs) nr)
+      → outcome k ≡ judged (protocol file)
   judged-is {ns} {nr} {k} i h =
       ap outcome (h (i .is .rules) (i .placed) ∙ ap (least (unfit (i .is .rules))) (sym (i .placed .count)))
       ∙ sym (ap judged (i .reads))

@@ -13,7 +13,7 @@ pub mod Leaves
 -- the tests decide P1 to P4
 pub mod Laws
 -- what a verdict says of a file's rules
-pub mod Judged
+pub mod Verdicts
 
 -- the variable or name of a kind and number stands in one of these facts
 abbrev pub OccursIn : Kind → ℕ → List Fact → Type 0
@@ -25,7 +25,7 @@ Among y = Some (λ f. f .symbol ≡ y)
 
 pub record Fit (r : Rule) : Type 0 where
   -- "no fresh name in a rule"
-  pub p1 : (n : ℕ) → Some (OccursIn fresh n) (r .parts) → ⊥
+  pub p1 : (n : ℕ) → Some (OccursIn fresh n) (r .lists) → ⊥
   -- "no K or Out among premises"
   pub p2 : (Among kSymbol (premises r) ⊎ Among outSymbol (premises r)) → ⊥
   -- "no K, In or Fr among conclusions"

@@ -10,48 +10,48 @@ use borrow.Author.Tests.{lt-ltb, le-ltb}
 use Rattle.lists.specs.Choice.{pick, by-size}
 use Rattle.octets.specs.Head.{Bytes}
 use Rattle.lists.specs.All.{All}
-use Rattle.term.specs.Arity.{arity, slots, undeclared}
+use Rattle.term.specs.Arity.{arity, tagArities, undeclared}
 use Rattle.term.specs.Arity.Laws.{slot-inside, arity-none, arity-some}
-use Rattle.protocol.specs.Protocol.{Rule, Protocol, noRule, factArities, encodeRule, rule}
+use Rattle.protocol.specs.Protocol.{Rule, Protocol, emptyRule, factArities, encodeRule, rule}
 use Rattle.protocol.specs.Protocol.Limits.{Within}
 use Rattle.protocol.specs.Protocol.Exact.{rule-exact, few-arities}
 use Rattle.protocol.specs.Places.{Here}
 use Rattle.protocol.specs.Index.{Entries, Placed}
-use Rattle.rules.specs.declared.numbered.Found.{Found}
-use Rattle.rules.specs.declared.numbered.Found.the-variants as fd
+use Rattle.rules.specs.declared.numbered.FoundRule.{FoundRule}
+use Rattle.rules.specs.declared.numbered.FoundRule.the-variants as fd
 use Rattle.rules.specs.Numbered.{fixed, applies, applied, ruleOf}
 use Rattle.rules.specs.Numbered.Limits.{Slot, takes, empty, slot-at, rule-within}
 use Rattle.rules.specs.Numbered.Writing.{Holds}
 
 -- ── an apply-rule ──
-pub record AppliedAs (slots : List ℕ) (t len : ℕ) (out : List ℕ) : Type 0 where
+pub record AppliedAs (arities : List ℕ) (t len : ℕ) (out : List ℕ) : Type 0 where
   pub arguments : ℕ
-  pub declared : arity slots t ≡ some arguments
+  pub declared : arity arities t ≡ some arguments
   pub holds : Holds out len (encodeRule (applies t arguments))
 
-abbrev pub Applies : List ℕ → ℕ → Found → List ℕ → Type 0
-Applies slots t (fd.Written len) out = AppliedAs slots t len out
-Applies slots t (fd.At place) out = ⊥
-Applies slots t fd.Nothing out = arity slots t ≡ none
+abbrev pub Applies : List ℕ → ℕ → FoundRule → List ℕ → Type 0
+Applies arities t (fd.Written len) out = AppliedAs arities t len out
+Applies arities t (fd.At place) out = ⊥
+Applies arities t fd.Nothing out = arity arities t ≡ none
 
-module _ (fs arities : List ℕ) (small : All (λ a. a < 5) fs) (same : arities ≡ slots fs) (t : ℕ) (inside : t < length arities) where
-  slot-is : getD arities t 0 ≡ getD (slots fs) t undeclared
+module _ (fs arities : List ℕ) (small : All (λ a. a < 5) fs) (same : arities ≡ tagArities fs) (t : ℕ) (inside : t < length arities) where
+  slot-is : getD arities t 0 ≡ getD (tagArities fs) t undeclared
   slot-is = slot-inside arities t inside ∙ ap (λ (l : List ℕ). getD l t undeclared) same
 
-  pub slot-taken : 3 ≤ t → getD arities t 0 ≤ 4 → arity (slots fs) t ≡ some (getD arities t 0)
-  slot-taken h k = arity-some (slots fs) t h (λ e. omega (arith, slot-is)) ∙ ap some (sym slot-is)
+  pub slot-taken : 3 ≤ t → getD arities t 0 ≤ 4 → arity (tagArities fs) t ≡ some (getD arities t 0)
+  slot-taken h k = arity-some (tagArities fs) t h (λ e. omega (arith, slot-is)) ∙ ap some (sym slot-is)
 
   left-empty : (a : ℕ) → Slot a → 4 < a → a ≡ undeclared
   left-empty a (takes h) k = absurd (omega arith)
   left-empty a (empty h) k = h
 
-  pub slot-left : 4 < getD arities t 0 → arity (slots fs) t ≡ none
+  pub slot-left : 4 < getD arities t 0 → arity (tagArities fs) t ≡ none
   slot-left k =
-      arity-none (slots fs) t
-      (left-empty (getD (slots fs) t undeclared) (slot-at fs small t) (omega (arith, slot-is)))
+      arity-none (tagArities fs) t
+      (left-empty (getD (tagArities fs) t undeclared) (slot-at fs small t) (omega (arith, slot-is)))
 
 -- ── a rule of the protocol's own ──
-unfoldable pub placeFound : List ℕ → ℕ → ℕ → Found
+unfoldable pub placeFound : List ℕ → ℕ → ℕ → FoundRule
 placeFound places n k = pick (ltb k n) (fd.At (getD places k 0)) fd.Nothing
 
 module _ (places : List ℕ) (n k : ℕ) where
@@ -80,22 +80,22 @@ pub record WrittenAs (p : Protocol) (n len : ℕ) (out : List ℕ) : Type 0 wher
   pub is : ruleOf p n ≡ some its
   pub holds : Holds out len (encodeRule its)
 
-pub record PlacedAs (p : Protocol) (s slots ars : List ℕ) (n place : ℕ) : Type 0 where
+pub record PlacedAs (p : Protocol) (file arities ars : List ℕ) (n place : ℕ) : Type 0 where
   pub its : Rule
   pub is : ruleOf p n ≡ some its
-  pub here : Here (rule s slots ars) its place
+  pub here : Here (rule file arities ars) its place
 
-abbrev pub Finds : Protocol → List ℕ → List ℕ → List ℕ → ℕ → Found → List ℕ → Type 0
-Finds p s slots ars n (fd.Written len) out = WrittenAs p n len out
-Finds p s slots ars n (fd.At place) out = PlacedAs p s slots ars n place
-Finds p s slots ars n fd.Nothing out = ruleOf p n ≡ none
+abbrev pub Finds : Protocol → List ℕ → List ℕ → List ℕ → ℕ → FoundRule → List ℕ → Type 0
+Finds p file arities ars n (fd.Written len) out = WrittenAs p n len out
+Finds p file arities ars n (fd.At place) out = PlacedAs p file arities ars n place
+Finds p file arities ars n fd.Nothing out = ruleOf p n ≡ none
 
 module _ (p : Protocol) (n : ℕ) where
   pub of-fixed : n < 5 → ruleOf p n ≡ some (fixed n)
   unfolding ruleOf
   of-fixed h = simp (lt-ltb n 5 h)
 
-  pub of-applied : (t : ℕ) → n ≡ t + 2 → 5 ≤ n → n < 31 → ruleOf p n ≡ applied t (arity (slots (p .functions)) t)
+  pub of-applied : (t : ℕ) → n ≡ t + 2 → 5 ≤ n → n < 31 → ruleOf p n ≡ applied t (arity (tagArities (p .functions)) t)
   unfolding ruleOf
   of-applied t e h k =
       let z : n - 2 ≡ t = omega arith in
@@ -105,46 +105,46 @@ module _ (p : Protocol) (n : ℕ) where
   unfolding ruleOf
   of-own h = simp (le-ltb n 5 (omega arith), le-ltb n 31 h)
 
-  module _ (s slots′ ars out : List ℕ) where
+  module _ (file slots′ ars out : List ℕ) where
     pub finds-applied :
-        (t : ℕ) → n ≡ t + 2 → 5 ≤ n → n < 31 → (r : Found) → Applies (slots (p .functions)) t r out → Finds p s slots′ ars n r out
+        (t : ℕ) → n ≡ t + 2 → 5 ≤ n → n < 31 → (r : FoundRule) → Applies (tagArities (p .functions)) t r out → Finds p file slots′ ars n r out
     finds-applied t e h k (fd.Written len) a =
         record { its = applies t (a .arguments); is = of-applied t e h k ∙ ap (applied t) (a .declared); holds = a .holds }
     finds-applied t e h k (fd.At place) a = absurd a
     finds-applied t e h k fd.Nothing a = of-applied t e h k ∙ ap (applied t) a
 
     pub finds-own :
-        (places : List ℕ) (nr : ℕ) → Placed (rule s slots′ ars) noRule places (p .rules) nr → 31 ≤ n → (r : Found)
-        → r ≡ placeFound places nr (n - 31) → Finds p s slots′ ars n r out
+        (places : List ℕ) (nr : ℕ) → Placed (rule file slots′ ars) emptyRule places (p .rules) nr → 31 ≤ n → (r : FoundRule)
+        → r ≡ placeFound places nr (n - 31) → Finds p file slots′ ars n r out
     finds-own places nr q h r e =
         by-size (n - 31) nr
-        (λ l. subst (λ (x : Found). Finds p s slots′ ars n x out) (sym (e ∙ place-found places nr (n - 31) l))
+        (λ l. subst (λ (x : FoundRule). Finds p file slots′ ars n x out) (sym (e ∙ place-found places nr (n - 31) l))
         record {
-          its = getD (p .rules) (n - 31) noRule;
-          is = of-own h ∙ nth-some noRule (p .rules) (n - 31) (omega (arith, q .count));
+          its = getD (p .rules) (n - 31) emptyRule;
+          is = of-own h ∙ nth-some emptyRule (p .rules) (n - 31) (omega (arith, q .count));
           here = q .each (n - 31) l;
         })
-        (λ l. subst (λ (x : Found). Finds p s slots′ ars n x out) (sym (e ∙ place-none places nr (n - 31) l))
-        (of-own h ∙ nth-none noRule (p .rules) (n - 31) (omega (arith, q .count))))
+        (λ l. subst (λ (x : FoundRule). Finds p file slots′ ars n x out) (sym (e ∙ place-none places nr (n - 31) l))
+        (of-own h ∙ nth-none emptyRule (p .rules) (n - 31) (omega (arith, q .count))))
 
 -- what is written is read as that rule, like a rule of the file
 pub written-reads :
     (p : Protocol) → Within p → (n len : ℕ) (out : List ℕ) → (w : WrittenAs p n len out) → Bytes (take len out)
-    → Here (rule (take len out) (slots (p .functions)) (factArities (p .symbols))) (w .its) 0
+    → Here (rule (take len out) (tagArities (p .functions)) (factArities (p .symbols))) (w .its) 0
 written-reads p v n len out w bytes =
     let few : length (factArities (p .symbols)) ≤ 36 = few-arities (p .symbols) (v .few-symbols) in
     record {
       next = 0 + length (encodeRule (w .its));
       reads =
-          rule-exact (take len out) bytes (slots (p .functions)) (factArities (p .symbols)) (omega arith)
+          rule-exact (take len out) bytes (tagArities (p .functions)) (factArities (p .symbols)) (omega arith)
           .back (w .its) 0 [] (rule-within p v n (w .its) (w .is)) (w .holds .bytes ∙ sym (append-nil (encodeRule (w .its))));
     }
 
 -- the same under the index of a file
 pub written-here :
-    {s : List ℕ} {ns nr : ℕ} {arities ars flags places : List ℕ} (i : Entries s ns nr arities ars flags places) (n len : ℕ) (out : List ℕ)
+    {file : List ℕ} {ns nr : ℕ} {arities ars flags places : List ℕ} (i : Entries file ns nr arities ars flags places) (n len : ℕ) (out : List ℕ)
     → (w : WrittenAs (i .is) n len out) → Bytes (take len out) → Here (rule (take len out) arities (take ns ars)) (w .its) 0
-written-here {s} {ns} {nr} {arities} {ars} i n len out w bytes =
+written-here {file} {ns} {nr} {arities} {ars} i n len out w bytes =
     let h = written-reads (i .is) (i .within) n len out w bytes in
     record {
       next = h .next;

@@ -13,7 +13,7 @@ use Rattle.lists.specs.All.{All}
 use borrow.Author.Tests.{lt-ltb}
 use Rattle.lists.specs.Lists.{anyBy}
 use Rattle.term.specs.Term.{Term, leaf, app, variable, count, symbolss, Formeds, InRanges}
-use Rattle.term.specs.Arity.{arity, slots, builtin, padded, undeclared}
+use Rattle.term.specs.Arity.{arity, tagArities, builtin, padded, undeclared}
 use Rattle.term.specs.Reader.{terms}
 use Rattle.term.specs.Walk.{holds, holdss}
 use Rattle.protocol.specs.Protocol.{Fact, Rule, Own, Protocol, fact-of, rule-of, factArities, leafIn, declared}
@@ -64,8 +64,8 @@ builtin-slots = (
   ),
 )
 
-pub slot-at : (fs : List ℕ) → All (λ a. a < 5) fs → (t : ℕ) → Slot (getD (slots fs) t undeclared)
-unfolding slots
+pub slot-at : (fs : List ℕ) → All (λ a. a < 5) fs → (t : ℕ) → Slot (getD (tagArities fs) t undeclared)
+unfolding tagArities
 slot-at fs h t =
     all-at Slot undeclared (builtin ++ padded 16 fs) t (empty refl)
     (all-append Slot builtin (padded 16 fs) builtin-slots (padded-slots 16 fs h))
@@ -74,13 +74,13 @@ small-slot : (a k : ℕ) → Slot a → (a ≡ undeclared → ⊥) → some a �
 small-slot a k (takes h) n e = let z : a ≡ k = cc in omega arith
 small-slot a k (empty h) n e = absurd (n h)
 
-pub arity-small : (fs : List ℕ) → All (λ a. a < 5) fs → (t k : ℕ) → arity (slots fs) t ≡ some k → k ≤ 4
+pub arity-small : (fs : List ℕ) → All (λ a. a < 5) fs → (t k : ℕ) → arity (tagArities fs) t ≡ some k → k ≤ 4
 unfolding arity
 arity-small fs h t k e =
     cut-lt _ _ _ t 3 e (λ l e. clash (cc))
-    (λ l e. cut-eq _ _ _ (getD (slots fs) t undeclared) undeclared e
+    (λ l e. cut-eq _ _ _ (getD (tagArities fs) t undeclared) undeclared e
     (λ z e. clash (cc))
-    (λ z e. small-slot (getD (slots fs) t undeclared) k (slot-at fs h t) z e))
+    (λ z e. small-slot (getD (tagArities fs) t undeclared) k (slot-at fs h t) z e))
 
 -- ── variables ──
 small-range : (n : ℕ) → n < 256 → n < numberLimit
@@ -126,15 +126,15 @@ applies-declared t k =
     let all : 0 + k ≤ n = omega (arith, length-replicate {A = ℕ} k 0) in
     simp (known-below n numberLimit 0 k all, variables-below n numberLimit 0 k all)
 
-module _ (slots : List ℕ) where
-  variables-formed : (i n : ℕ) → Formeds (arity slots) (terms (variables i n))
+module _ (arities : List ℕ) where
+  variables-formed : (i n : ℕ) → Formeds (arity arities) (terms (variables i n))
   variables-formed i zero = tt
   variables-formed i (suc n) = (tt, variables-formed (suc i) n)
 
-  variable-within : (v : ℕ) → v < 256 → TermWithin slots (leaf variable v)
+  variable-within : (v : ℕ) → v < 256 → TermWithin arities (leaf variable v)
   variable-within v h = record { formed = tt; range = small-range v h; short = omega arith }
 
-  applied-within : (t k : ℕ) → arity slots t ≡ some k → t < 256 → k ≤ 8 → TermWithin slots (app t (terms (variables 0 k)))
+  applied-within : (t k : ℕ) → arity arities t ≡ some k → t < 256 → k ≤ 8 → TermWithin arities (app t (terms (variables 0 k)))
   applied-within t k h l m =
       record {
         formed = (h ∙ ap some (sym (variables-count 0 k)), variables-formed 0 k);
@@ -151,29 +151,29 @@ module _ (slots : List ℕ) where
     arity-one (suc (suc (suc zero))) h = refl
     arity-one (suc (suc (suc (suc y)))) h = absurd (omega arith)
 
-    one-within : (y : ℕ) (t : Term) → y < 4 → TermWithin slots t → FactWithin slots (factArities os) (fact-of y (t ∷ []))
+    one-within : (y : ℕ) (t : Term) → y < 4 → TermWithin arities t → FactWithin arities (factArities os) (fact-of y (t ∷ []))
     one-within y t h w = record { known = omega arith; takes = sym (arity-one y h); each = (w, tt) }
 
-    first-within : (y : ℕ) → y < 4 → FactsWithin slots (factArities os) (first y)
+    first-within : (y : ℕ) → y < 4 → FactsWithin arities (factArities os) (first y)
     first-within y h = record { few = omega arith; each = (one-within y (leaf variable 0) h (variable-within 0 (omega arith)), tt) }
 
-    none-within : FactsWithin slots (factArities os) []
+    none-within : FactsWithin arities (factArities os) []
     none-within = record { few = omega arith; each = tt }
 
-    known-within : (i n : ℕ) → i + n ≤ 256 → All (FactWithin slots (factArities os)) (map known (variables i n))
+    known-within : (i n : ℕ) → i + n ≤ 256 → All (FactWithin arities (factArities os)) (map known (variables i n))
     known-within i zero h = tt
     known-within i (suc n) h =
         (one-within 3 (leaf variable i) (omega arith) (variable-within i (omega arith)), known-within (suc i) n (omega arith))
 
     -- ── the rules ──
     simple-within :
-        (v : ℕ) (a b c : List Fact) → v < 3 → FactsWithin slots (factArities os) a → FactsWithin slots (factArities os) b
-        → FactsWithin slots (factArities os) c → declared (rule-of (v ∷ []) (a ∷ b ∷ c ∷ [])) ≡ true
-        → RuleWithin slots (factArities os) (rule-of (v ∷ []) (a ∷ b ∷ c ∷ []))
+        (v : ℕ) (a b c : List Fact) → v < 3 → FactsWithin arities (factArities os) a → FactsWithin arities (factArities os) b
+        → FactsWithin arities (factArities os) c → declared (rule-of (v ∷ []) (a ∷ b ∷ c ∷ [])) ≡ true
+        → RuleWithin arities (factArities os) (rule-of (v ∷ []) (a ∷ b ∷ c ∷ []))
     simple-within v a b c h ha hb hc d =
         record { laid = record { few = omega arith; sorted = (h, tt); three = refl; each = (ha, (hb, (hc, tt))) }; bound = d }
 
-    pub fixed-within : (n : ℕ) → RuleWithin slots (factArities os) (fixed n)
+    pub fixed-within : (n : ℕ) → RuleWithin arities (factArities os) (fixed n)
     unfolding fixed
     fixed-within n =
         by-test (eqb n 0)
@@ -187,12 +187,12 @@ module _ (slots : List ℕ) where
         (simple-within 2 [] [] (first 3) (omega arith) none-within none-within (first-within 3 (omega arith)) refl)
         (simple-within 1 (first 0) [] (first 3) (omega arith) (first-within 0 (omega arith)) none-within (first-within 3 (omega arith)) refl))))
       where
-        by-test : (b : Bool) {x y : Rule} → RuleWithin slots (factArities os) x → RuleWithin slots (factArities os) y → RuleWithin slots (factArities os)
+        by-test : (b : Bool) {x y : Rule} → RuleWithin arities (factArities os) x → RuleWithin arities (factArities os) y → RuleWithin arities (factArities os)
             (pick b x y)
         by-test b {x} {y} p q = elim b [ true ↦ p | false ↦ q ]
 
     -- of anyBy arity that leaves no more premises than a list may have
-    pub applies-within : (t k : ℕ) → arity slots t ≡ some k → t < 256 → k ≤ 8 → RuleWithin slots (factArities os) (applies t k)
+    pub applies-within : (t k : ℕ) → arity arities t ≡ some k → t < 256 → k ≤ 8 → RuleWithin arities (factArities os) (applies t k)
     applies-within t k h l m =
         record {
           laid = record {
@@ -218,20 +218,20 @@ nth-all P (y ∷ xs) (suc k) x a h = nth-all P xs k x (a .1) h
 
 module _ (p : Protocol) (w : Within p) where
   abbrev Good : Rule → Type 0
-  Good = RuleWithin (slots (p .functions)) (factArities (p .symbols))
+  Good = RuleWithin (tagArities (p .functions)) (factArities (p .symbols))
 
-  from-arity : (t : ℕ) (r : Rule) (o : Option ℕ) → t < 256 → arity (slots (p .functions)) t ≡ o → applied t o ≡ some r → Good r
+  from-arity : (t : ℕ) (r : Rule) (o : Option ℕ) → t < 256 → arity (tagArities (p .functions)) t ≡ o → applied t o ≡ some r → Good r
   from-arity t r (some k) l h e =
       let z : applies t k ≡ r = cc in
       let m = arity-small (p .functions) (w .arities) t k h in
-      subst Good z (applies-within (slots (p .functions)) (p .symbols) t k h l (omega arith))
+      subst Good z (applies-within (tagArities (p .functions)) (p .symbols) t k h l (omega arith))
   from-arity t r none l h e = clash (cc)
 
   pub rule-within : (n : ℕ) (r : Rule) → ruleOf p n ≡ some r → Good r
   unfolding ruleOf
   rule-within n r e =
       cut-lt _ _ _ n 5 e
-      (λ l e. let z : fixed n ≡ r = cc in subst Good z (fixed-within (slots (p .functions)) (p .symbols) n))
+      (λ l e. let z : fixed n ≡ r = cc in subst Good z (fixed-within (tagArities (p .functions)) (p .symbols) n))
       (λ l e. cut-lt _ _ _ n 31 e
-      (λ m e. from-arity (n - 2) r (arity (slots (p .functions)) (n - 2)) (omega arith) refl e)
+      (λ m e. from-arity (n - 2) r (arity (tagArities (p .functions)) (n - 2)) (omega arith) refl e)
       (λ m e. nth-all Good (p .rules) (n - 31) r (w .rules) e))

@@ -11,18 +11,18 @@ use Rattle.protocol.specs.Protocol.{Rule, encodeRule, rule}
 use Rattle.protocol.specs.Protocol.Exact.{rule-exact, rule-inside, few-arities}
 use Rattle.protocol.specs.Places.{Here}
 use Rattle.protocol.specs.Index.{Entries}
-use Rattle.rules.specs.declared.numbered.Found.{Found}
-use Rattle.rules.specs.declared.numbered.Found.the-variants as fd
+use Rattle.rules.specs.declared.numbered.FoundRule.{FoundRule}
+use Rattle.rules.specs.declared.numbered.FoundRule.the-variants as fd
 use Rattle.rules.specs.Numbered.{ruleOf}
 use Rattle.rules.specs.Numbered.Found.{PlacedAs, Finds, written-here}
 
-abbrev pub partOf : List ℕ → List ℕ → Found → List ℕ
+abbrev pub partOf : List ℕ → List ℕ → FoundRule → List ℕ
 partOf file own (fd.Written len) = take len own
 partOf file own (fd.At place) = drop place file
 partOf file own fd.Nothing = []
 
 -- they are there
-abbrev pub Fits : List ℕ → List ℕ → Found → Type 0
+abbrev pub Fits : List ℕ → List ℕ → FoundRule → Type 0
 Fits file own (fd.Written len) = len ≤ length own
 Fits file own (fd.At place) = place ≤ length file
 Fits file own fd.Nothing = Unit {0}
@@ -36,7 +36,7 @@ module _ {s : List ℕ} {ns nr : ℕ} {arities ars flags places : List ℕ} (i :
   few : length (take ns ars) ≤ 36
   few = omega (arith, ap length (i .tabled), few-arities (i .is .symbols) (i .within .few-symbols))
 
-  pub finds-fit : (r : Found) (out : List ℕ) → Finds (i .is) s arities (take ns ars) n r out → Fits s out r
+  pub finds-fit : (r : FoundRule) (out : List ℕ) → Finds (i .is) s arities (take ns ars) n r out → Fits s out r
   finds-fit (fd.Written len) out f = f .holds .short
   finds-fit (fd.At place) out f =
       let (a, b) = rule-inside s bytes arities (take ns ars) (omega (arith, few)) (f .its) place (f .here .next) (f .here .reads) in
@@ -59,7 +59,7 @@ module _ {s : List ℕ} {ns nr : ℕ} {arities ars flags places : List ℕ} (i :
       }
 
   pub part-here :
-      (r : Found) (out : List ℕ) → Bytes (partOf s out r) → Finds (i .is) s arities (take ns ars) n r out → (u : Rule) → ruleOf (i .is) n ≡ some u
+      (r : FoundRule) (out : List ℕ) → Bytes (partOf s out r) → Finds (i .is) s arities (take ns ars) n r out → (u : Rule) → ruleOf (i .is) n ≡ some u
       → Here (rule (partOf s out r) arities (take ns ars)) u 0
   part-here (fd.Written len) out b f u is =
       subst (λ (v : Rule). Here (rule (take len out) arities (take ns ars)) v 0) (same (f .its) u (f .is) is)

@@ -20,10 +20,10 @@ use Rattle.steps.specs.Runs.{rewrittens}
 use Rattle.steps.specs.Causes.{stepsItem, nodeRuling, listRuling}
 use Rattle.steps.specs.declared.nodes.Nodes.{Nodes}
 use Rattle.steps.specs.declared.nodes.Nodes.the-variants as all
-use Rattle.steps.specs.declared.ruling.Judged.{Judged}
-use Rattle.steps.specs.declared.ruling.Judged.the-variants as jd
+use Rattle.steps.specs.declared.ruling.NodesRuling.{NodesRuling}
+use Rattle.steps.specs.declared.ruling.NodesRuling.the-variants as jd
 
-abbrev pub rulingOf : Judged → Ruling ℕ
+abbrev pub rulingOf : NodesRuling → Ruling ℕ
 rulingOf (jd.Good n) = passed n
 rulingOf (jd.Refused n k) = refused n k
 
@@ -76,38 +76,38 @@ module _ (p : Protocol) (xs : List Node) where
             ap {B = Ruling ℕ} passed (sym l) ∙ ap (λ (o : Option ℕ). Passes none none o) (sym (found-none k h) ∙ names) ∙ second
 
 -- ── the whole list, as it was read ──
-module _ (p : Protocol) (s places : List ℕ) (r : Nodes) (told : Told (steps p s) p s places r) where
+module _ (p : Protocol) (file places : List ℕ) (r : Nodes) (told : Told (steps p file) p file places r) where
   abbrev Whole : Ruling ℕ
-  Whole = counted (listRuling p stepsItem (steps p s))
+  Whole = counted (listRuling p stepsItem (steps p file))
 
   pub list-broken : r ≡ all.Broken → refused 3 stepsItem ≡ Whole
   list-broken h =
-      ap (λ (q : Reading (List Node)). counted (listRuling p stepsItem q)) (sym (subst (Told (steps p s) p s places) h told))
+      ap (λ (q : Reading (List Node)). counted (listRuling p stepsItem q)) (sym (subst (Told (steps p file) p file places) h told))
 
   pub list-unknown : {k : ℕ} → r ≡ all.NoRule k → refused 6 k ≡ Whole
   list-unknown h =
-      ap (λ (q : Reading (List Node)). counted (listRuling p stepsItem q)) (sym (subst (Told (steps p s) p s places) h told))
+      ap (λ (q : Reading (List Node)). counted (listRuling p stepsItem q)) (sym (subst (Told (steps p file) p file places) h told))
 
   module _ {n e : ℕ} (h : r ≡ all.End n e) where
-    pub list-read : NodesAre (steps p s) p s places n e
-    list-read = subst (Told (steps p s) p s places) h told
+    pub list-read : NodesAre (steps p file) p file places n e
+    list-read = subst (Told (steps p file) p file places) h told
 
-    pub list-few : Bytes s → n ≤ mostNodes
+    pub list-few : Bytes file → n ≤ mostNodes
     list-few bytes =
         let t = list-read in
-        let f : length (t .items) ≤ mostNodes = steps-form p s bytes (t .items) e (t .there) .0 .few in
+        let f : length (t .items) ≤ mostNodes = steps-form p file bytes (t .items) e (t .there) .0 .few in
         subst (λ k. k ≤ mostNodes) (t .placed .count) f
 
     pub list-nodes :
-        (j : Judged) → ((xs : List Node) → Placed (node p s) noNode places xs n → rulingOf j ≡ counted (nodeRuling p xs)) → rulingOf j ≡ Whole
+        (j : NodesRuling) → ((xs : List Node) → Placed (node p file) noNode places xs n → rulingOf j ≡ counted (nodeRuling p xs)) → rulingOf j ≡ Whole
     list-nodes j k =
         let t = list-read in
         k (t .items) (t .placed) ∙ ap (λ (q : Reading (List Node)). counted (listRuling p stepsItem q)) (sym (t .there))
 
 -- the nodes that were read are nodes of some protocol with this index
 pub list-some :
-    {protocol table rules : List ℕ} {nr : ℕ} {p : Protocol} (i : IndexOf protocol table rules nr p) (s places : List ℕ) (r : Nodes)
-    → Told (steps p s) p s places r → {n e : ℕ} → r ≡ all.End n e → SomeNodes protocol table rules nr s places n
-list-some {p = p} i s places r told h =
-    let t = list-read p s places r told h in
+    {protocol table rules : List ℕ} {nr : ℕ} {p : Protocol} (i : IndexOf protocol table rules nr p) (file places : List ℕ) (r : Nodes)
+    → Told (steps p file) p file places r → {n e : ℕ} → r ≡ all.End n e → SomeNodes protocol table rules nr file places n
+list-some {p = p} i file places r told h =
+    let t = list-read p file places r told h in
     record { of = p; index = i; their = t .items; placed = t .placed }

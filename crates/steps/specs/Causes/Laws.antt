@@ -64,6 +64,6 @@ module _ (p : Protocol) where
 
   -- a step list
   pub steps-ruled :
-      (item : ℕ) (s : List ℕ) → Bytes s
-      → Ruled (listRows p item (steps p s)) (λ xs. ((e : ℕ) × (steps p s ≡ read xs e)) × Passing xs) (listRuling p item (steps p s))
-  steps-ruled item s bytes = list-ruled item (steps p s) (λ xs e h. steps-form p s bytes xs e h .0 .each)
+      (item : ℕ) (file : List ℕ) → Bytes file
+      → Ruled (listRows p item (steps p file)) (λ xs. ((e : ℕ) × (steps p file ≡ read xs e)) × Passing xs) (listRuling p item (steps p file))
+  steps-ruled item file bytes = list-ruled item (steps p file) (λ xs e h. steps-form p file bytes xs e h .0 .each)

@@ -11,7 +11,7 @@ use Rattle.number.specs.Groups.{numberLimit}
 use Rattle.lists.specs.Lists.{anyBy}
 use Rattle.lists.specs.All.{All}
 use Rattle.term.specs.Term.{variable, Term, leaf, Formed}
-use Rattle.term.specs.Arity.{arity, slots}
+use Rattle.term.specs.Arity.{arity, tagArities}
 use Rattle.term.specs.Reader.Exact.{Good}
 use Rattle.term.specs.Walk.{holds}
 use Rattle.lists.specs.Tests.{not-split}
@@ -19,7 +19,7 @@ use Rattle.message.specs.Substitution.{sub, Ground}
 use Rattle.term.specs.Walk.Holds.{occurs-below}
 use Rattle.message.specs.Substitution.Laws.{sub-formed, sub-ground}
 use Rattle.message.specs.Theorems.{declared}
-use Rattle.protocol.specs.Protocol.{Fact, Rule, Protocol, part, factArities, leafIn}
+use Rattle.protocol.specs.Protocol.{Fact, Rule, Protocol, listOf, factArities, leafIn}
 use Rattle.rules.specs.Numbered.Limits.{rule-within}
 use Rattle.protocol.specs.Protocol.Limits.{TermWithin, FactWithin, FactsWithin, RuleWithin, Within}
 use Rattle.lists.specs.All.Laws.{all-map, all-both, all-at, map-all, none-all}
@@ -31,7 +31,7 @@ use Rattle.steps.specs.Facts.Laws.{fact-decides}
 pub record FactFormed (p : Protocol) (f : Fact) : Type 0 where
   pub known : f .symbol < length (factArities (p .symbols))
   pub takes : length (f .terms) ≡ getD (factArities (p .symbols)) (f .symbol) 0
-  pub each : All (Formed (arity (slots (p .functions)))) (f .terms)
+  pub each : All (Formed (arity (tagArities (p .functions)))) (f .terms)
 
 value-ground : (vs : List Term) → All Ground vs → (v : ℕ) → v < length vs → Ground (valueAt vs v)
 value-ground vs g v l = go vs g v (leaf variable v) l
@@ -44,58 +44,59 @@ value-ground vs g v l = go vs g v (leaf variable v) l
 -- ── values are well formed, and so are the terms that they fill ──
 module _ (p : Protocol) where
   abbrev ar : ℕ → Option ℕ
-  ar = arity (slots (p .functions))
+  ar = arity (tagArities (p .functions))
 
   abbrev Fitting : Fact → Type 0
-  Fitting = FactWithin (slots (p .functions)) (factArities (p .symbols))
+  Fitting = FactWithin (tagArities (p .functions)) (factArities (p .symbols))
 
-  pub value-formed : (vs : List Term) → All (Good (slots (p .functions))) vs → (v : ℕ) → Formed ar (valueAt vs v)
+  pub value-formed : (vs : List Term) → All (Good (tagArities (p .functions))) vs → (v : ℕ) → Formed ar (valueAt vs v)
   value-formed vs w v = all-at (Formed ar) (leaf variable v) tt vs (all-map _ (Formed ar) (λ t g. g .0) vs w) v
 
-  fact-formed : (vs : List Term) → All (Good (slots (p .functions))) vs → (f : Fact) → Fitting f → FactFormed p (filledFact vs f)
+  fact-formed : (vs : List Term) → All (Good (tagArities (p .functions))) vs → (f : Fact) → Fitting f → FactFormed p (filledFact vs f)
   fact-formed vs w f g = record {
     known = g .known;
     takes = length-map (f .terms) (sub (valueAt vs)) ∙ g .takes;
     each =
-        map-all (TermWithin (slots (p .functions))) (Formed ar) (sub (valueAt vs))
+        map-all (TermWithin (tagArities (p .functions))) (Formed ar) (sub (valueAt vs))
         (λ t b. sub-formed ar (valueAt vs) t (b .formed) (λ v o. value-formed vs w v)) (f .terms) (g .each);
   }
 
-  pub part-within : (u : Rule) → RuleWithin (slots (p .functions)) (factArities (p .symbols)) u → (w : ℕ) → All Fitting (part w u)
+  pub part-within : (u : Rule) → RuleWithin (tagArities (p .functions)) (factArities (p .symbols)) u → (w : ℕ) → All Fitting (listOf w u)
   part-within u r w =
-      all-at (All Fitting) [] tt (u .parts) (all-map (FactsWithin (slots (p .functions)) (factArities (p .symbols))) (All Fitting) (λ fs b. b .each) (u .parts)
+      all-at (All Fitting) [] tt (u .lists) (all-map (FactsWithin (tagArities (p .functions)) (factArities (p .symbols))) (All Fitting) (λ fs b. b .each)
+      (u .lists)
       (r .laid .each)) w
 
 module _ (p : Protocol) (fit : Within p) where
   pub facts-formed : (x : Node) → NodeWithin p x → (w : ℕ) → All (FactFormed p) (factsOf p w x)
   facts-formed x b w =
       subst (λ (o : Option Rule). All (FactFormed p) (filledPart w (x .values) o)) (sym (b .known))
-      (map-all (Fitting p) (FactFormed p) (filledFact (x .values)) (fact-formed p (x .values) (b .each)) (part w (b .is))
+      (map-all (Fitting p) (FactFormed p) (filledFact (x .values)) (fact-formed p (x .values) (b .each)) (listOf w (b .is))
       (part-within p (b .is) (rule-within p fit (x .rule) (b .is) (b .known)) w))
 
   -- of two such facts the test decides whether they are the same
-  pub formed-decides : (f g : Fact) → FactFormed p f → FactFormed p g → (sameFact f g ≡ true) ↔ SameFact (arity (slots (p .functions))) f g
-  formed-decides f g a b = fact-decides (arity (slots (p .functions))) (declared (p .functions)) f g (a .each) (b .each)
+  pub formed-decides : (f g : Fact) → FactFormed p f → FactFormed p g → (sameFact f g ≡ true) ↔ SameFact (arity (tagArities (p .functions))) f g
+  formed-decides f g a b = fact-decides (arity (tagArities (p .functions))) (declared (p .functions)) f g (a .each) (b .each)
 
   -- without variables, if the values are
   pub facts-ground : (x : Node) → NodeWithin p x → All Ground (x .values) → (w : ℕ) → All (λ f. All Ground (f .terms)) (factsOf p w x)
   facts-ground x b g w =
       subst (λ (o : Option Rule). All (λ f. All Ground (f .terms)) (filledPart w (x .values) o)) (sym (b .known))
       (map-all (λ f. Fitting p f × (leafIn 0 (length (b .is .sorts)) numberLimit f ≡ false)) (λ f. All Ground (f .terms)) (filledFact (x .values))
-      (λ f h. fact-ground (x .values) (length (b .is .sorts)) g (omega (arith, b .takes)) f (h .0) (h .1)) (part w (b .is))
-      (all-both (Fitting p) (λ f. leafIn 0 (length (b .is .sorts)) numberLimit f ≡ false) (part w (b .is)) (part-within p (b .is) fits w)
-      (all-at (All (λ f. leafIn 0 (length (b .is .sorts)) numberLimit f ≡ false)) [] tt (b .is .parts)
+      (λ f h. fact-ground (x .values) (length (b .is .sorts)) g (omega (arith, b .takes)) f (h .0) (h .1)) (listOf w (b .is))
+      (all-both (Fitting p) (λ f. leafIn 0 (length (b .is .sorts)) numberLimit f ≡ false) (listOf w (b .is)) (part-within p (b .is) fits w)
+      (all-at (All (λ f. leafIn 0 (length (b .is .sorts)) numberLimit f ≡ false)) [] tt (b .is .lists)
       (all-map (λ fs. anyBy (leafIn 0 (length (b .is .sorts)) numberLimit) fs ≡ false) (All (λ f. leafIn 0 (length (b .is .sorts)) numberLimit f ≡ false))
       (λ fs h. none-all (leafIn 0 (length (b .is .sorts)) numberLimit) fs h)
-      (b .is .parts) (none-all (anyBy (leafIn 0 (length (b .is .sorts)) numberLimit)) (b .is .parts) (not-split _ (fits .bound)))) w)))
+      (b .is .lists) (none-all (anyBy (leafIn 0 (length (b .is .sorts)) numberLimit)) (b .is .lists) (not-split _ (fits .bound)))) w)))
     where
-      fits : RuleWithin (slots (p .functions)) (factArities (p .symbols)) (b .is)
+      fits : RuleWithin (tagArities (p .functions)) (factArities (p .symbols)) (b .is)
       fits = rule-within p fit (x .rule) (b .is) (b .known)
 
       fact-ground : (vs : List Term) (n : ℕ) → All Ground vs → n ≤ length vs → (f : Fact) → Fitting p f → leafIn 0 n numberLimit f ≡ false → All Ground
           (filledFact vs f .terms)
       fact-ground vs n g l f h k =
-          map-all (λ t. TermWithin (slots (p .functions)) t × (holds t 0 n numberLimit ≡ false)) Ground (sub (valueAt vs))
+          map-all (λ t. TermWithin (tagArities (p .functions)) t × (holds t 0 n numberLimit ≡ false)) Ground (sub (valueAt vs))
           (λ t b. sub-ground (valueAt vs) t (λ v o. value-ground vs g v (omega (arith, occurs-below variable t v n (b .0 .range) (b .1) o)))) (f .terms)
-          (all-both (TermWithin (slots (p .functions))) (λ t. holds t 0 n numberLimit ≡ false) (f .terms) (h .each)
+          (all-both (TermWithin (tagArities (p .functions))) (λ t. holds t 0 n numberLimit ≡ false) (f .terms) (h .each)
           (none-all (λ t. holds t 0 n numberLimit) (f .terms) k))

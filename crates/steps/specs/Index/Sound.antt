@@ -9,28 +9,29 @@ use Rattle.term.specs.Tags.{tagCount}
 use Rattle.octets.specs.Limits.{longest}
 use Rattle.protocol.specs.Index.{Entries}
 use Rattle.rules.specs.Fit.Laws.{Indexes}
-use Rattle.rules.specs.declared.fit.Judged.{Judged}
-use Rattle.rules.specs.declared.fit.Judged.the-variants as jd
+use Rattle.rules.specs.declared.fit.FitVerdict.{FitVerdict}
+use Rattle.rules.specs.declared.fit.FitVerdict.the-variants as jd
 use Rattle.steps.specs.Index.{Given}
 use Rattle.steps.specs.Values.Filled.{ArityTable, index-arities}
 
-module _ (s arities ars flags places : List ℕ) (r : Judged) (ns nr : ℕ) (is : r ≡ jd.Sound ns nr) (index : Indexes s r arities ars flags places) where
-  entries : Entries s ns nr arities ars flags places
-  entries = subst (λ (q : Judged). Indexes s q arities ars flags places) is index
+module _ (file arities ars flags places : List ℕ) (r : FitVerdict) (ns nr : ℕ) (is : r ≡ jd.Sound ns nr) (index : Indexes file r arities ars flags places)
+  where
+    entries : Entries file ns nr arities ars flags places
+    entries = subst (λ (q : FitVerdict). Indexes file q arities ars flags places) is index
 
-  pub sound-few : ns ≤ symbolCount
-  sound-few = entries .few-symbols
+    pub sound-few : ns ≤ symbolCount
+    sound-few = entries .few-symbols
 
-  pub sound-given : length s ≤ longest → length arities ≡ tagCount → mostRules ≤ length places → Given s arities places nr
-  sound-given short slots many =
-      let few = entries .few-rules in
-      record {
-        protocol = entries .is;
-        index = record { ns = ns; ars = ars; flags = flags; entries = entries; same = refl };
-        slots-many = slots;
-        places-many = omega arith;
-        short = short;
-      }
+    pub sound-given : length file ≤ longest → length arities ≡ tagCount → mostRules ≤ length places → Given file arities places nr
+    sound-given short full many =
+        let few = entries .few-rules in
+        record {
+          protocol = entries .is;
+          index = record { ns = ns; ars = ars; flags = flags; entries = entries; same = refl };
+          slots-many = full;
+          places-many = omega arith;
+          short = short;
+        }
 
-  pub sound-arities : ArityTable s arities places nr (take ns ars)
-  sound-arities = index-arities entries
+    pub sound-arities : ArityTable file arities places nr (take ns ars)
+    sound-arities = index-arities entries

@@ -12,7 +12,7 @@ use Rattle.octets.specs.Head.{Bytes}
 use Rattle.number.specs.Reading.{got, andThen, many}
 use Rattle.number.specs.Reading.Laws.{cut-got}
 use Rattle.term.specs.Term.{Term}
-use Rattle.term.specs.Arity.{slots}
+use Rattle.term.specs.Arity.{tagArities}
 use Rattle.term.specs.Reader.{symbolAt, term}
 use Rattle.term.specs.declared.Fresh.{Fresh}
 use Rattle.term.specs.declared.Public.{Public}
@@ -53,34 +53,35 @@ module _ (y : Symbol) (x : Name) (h : NameIs y x) where
   of-other e n d q = subst (NameIs y) e h n d .0 q
 
 -- ── the name of a term, and of a node ──
-module _ (s slots : List ℕ) (at : ℕ) (bytes : Bytes s) (t : Term) (e : ℕ) (there : term s slots at ≡ got t e) where
-  pub number-of : (m : Made) → NumberIs (symbolAt s slots at) m → MadeIs (freshNumber t) m
-  number-of (md.Of f) (d, h) = ap freshNumber (leaf-is s slots at bytes t e there 2 (f .0) d h)
-  number-of md.Nothing h = no-fresh s slots at bytes t e there h
+module _ (file arities : List ℕ) (at : ℕ) (bytes : Bytes file) (t : Term) (e : ℕ) (there : term file arities at ≡ got t e) where
+  pub number-of : (m : Made) → NumberIs (symbolAt file arities at) m → MadeIs (freshNumber t) m
+  number-of (md.Of f) (d, h) = ap freshNumber (leaf-is file arities at bytes t e there 2 (f .0) d h)
+  number-of md.Nothing h = no-fresh file arities at bytes t e there h
 
 pub zero-sorts : (p : Protocol) (n : ℕ) → n ≡ 0 → (u : Rule) × (ruleOf p n ≡ some u) × (u .sorts ≡ 1 ∷ [])
 unfolding fixed
 zero-sorts p n h = (fixed n, of-fixed p n (omega arith), ap (λ (k : ℕ). fixed k .sorts) h)
 
-module _ {protocol table rules : List ℕ} {nr : ℕ} {p : Protocol} (i : IndexOf protocol table rules nr p) (s : List ℕ) (bytes : Bytes s) (r d : ℕ) (x : Node)
-    (e : ℕ) (from : NodeFrom p s r d x e) where
-  pub zero-name : r ≡ 0 → (m : Made) → NumberIs (symbolAt s table d) m → MadeIs (facts.makes x) m
+module _ {protocol table rules : List ℕ} {nr : ℕ} {p : Protocol} (i : IndexOf protocol table rules nr p) (file : List ℕ) (bytes : Bytes file) (r d : ℕ)
+    (x : Node)
+    (e : ℕ) (from : NodeFrom p file r d x e) where
+  pub zero-name : r ≡ 0 → (m : Made) → NumberIs (symbolAt file table d) m → MadeIs (facts.madeName x) m
   unfolding many
   zero-name z m h =
       let (u, a, b) = zero-sorts p r z in
-      let q : andThen (many (term s (slots (p .functions))) 1 d) (λ vs f. got (node-of r vs) f) ≡ got x e =
-      ap (λ (l : List ℕ). andThen (many (term s (slots (p .functions))) (length l) d) (λ vs f. got (node-of r vs) f)) (sym b)
-      ∙ sym (ap (λ (o : Option Rule). values p s r o d) a) ∙ from .reads in
-      cut-got (many (term s (slots (p .functions))) 1 d) _ q (λ vs c hv q.
-      cut-got (term s (slots (p .functions)) d) _ hv (λ t k ht hv.
+      let q : andThen (many (term file (tagArities (p .functions))) 1 d) (λ vs f. got (node-of r vs) f) ≡ got x e =
+      ap (λ (l : List ℕ). andThen (many (term file (tagArities (p .functions))) (length l) d) (λ vs f. got (node-of r vs) f)) (sym b)
+      ∙ sym (ap (λ (o : Option Rule). values p file r o d) a) ∙ from .reads in
+      cut-got (many (term file (tagArities (p .functions))) 1 d) _ q (λ vs c hv q.
+      cut-got (term file (tagArities (p .functions)) d) _ hv (λ t k ht hv.
       let g : node-of r vs ≡ x = cc in
       let w : t ∷ [] ≡ vs = cc in
       let v : t ≡ valueAt (x .values) 0 = ap (λ (l : List Term). valueAt l 0) w ∙ ap (λ (y : Node). valueAt (y .values) 0) g in
-      let n : facts.makes x ≡ freshNumber t =
+      let n : facts.madeName x ≡ freshNumber t =
       ap (λ (b : Bool). pick b (freshNumber (valueAt (x .values) 0)) none) (eq-eqb (x .rule) 0 (from .is-number ∙ z)) ∙ ap freshNumber (sym v) in
       subst (λ (o : Option ℕ). MadeIs o m) (sym n)
-      (number-of s (slots (p .functions)) d bytes t k ht m (subst (λ (l : List ℕ). NumberIs (symbolAt s l d) m) (index-slots i) h))))
+      (number-of file (tagArities (p .functions)) d bytes t k ht m (subst (λ (l : List ℕ). NumberIs (symbolAt file l d) m) (index-slots i) h))))
 
-  pub other-name : (r ≡ 0 → ⊥) → facts.makes x ≡ none
+  pub other-name : (r ≡ 0 → ⊥) → facts.madeName x ≡ none
   other-name z =
       ap (λ (b : Bool). pick b (freshNumber (valueAt (x .values) 0)) none) (ne-eqb (x .rule) 0 (λ q. z (sym (from .is-number) ∙ q)))

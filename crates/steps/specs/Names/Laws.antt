@@ -18,7 +18,7 @@ use Rattle.rewriting.specs.Machine.{madeAlready}
 use Rattle.rewriting.specs.Writer.{nameTwiceFrom, firstNameTwice}
 use Rattle.protocol.specs.Protocol.{Protocol}
 use Rattle.steps.specs.Nodes.{Node}
-use Rattle.steps.specs.Facts.{makes}
+use Rattle.steps.specs.Facts.{madeName}
 use Rattle.steps.specs.Runs.{rewrittens}
 use Rattle.steps.specs.Values.Scan.{asFound, found-is}
 use Rattle.steps.specs.declared.names.Made.{Made}
@@ -29,13 +29,13 @@ use Rattle.steps.specs.Names.{madeBy, isMade, againIn, MadeIs, nameEntry
 made-append : (xs ys : List Node) → madeBy (xs ++ ys) ≡ madeBy xs ++ madeBy ys
 made-append [] ys = refl
 made-append (x ∷ xs) ys =
-    ap (λ (l : List ℕ). nameOf (makes x) ++ l) (made-append xs ys) ∙ sym (append-assoc (nameOf (makes x)) (madeBy xs) (madeBy ys))
+    ap (λ (l : List ℕ). nameOf (madeName x) ++ l) (made-append xs ys) ∙ sym (append-assoc (nameOf (madeName x)) (madeBy xs) (madeBy ys))
 
 -- one node more
-made-more : (xs : List Node) (j : ℕ) (d : Node) → j < length xs → madeBy (take (suc j) xs) ≡ madeBy (take j xs) ++ nameOf (makes (getD xs j d))
+made-more : (xs : List Node) (j : ℕ) (d : Node) → j < length xs → madeBy (take (suc j) xs) ≡ madeBy (take j xs) ++ nameOf (madeName (getD xs j d))
 made-more xs j d l =
     ap madeBy (take-suc xs j d l) ∙ made-append (take j xs) (getD xs j d ∷ [])
-    ∙ ap (λ (n : List ℕ). madeBy (take j xs) ++ n) (append-nil (nameOf (makes (getD xs j d))))
+    ∙ ap (λ (n : List ℕ). madeBy (take j xs) ++ n) (append-nil (nameOf (madeName (getD xs j d))))
 
 -- ── is a name among those of the first nodes? ──
 abbrev sameAs : ℕ → Option ℕ → Bool
@@ -51,13 +51,13 @@ module _ (m : ℕ) (xs : List Node) (d : Node) (j : ℕ) (l : j < length xs) whe
       go true = refl
       go false = refl
 
-  pub made-step : isMade m (take (j + 1) xs) ≡ (isMade m (take j xs) || sameAs m (makes (getD xs j d)))
+  pub made-step : isMade m (take (j + 1) xs) ≡ (isMade m (take j xs) || sameAs m (madeName (getD xs j d)))
   made-step =
       let o : j + 1 ≡ suc j = omega arith in
       ap (λ (k : ℕ). isMade m (take k xs)) o
-      ∙ leb-sum (countBy (eqb m) (madeBy (take j xs))) (countBy (eqb m) (nameOf (makes (getD xs j d)))) _
-      (ap (countBy (eqb m)) (made-more xs j d l) ∙ count-append (eqb m) (madeBy (take j xs)) (nameOf (makes (getD xs j d))))
-      ∙ ap (λ (b : Bool). isMade m (take j xs) || b) (one-more (makes (getD xs j d)))
+      ∙ leb-sum (countBy (eqb m) (madeBy (take j xs))) (countBy (eqb m) (nameOf (madeName (getD xs j d)))) _
+      (ap (countBy (eqb m)) (made-more xs j d l) ∙ count-append (eqb m) (madeBy (take j xs)) (nameOf (madeName (getD xs j d))))
+      ∙ ap (λ (b : Bool). isMade m (take j xs) || b) (one-more (madeName (getD xs j d)))
 
 -- ── by the table ──
 pub entry-made : (o : Option ℕ) (a : Made) → MadeIs o a → entryOf a ≡ nameEntry o
@@ -80,14 +80,14 @@ entered-none names xs = record { each = λ k l. absurd (omega arith) }
 
 -- one entry more
 pub entered-more :
-    (names : List ℕ) (xs : List Node) (j e : ℕ) → Entered names xs j → j < length names → e ≡ nameEntry (makes (getD xs j noNode))
+    (names : List ℕ) (xs : List Node) (j e : ℕ) → Entered names xs j → j < length names → e ≡ nameEntry (madeName (getD xs j noNode))
     → Entered (set names j e) xs (j + 1)
 entered-more names xs j e h l q = record {
   each = λ k m.
       by-order k j
       (λ a. getD-set-other names j k e 0 (λ z. omega arith) ∙ h .each k a)
       (λ a.
-      subst (λ (i : ℕ). getD (set names j e) i 0 ≡ nameEntry (makes (getD xs i noNode))) (sym a) (getD-set-same names j e 0 l ∙ q))
+      subst (λ (i : ℕ). getD (set names j e) i 0 ≡ nameEntry (madeName (getD xs i noNode))) (sym a) (getD-set-same names j e 0 l ∙ q))
       (λ a. absurd (omega arith));
 }
 
@@ -96,19 +96,19 @@ module _ (names : List ℕ) (xs : List Node) (n : ℕ) (h : Entered names xs n) 
       (m entry j : ℕ) → entry ≡ suc m → j < n → (b : Bool) → b ≡ isMade m (take j xs)
       → (b || eqb entry (getD names j 0)) ≡ isMade m (take (j + 1) xs)
   made-turn m entry j e l b k =
-      ap₂ _||_ k (ap₂ eqb e (h .each j l) ∙ same-entry m (makes (getD xs j noNode))) ∙ sym (made-step m xs noNode j (omega arith))
+      ap₂ _||_ k (ap₂ eqb e (h .each j l) ∙ same-entry m (madeName (getD xs j noNode))) ∙ sym (made-step m xs noNode j (omega arith))
 
   -- the node's name is made by the nodes before it
   pub again-of : (j : ℕ) → j < n → (entry : ℕ) → entry ≡ getD names j 0 → (entry ≡ 0 → ⊥) → (b : Bool)
-      → ((m : ℕ) → entry ≡ suc m → b ≡ isMade m (take j xs)) → b ≡ againIn (take j xs) (makes (getD xs j noNode))
-  again-of j l entry e z b k = go (makes (getD xs j noNode)) (e ∙ h .each j l)
+      → ((m : ℕ) → entry ≡ suc m → b ≡ isMade m (take j xs)) → b ≡ againIn (take j xs) (madeName (getD xs j noNode))
+  again-of j l entry e z b k = go (madeName (getD xs j noNode)) (e ∙ h .each j l)
     where
       go : (o : Option ℕ) → entry ≡ nameEntry o → b ≡ againIn (take j xs) o
       go none q = absurd (z q)
       go (some m) q = k m q
 
-  pub again-none : (j : ℕ) → j < n → (entry : ℕ) → entry ≡ getD names j 0 → entry ≡ 0 → false ≡ againIn (take j xs) (makes (getD xs j noNode))
-  again-none j l entry e z = go (makes (getD xs j noNode)) (sym z ∙ e ∙ h .each j l)
+  pub again-none : (j : ℕ) → j < n → (entry : ℕ) → entry ≡ getD names j 0 → entry ≡ 0 → false ≡ againIn (take j xs) (madeName (getD xs j noNode))
+  again-none j l entry e z = go (madeName (getD xs j noNode)) (sym z ∙ e ∙ h .each j l)
     where
       go : (o : Option ℕ) → 0 ≡ nameEntry o → false ≡ againIn (take j xs) o
       go none q = refl
@@ -127,16 +127,16 @@ module _ (p : Protocol) (d : Node) (xs : List Node) where
   pub names-all : NamesLeft 0
   names-all = refl
 
-  step : (j : ℕ) (b : Bool) → j < length xs → againIn (take j xs) (makes (getD xs j d)) ≡ b → NamesLeft j
+  step : (j : ℕ) (b : Bool) → j < length xs → againIn (take j xs) (madeName (getD xs j d)) ≡ b → NamesLeft j
       → firstNameTwice (rewrittens p xs)
-      ≡ cond b (some (j + 1)) (nameTwiceFrom (suc (j + 1)) (madeBy (take j xs) ++ nameOf (makes (getD xs j d))) (rewrittens p (drop (suc j) xs)))
+      ≡ cond b (some (j + 1)) (nameTwiceFrom (suc (j + 1)) (madeBy (take j xs) ++ nameOf (madeName (getD xs j d))) (rewrittens p (drop (suc j) xs)))
   step j b l t h =
       h ∙ ap (λ (ys : List Node). nameTwiceFrom (j + 1) (madeBy (take j xs)) (rewrittens p ys)) (drop-cons xs j d l)
-      ∙ ap (λ (a : Bool). cond a (some (j + 1)) (nameTwiceFrom (suc (j + 1)) (madeBy (take j xs) ++ nameOf (makes (getD xs j d)))
+      ∙ ap (λ (a : Bool). cond a (some (j + 1)) (nameTwiceFrom (suc (j + 1)) (madeBy (take j xs) ++ nameOf (madeName (getD xs j d)))
       (rewrittens p (drop (suc j) xs))))
-      (again-already (take j xs) (makes (getD xs j d)) ∙ t)
+      (again-already (take j xs) (madeName (getD xs j d)) ∙ t)
 
-  pub names-more : (j : ℕ) → j < length xs → againIn (take j xs) (makes (getD xs j d)) ≡ false → NamesLeft j → NamesLeft (j + 1)
+  pub names-more : (j : ℕ) → j < length xs → againIn (take j xs) (madeName (getD xs j d)) ≡ false → NamesLeft j → NamesLeft (j + 1)
   names-more j l t h =
       let a : suc (j + 1) ≡ j + 1 + 1 = omega arith in
       let b : suc j ≡ j + 1 = omega arith in
@@ -144,7 +144,7 @@ module _ (p : Protocol) (d : Node) (xs : List Node) where
       ∙ ap (λ (m : List ℕ). nameTwiceFrom (suc (j + 1)) m (rewrittens p (drop (suc j) xs))) (sym (made-more xs j d l))
       ∙ ap₂ (λ (k i : ℕ). nameTwiceFrom k (madeBy (take i xs)) (rewrittens p (drop i xs))) a b
 
-  pub names-twice : (j : ℕ) → j < length xs → againIn (take j xs) (makes (getD xs j d)) ≡ true → NamesLeft j → asFound (j + 1) ≡ firstNameTwice
+  pub names-twice : (j : ℕ) → j < length xs → againIn (take j xs) (madeName (getD xs j d)) ≡ true → NamesLeft j → asFound (j + 1) ≡ firstNameTwice
       (rewrittens p xs)
   names-twice j l t h = found-is j ∙ sym (step j true l t h)
 

@@ -16,7 +16,7 @@ use Rattle.rewriting.specs.Graph as graph
 use Rattle.rewriting.specs.Causes.{NameTwice}
 use Rattle.protocol.specs.Protocol.{Fact, Rule, Protocol}
 use Rattle.steps.specs.Nodes.{Node, NodeWithin}
-use Rattle.steps.specs.Facts.{freshNumber, valueAt, makes}
+use Rattle.steps.specs.Facts.{freshNumber, valueAt, madeName}
 use Rattle.steps.specs.Values.{NodeRight}
 use Rattle.steps.specs.Runs.{rewritten, rewrittens}
 use Rattle.steps.specs.Names.Code.{zero-sorts}
@@ -30,8 +30,8 @@ pub record MadeTwice (xs : List Node) (k : ℕ) : Type 0 where
   pub stands : nth xs k ≡ some later
   pub stood : nth xs place ≡ some earlier
   pub before-it : place < k
-  pub makes-it : makes later ≡ some name
-  pub made-it : makes earlier ≡ some name
+  pub makes-it : madeName later ≡ some name
+  pub made-it : madeName earlier ≡ some name
 
 module _ (p : Protocol) where
   -- ── a node by its number, in the list and in its rewriting ──
@@ -43,7 +43,7 @@ module _ (p : Protocol) where
   record FoundAt (xs : List Node) (i : ℕ) (o : Option ℕ) : Type 0 where
     its : Node
     there : getElem? xs i ≡ some its
-    name : makes its ≡ o
+    name : madeName its ≡ o
 
   -- ── the names of the first nodes ──
   early : (xs : List Node) (n m : ℕ) → m ∈ namesOf (take n (rewrittens p xs)) → (i : ℕ) × (i < n) × FoundAt xs i (some m)
@@ -51,21 +51,21 @@ module _ (p : Protocol) where
   early [] (suc n) m h = absurd (List·Memᴰ·not-nil h)
   early (x ∷ xs) (suc n) m h =
       ⊎-elim
-      (λ q. (0, omega arith, record { its = x; there = refl; name = named (makes x) q }))
+      (λ q. (0, omega arith, record { its = x; there = refl; name = named (madeName x) q }))
       (λ q. let (i, l, f) = early xs n m q in (suc i, omega arith, record { its = f .its; there = f .there; name = f .name }))
-      (List·Memᴰ·append-cases (nameOf (makes x)) h)
+      (List·Memᴰ·append-cases (nameOf (madeName x)) h)
     where
       named : (o : Option ℕ) → m ∈ nameOf o → o ≡ some m
       named none q = absurd (List·Memᴰ·not-nil q)
       named (some n) q = ap {B = Option ℕ} some (sym (List·Memᴰ·eq-of-singleton q))
 
-  late : (xs : List Node) (n m i : ℕ) (x : Node) → i < n → getElem? xs i ≡ some x → makes x ≡ some m → m ∈ namesOf (take n (rewrittens p xs))
+  late : (xs : List Node) (n m i : ℕ) (x : Node) → i < n → getElem? xs i ≡ some x → madeName x ≡ some m → m ∈ namesOf (take n (rewrittens p xs))
   late xs zero m i x l h k = absurd (omega arith)
   late [] (suc n) m i x l h k = absurd (Option·none-ne-some x h)
   late (y ∷ xs) (suc n) m zero x l h k =
-      let e : makes y ≡ some m = ap makes (Option·some-injective y x h) ∙ k in
+      let e : madeName y ≡ some m = ap madeName (Option·some-injective y x h) ∙ k in
       Memᴰ·append-left (namesOf (take n (rewrittens p xs))) (subst (λ (o : Option ℕ). m ∈ nameOf o) (sym e) (List·Memᴰ·head refl))
-  late (y ∷ xs) (suc n) m (suc i) x l h k = Memᴰ·append-right (nameOf (makes y)) (late xs n m i x (omega arith) h k)
+  late (y ∷ xs) (suc n) m (suc i) x l h k = Memᴰ·append-right (nameOf (madeName y)) (late xs n m i x (omega arith) h k)
 
   -- ── the two say the same ──
   from-map : (xs : List Node) (i : ℕ) (o : Option ℕ) (z : graph.Node Fact) → getElem? (rewrittens p xs) i ≡ some z → z .makes ≡ o → FoundAt xs i o
@@ -114,7 +114,7 @@ module _ (p : Protocol) where
   twice-exactly xs k = (twice-made xs k, made-twice xs k)
 
   -- ── a node of rule 0 whose values fit: one fresh name, which it makes ──
-  pub rule-zero : (x : Node) → NodeWithin p x → NodeRight p x → x .rule ≡ 0 → (n : ℕ) × (x .values ≡ leaf fresh n ∷ []) × (makes x ≡ some n)
+  pub rule-zero : (x : Node) → NodeWithin p x → NodeRight p x → x .rule ≡ 0 → (n : ℕ) × (x .values ≡ leaf fresh n ∷ []) × (madeName x ≡ some n)
   rule-zero x w r z =
       let (u, a, b) = zero-sorts p (x .rule) z in
       let i : r .is ≡ u = Option·some-injective (r .is) u (sym (r .known) ∙ a) in
@@ -124,7 +124,7 @@ module _ (p : Protocol) where
       go (x .values) refl l (λ v h. r .fits 0 1 v (record { sorted = ap (λ (q : List ℕ). getElem? q 0) s; valued = h }) .sorted)
     where
       go : (vs : List Term) → x .values ≡ vs → length vs ≡ 1 → ((v : Term) → getElem? (x .values) 0 ≡ some v → (n : ℕ) × (v ≡ leaf fresh n))
-          → (n : ℕ) × (x .values ≡ leaf fresh n ∷ []) × (makes x ≡ some n)
+          → (n : ℕ) × (x .values ≡ leaf fresh n ∷ []) × (madeName x ≡ some n)
       go [] e l f = absurd (omega arith)
       go (v ∷ []) e l f =
           let (n, q) = f v (ap (λ (vs : List Term). getElem? vs 0) e) in (

@@ -13,7 +13,7 @@ use Rattle.octets.specs.Head.{Bytes}
 use Rattle.number.specs.Reading.{Read, got, fault, andThen, readNumber, below, many}
 use Rattle.number.specs.Reading.Many.{Came, came-none, came-more}
 use Rattle.term.specs.Term.{Term}
-use Rattle.term.specs.Arity.{slots}
+use Rattle.term.specs.Arity.{tagArities}
 use Rattle.term.specs.Reader.{term}
 use Rattle.term.specs.Walk.{endeds}
 use Rattle.term.specs.declared.Part.{Part}
@@ -29,8 +29,8 @@ use Rattle.rules.specs.Numbered.{ruleOf}
 use Rattle.rules.specs.Numbered.Limits.{rule-within}
 use Rattle.rules.specs.Numbered.Part.{Fits, partOf, finds-fit, part-here}
 use Rattle.rules.specs.Numbered.Found.{WrittenAs, PlacedAs, Finds, written-reads}
-use Rattle.rules.specs.declared.numbered.Found.{Found}
-use Rattle.rules.specs.declared.numbered.Found.the-variants as fd
+use Rattle.rules.specs.declared.numbered.FoundRule.{FoundRule}
+use Rattle.rules.specs.declared.numbered.FoundRule.the-variants as fd
 use Rattle.steps.specs.Index.{IndexOf}
 use Rattle.steps.specs.declared.nodes.Variables.{Variables}
 use Rattle.steps.specs.declared.nodes.Variables.the-variants as vars
@@ -56,29 +56,29 @@ termsEnd fault = end.Broken
 
 -- a node whose rule number was read
 abbrev pub nodeFrom : Protocol → List ℕ → Option Rule → ℕ → NodeEnd
-nodeFrom p s none at = end.NoRule
-nodeFrom p s (some u) at = termsEnd (many (term s (slots (p .functions))) (length (u .sorts)) at)
+nodeFrom p file none at = end.NoRule
+nodeFrom p file (some u) at = termsEnd (many (term file (tagArities (p .functions))) (length (u .sorts)) at)
 
 abbrev pub nodeOf : Protocol → List ℕ → Read ℕ → NodeEnd
-nodeOf p s (got r e) = nodeFrom p s (ruleOf p r) e
-nodeOf p s fault = end.Broken
+nodeOf p file (got r e) = nodeFrom p file (ruleOf p r) e
+nodeOf p file fault = end.Broken
 
 unfoldable pub nodeEnd : Protocol → List ℕ → ℕ → NodeEnd
-nodeEnd p s at = nodeOf p s (readNumber s at)
+nodeEnd p file at = nodeOf p file (readNumber file at)
 
 -- ── several: the nodes, each at its place; a layout fault; the node that has no such rule ──
 abbrev pub noNode : Node
 noNode = node-of 0 []
 
-pub record NodesAre (r : Reading (List Node)) (p : Protocol) (s places : List ℕ) (n e : ℕ) : Type 0 where
+pub record NodesAre (r : Reading (List Node)) (p : Protocol) (file places : List ℕ) (n e : ℕ) : Type 0 where
   pub items : List Node
   pub there : r ≡ read items e
-  pub placed : Placed (node p s) noNode places items n
+  pub placed : Placed (node p file) noNode places items n
 
 abbrev pub Told : Reading (List Node) → Protocol → List ℕ → List ℕ → Nodes → Type 0
-Told r p s places (all.End n e) = NodesAre r p s places n e
-Told r p s places all.Broken = r ≡ broken
-Told r p s places (all.NoRule k) = r ≡ no-rule k
+Told r p file places (all.End n e) = NodesAre r p file places n e
+Told r p file places all.Broken = r ≡ broken
+Told r p file places (all.NoRule k) = r ≡ no-rule k
 
 -- ── laws ──
 abbrev pub partEnd : Part → NodeEnd
@@ -90,46 +90,46 @@ part-end (got ts e) = refl
 part-end fault = refl
 
 -- a rule that was found, and how many variables it has
-module _ {s arities places : List ℕ} {nr : ℕ} {p : Protocol} (i : IndexOf s arities places nr p) where
+module _ {file arities places : List ℕ} {nr : ℕ} {p : Protocol} (i : IndexOf file arities places nr p) where
   pub index-finds :
-      (n : ℕ) (r : Found) (out : List ℕ)
+      (n : ℕ) (r : FoundRule) (out : List ℕ)
       → ((z : List ℕ) (ns : ℕ) (ars flags : List ℕ) (j : Entries z ns nr arities ars flags places) → Finds (j .is) z arities (take ns ars) n r out)
-      → Finds p s arities (take (i .ns) (i .ars)) n r out
+      → Finds p file arities (take (i .ns) (i .ars)) n r out
   index-finds n r out h =
-      subst (λ (q : Protocol). Finds q s arities (take (i .ns) (i .ars)) n r out) (i .same) (h s (i .ns) (i .ars) (i .flags) (i .entries))
+      subst (λ (q : Protocol). Finds q file arities (take (i .ns) (i .ars)) n r out) (i .same) (h file (i .ns) (i .ars) (i .flags) (i .entries))
 
   -- case by case
-  module _ (n : ℕ) (r : Found) (out : List ℕ)
+  module _ (n : ℕ) (r : FoundRule) (out : List ℕ)
       (h : (z : List ℕ) (ns : ℕ) (ars flags : List ℕ) (j : Entries z ns nr arities ars flags places) → Finds (j .is) z arities (take ns ars) n r out) where
     pub written-at : (len : ℕ) → r ≡ fd.Written len → WrittenAs p n len out
-    written-at len e = subst (λ (q : Found). Finds p s arities (take (i .ns) (i .ars)) n q out) e (index-finds n r out h)
+    written-at len e = subst (λ (q : FoundRule). Finds p file arities (take (i .ns) (i .ars)) n q out) e (index-finds n r out h)
 
-    pub placed-at : (place : ℕ) → r ≡ fd.At place → PlacedAs p s arities (take (i .ns) (i .ars)) n place
-    placed-at place e = subst (λ (q : Found). Finds p s arities (take (i .ns) (i .ars)) n q out) e (index-finds n r out h)
+    pub placed-at : (place : ℕ) → r ≡ fd.At place → PlacedAs p file arities (take (i .ns) (i .ars)) n place
+    placed-at place e = subst (λ (q : FoundRule). Finds p file arities (take (i .ns) (i .ars)) n q out) e (index-finds n r out h)
 
     pub nothing-at : r ≡ fd.Nothing → ruleOf p n ≡ none
-    nothing-at e = subst (λ (q : Found). Finds p s arities (take (i .ns) (i .ars)) n q out) e (index-finds n r out h)
+    nothing-at e = subst (λ (q : FoundRule). Finds p file arities (take (i .ns) (i .ars)) n q out) e (index-finds n r out h)
 
     -- the rule stands at the start of the bytes that it was found in
-    pub part-fits : Bytes s → Fits s out r
-    part-fits bytes = finds-fit (i .entries) bytes n r out (h s (i .ns) (i .ars) (i .flags) (i .entries))
+    pub part-fits : Bytes file → Fits file out r
+    part-fits bytes = finds-fit (i .entries) bytes n r out (h file (i .ns) (i .ars) (i .flags) (i .entries))
 
     pub part-rule :
-        (src : List ℕ) → src ≡ partOf s out r → Bytes s → Bytes src → (u : Rule) → ruleOf p n ≡ some u
+        (src : List ℕ) → src ≡ partOf file out r → Bytes file → Bytes src → (u : Rule) → ruleOf p n ≡ some u
         → Here (rule src arities (take (i .ns) (i .ars))) u 0
     part-rule src e bytes known u is =
         subst (λ (l : List ℕ). Here (rule l arities (take (i .ns) (i .ars))) u 0) (sym e)
-        (part-here (i .entries) bytes n r out (subst Bytes e known) (h s (i .ns) (i .ars) (i .flags) (i .entries)) u
+        (part-here (i .entries) bytes n r out (subst Bytes e known) (h file (i .ns) (i .ars) (i .flags) (i .entries)) u
         (ap (λ (q : Protocol). ruleOf q n) (i .same) ∙ is))
 
   pub index-within : Within p
   index-within = subst Within (i .same) (i .entries .within)
 
-  pub index-slots : arities ≡ slots (p .functions)
-  index-slots = i .entries .slotted ∙ ap (λ (q : Protocol). slots (q .functions)) (i .same)
+  pub index-slots : arities ≡ tagArities (p .functions)
+  index-slots = i .entries .slotted ∙ ap (λ (q : Protocol). tagArities (q .functions)) (i .same)
 
-  rule-variables : (z slots ars : List ℕ) (at : ℕ) (u : Rule) → Here (rule z slots ars) u at → valueOf (sortsAt z at) ≡ length (u .sorts)
-  rule-variables z slots ars at u h = vars-law z slots ars at u (rule-layout z slots ars at u h)
+  rule-variables : (z arities ars : List ℕ) (at : ℕ) (u : Rule) → Here (rule z arities ars) u at → valueOf (sortsAt z at) ≡ length (u .sorts)
+  rule-variables z arities ars at u h = vars-law z arities ars at u (rule-layout z arities ars at u h)
 
   pub written-variables :
       (n len : ℕ) (out : List ℕ) → WrittenAs p n len out → Bytes (take len out)
@@ -138,8 +138,8 @@ module _ {s arities places : List ℕ} {nr : ℕ} {p : Protocol} (i : IndexOf s 
       ap vars.Count (rule-variables (take len out) _ _ 0 (w .its) (written-reads p index-within n len out w bytes)) ∙ sym (ap variablesOf (w .is))
 
   pub placed-variables :
-      (n place : ℕ) → PlacedAs p s arities (take (i .ns) (i .ars)) n place → vars.Count (valueOf (sortsAt s place)) ≡ variablesOf (ruleOf p n)
-  placed-variables n place w = ap vars.Count (rule-variables s _ _ place (w .its) (w .here)) ∙ sym (ap variablesOf (w .is))
+      (n place : ℕ) → PlacedAs p file arities (take (i .ns) (i .ars)) n place → vars.Count (valueOf (sortsAt file place)) ≡ variablesOf (ruleOf p n)
+  placed-variables n place w = ap vars.Count (rule-variables file _ _ place (w .its) (w .here)) ∙ sym (ap variablesOf (w .is))
 
   -- a rule has few variables
   pub few-variables : (n k : ℕ) → vars.Count k ≡ variablesOf (ruleOf p n) → k ≤ mostVariables
@@ -167,14 +167,14 @@ module _ {s arities places : List ℕ} {nr : ℕ} {p : Protocol} (i : IndexOf s 
       go (some u) h = clash (cc)
 
 -- a node by its rule number
-module _ (p : Protocol) (s : List ℕ) (at : ℕ) where
-  pub end-got : {r e : ℕ} → readNumber s at ≡ got r e → nodeEnd p s at ≡ nodeFrom p s (ruleOf p r) e
+module _ (p : Protocol) (file : List ℕ) (at : ℕ) where
+  pub end-got : {r e : ℕ} → readNumber file at ≡ got r e → nodeEnd p file at ≡ nodeFrom p file (ruleOf p r) e
   unfolding nodeEnd
-  end-got h = ap (nodeOf p s) h
+  end-got h = ap (nodeOf p file) h
 
-  pub end-fault : readNumber s at ≡ fault → nodeEnd p s at ≡ end.Broken
+  pub end-fault : readNumber file at ≡ fault → nodeEnd p file at ≡ end.Broken
   unfolding nodeEnd
-  end-fault h = ap (nodeOf p s) h
+  end-fault h = ap (nodeOf p file) h
 
   -- what the end of a node says of its reading
   end-terms : {A : Type 0} (r : Read A) (f : A → Node) {e : ℕ} → termsEnd r ≡ end.End e → (x : Node) × (andThen r (λ y d. got (f y) d) ≡ got x e)
@@ -185,114 +185,114 @@ module _ (p : Protocol) (s : List ℕ) (at : ℕ) where
   broken-terms (got y d) f h = clash (cc)
   broken-terms fault f h = refl
 
-  end-values : (r d : ℕ) (o : Option Rule) {e : ℕ} → nodeFrom p s o d ≡ end.End e → (x : Node) × (values p s r o d ≡ got x e)
+  end-values : (r d : ℕ) (o : Option Rule) {e : ℕ} → nodeFrom p file o d ≡ end.End e → (x : Node) × (values p file r o d ≡ got x e)
   end-values r d none h = clash (cc)
-  end-values r d (some u) h = end-terms (many (term s (slots (p .functions))) (length (u .sorts)) d) (node-of r) h
+  end-values r d (some u) h = end-terms (many (term file (tagArities (p .functions))) (length (u .sorts)) d) (node-of r) h
 
-  broken-values : (r d : ℕ) (o : Option Rule) → nodeFrom p s o d ≡ end.Broken → (absent o ≡ false) × (values p s r o d ≡ fault)
+  broken-values : (r d : ℕ) (o : Option Rule) → nodeFrom p file o d ≡ end.Broken → (absent o ≡ false) × (values p file r o d ≡ fault)
   broken-values r d none h = clash (cc)
-  broken-values r d (some u) h = (refl, broken-terms (many (term s (slots (p .functions))) (length (u .sorts)) d) _ h)
+  broken-values r d (some u) h = (refl, broken-terms (many (term file (tagArities (p .functions))) (length (u .sorts)) d) _ h)
 
-  no-values : (d : ℕ) (o : Option Rule) → nodeFrom p s o d ≡ end.NoRule → absent o ≡ true
+  no-values : (d : ℕ) (o : Option Rule) → nodeFrom p file o d ≡ end.NoRule → absent o ≡ true
   no-values d none h = refl
-  no-values d (some u) h = go (many (term s (slots (p .functions))) (length (u .sorts)) d) h
+  no-values d (some u) h = go (many (term file (tagArities (p .functions))) (length (u .sorts)) d) h
     where
       go : (r : Read (List Term)) → termsEnd r ≡ end.NoRule → false ≡ true
       go (got x e) h = clash (cc)
       go fault h = clash (cc)
 
-  pub end-node : {e : ℕ} → nodeEnd p s at ≡ end.End e → (x : Node) × (node p s at ≡ got x e)
+  pub end-node : {e : ℕ} → nodeEnd p file at ≡ end.End e → (x : Node) × (node p file at ≡ got x e)
   unfolding nodeEnd node
-  end-node h = go (readNumber s at) h
+  end-node h = go (readNumber file at) h
     where
-      go : (o : Read ℕ) {e : ℕ} → nodeOf p s o ≡ end.End e → (x : Node) × (andThen o (λ r e. values p s r (ruleOf p r) e) ≡ got x e)
+      go : (o : Read ℕ) {e : ℕ} → nodeOf p file o ≡ end.End e → (x : Node) × (andThen o (λ r e. values p file r (ruleOf p r) e) ≡ got x e)
       go (got r d) h = end-values r d (ruleOf p r) h
       go fault h = clash (cc)
 
-  pub broken-node : nodeEnd p s at ≡ end.Broken → (unknown p (readNumber s at) ≡ false) × (node p s at ≡ fault)
+  pub broken-node : nodeEnd p file at ≡ end.Broken → (unknown p (readNumber file at) ≡ false) × (node p file at ≡ fault)
   unfolding nodeEnd node
-  broken-node h = go (readNumber s at) h
+  broken-node h = go (readNumber file at) h
     where
-      go : (o : Read ℕ) → nodeOf p s o ≡ end.Broken → (unknown p o ≡ false) × (andThen o (λ r e. values p s r (ruleOf p r) e) ≡ fault)
+      go : (o : Read ℕ) → nodeOf p file o ≡ end.Broken → (unknown p o ≡ false) × (andThen o (λ r e. values p file r (ruleOf p r) e) ≡ fault)
       go (got r d) h = broken-values r d (ruleOf p r) h
       go fault h = (refl, refl)
 
-  pub no-node : nodeEnd p s at ≡ end.NoRule → unknown p (readNumber s at) ≡ true
+  pub no-node : nodeEnd p file at ≡ end.NoRule → unknown p (readNumber file at) ≡ true
   unfolding nodeEnd
-  no-node h = go (readNumber s at) h
+  no-node h = go (readNumber file at) h
     where
-      go : (o : Read ℕ) → nodeOf p s o ≡ end.NoRule → unknown p o ≡ true
+      go : (o : Read ℕ) → nodeOf p file o ≡ end.NoRule → unknown p o ≡ true
       go (got r d) h = no-values d (ruleOf p r) h
       go fault h = clash (cc)
 
 -- ── the loop: j nodes were read, each at its place, and it stands at i ──
-module _ (p : Protocol) (s : List ℕ) (at : ℕ) where
+module _ (p : Protocol) (file : List ℕ) (at : ℕ) where
   pub record Passed (j i : ℕ) (places : List ℕ) : Type 0 where
-    pub each : (k : ℕ) → k < j → Came (node p s) at k (getD places k 0)
-    pub here : Came (node p s) at j i
+    pub each : (k : ℕ) → k < j → Came (node p file) at k (getD places k 0)
+    pub here : Came (node p file) at j i
 
   pub passed-none : (places : List ℕ) → Passed 0 at places
-  passed-none places = record { each = λ k l. absurd (omega arith); here = came-none (node p s) at }
+  passed-none places = record { each = λ k l. absurd (omega arith); here = came-none (node p file) at }
 
-  pub passed-more : (j i e : ℕ) (places : List ℕ) → Passed j i places → nodeEnd p s i ≡ end.End e → j < length places → Passed (j + 1) e (set places j i)
+  pub passed-more : (j i e : ℕ) (places : List ℕ) → Passed j i places → nodeEnd p file i ≡ end.End e → j < length places → Passed (j + 1) e (set places j i)
   passed-more j i e places c h l =
-      let (x, g) = end-node p s i h in
-      record { each = places-more (node p s) at j i places (c .each) (c .here) l; here = came-more (node p s) at j i e x (c .here) g }
+      let (x, g) = end-node p file i h in
+      record { each = places-more (node p file) at j i places (c .each) (c .here) l; here = came-more (node p file) at j i e x (c .here) g }
 
   module _ (n : ℕ) where
-    pub passed-broken : (j i : ℕ) (places : List ℕ) → Passed j i places → nodeEnd p s i ≡ end.Broken → j < n → nodesFrom p s 1 n at ≡ broken
+    pub passed-broken : (j i : ℕ) (places : List ℕ) → Passed j i places → nodeEnd p file i ≡ end.Broken → j < n → nodesFrom p file 1 n at ≡ broken
     passed-broken j i places c h l =
-        let (u, g) = broken-node p s i h in
-        stops-broken p s i u g j 1 n at (c .here .items) (c .here .there) l
+        let (u, g) = broken-node p file i h in
+        stops-broken p file i u g j 1 n at (c .here .items) (c .here .there) l
 
-    pub passed-unknown : (j i : ℕ) (places : List ℕ) → Passed j i places → nodeEnd p s i ≡ end.NoRule → j < n → nodesFrom p s 1 n at ≡ no-rule (j + 1)
+    pub passed-unknown : (j i : ℕ) (places : List ℕ) → Passed j i places → nodeEnd p file i ≡ end.NoRule → j < n → nodesFrom p file 1 n at ≡ no-rule (j + 1)
     passed-unknown j i places c h l =
         let k : 1 + j ≡ j + 1 = omega arith in
-        stops-unknown p s i (no-node p s i h) j 1 n at (c .here .items) (c .here .there) l ∙ ap no-rule k
+        stops-unknown p file i (no-node p file i h) j 1 n at (c .here .items) (c .here .there) l ∙ ap no-rule k
 
-    pub passed-all : (j i : ℕ) (places : List ℕ) → Passed j i places → j ≡ n → NodesAre (nodesFrom p s 1 n at) p s places n i
+    pub passed-all : (j i : ℕ) (places : List ℕ) → Passed j i places → j ≡ n → NodesAre (nodesFrom p file 1 n at) p file places n i
     passed-all j i places c h =
-        let there : many (node p s) n at ≡ got (c .here .items) i = ap (λ (k : ℕ). many (node p s) k at) (sym h) ∙ c .here .there in
+        let there : many (node p file) n at ≡ got (c .here .items) i = ap (λ (k : ℕ). many (node p file) k at) (sym h) ∙ c .here .there in
         record {
           items = c .here .items;
-          there = many-from p s 1 n at i (c .here .items) there;
-          placed = places-end (node p s) at noNode n i (c .here .items) places there (λ k l. c .each k (omega arith));
+          there = many-from p file 1 n at i (c .here .items) there;
+          placed = places-end (node p file) at noNode n i (c .here .items) places there (λ k l. c .each k (omega arith));
         }
 
   -- the count and then the nodes
-  pub nodes-got : {n e : ℕ} → below s (suc mostNodes) at ≡ got n e → nodes p s at ≡ nodesFrom p s 1 n e
+  pub nodes-got : {n e : ℕ} → below file (suc mostNodes) at ≡ got n e → nodes p file at ≡ nodesFrom p file 1 n e
   unfolding nodes
-  nodes-got h = ap (λ (o : Read ℕ). plainly o (λ n e. nodesFrom p s 1 n e)) h
+  nodes-got h = ap (λ (o : Read ℕ). plainly o (λ n e. nodesFrom p file 1 n e)) h
 
-  pub nodes-fault : below s (suc mostNodes) at ≡ fault → nodes p s at ≡ broken
+  pub nodes-fault : below file (suc mostNodes) at ≡ fault → nodes p file at ≡ broken
   unfolding nodes
-  nodes-fault h = ap (λ (o : Read ℕ). plainly o (λ n e. nodesFrom p s 1 n e)) h
+  nodes-fault h = ap (λ (o : Read ℕ). plainly o (λ n e. nodesFrom p file 1 n e)) h
 
-pub told-as : (r q : Reading (List Node)) → r ≡ q → (p : Protocol) (s places : List ℕ) (o : Nodes) → Told q p s places o → Told r p s places o
-told-as r q h p s places o t = subst (λ (z : Reading (List Node)). Told z p s places o) (sym h) t
+pub told-as : (r q : Reading (List Node)) → r ≡ q → (p : Protocol) (file places : List ℕ) (o : Nodes) → Told q p file places o → Told r p file places o
+told-as r q h p file places o t = subst (λ (z : Reading (List Node)). Told z p file places o) (sym h) t
 
 -- ── a whole step list ──
-module _ (p : Protocol) (s places : List ℕ) (r : Nodes) (told : Told (nodes p s 0) p s places r) where
-  pub steps-end : {n e : ℕ} → r ≡ all.End n e → e ≡ length s → NodesAre (steps p s) p s places n e
+module _ (p : Protocol) (file places : List ℕ) (r : Nodes) (told : Told (nodes p file 0) p file places r) where
+  pub steps-end : {n e : ℕ} → r ≡ all.End n e → e ≡ length file → NodesAre (steps p file) p file places n e
   unfolding steps
   steps-end {n} {e} h q =
-      let t = subst (Told (nodes p s 0) p s places) h told in
+      let t = subst (Told (nodes p file 0) p file places) h told in
       record {
         items = t .items;
-        there = ap (allOf s) (t .there) ∙ ap (λ (b : Bool). pick b (read (t .items) e) broken) (eq-eqb e (length s) q);
+        there = ap (allOf file) (t .there) ∙ ap (λ (b : Bool). pick b (read (t .items) e) broken) (eq-eqb e (length file) q);
         placed = t .placed;
       }
 
-  pub steps-leftover : {n e : ℕ} → r ≡ all.End n e → (e ≡ length s → ⊥) → steps p s ≡ broken
+  pub steps-leftover : {n e : ℕ} → r ≡ all.End n e → (e ≡ length file → ⊥) → steps p file ≡ broken
   unfolding steps
   steps-leftover {n} {e} h q =
-      let t = subst (Told (nodes p s 0) p s places) h told in
-      ap (allOf s) (t .there) ∙ ap (λ (b : Bool). pick b (read (t .items) e) broken) (ne-eqb e (length s) q)
+      let t = subst (Told (nodes p file 0) p file places) h told in
+      ap (allOf file) (t .there) ∙ ap (λ (b : Bool). pick b (read (t .items) e) broken) (ne-eqb e (length file) q)
 
-  pub steps-broken : r ≡ all.Broken → steps p s ≡ broken
+  pub steps-broken : r ≡ all.Broken → steps p file ≡ broken
   unfolding steps
-  steps-broken h = ap (allOf s) (subst (Told (nodes p s 0) p s places) h told)
+  steps-broken h = ap (allOf file) (subst (Told (nodes p file 0) p file places) h told)
 
-  pub steps-unknown : {k : ℕ} → r ≡ all.NoRule k → steps p s ≡ no-rule k
+  pub steps-unknown : {k : ℕ} → r ≡ all.NoRule k → steps p file ≡ no-rule k
   unfolding steps
-  steps-unknown h = ap (allOf s) (subst (Told (nodes p s 0) p s places) h told)
+  steps-unknown h = ap (allOf file) (subst (Told (nodes p file 0) p file places) h told)

@@ -30,7 +30,7 @@ module _ {A B : Type 0} where
   cut-plain-rule (got x d) f h k = k x d refl h
   cut-plain-rule fault f h k = clash (cc)
 
-module _ (p : Protocol) (s : List ℕ) where
+module _ (p : Protocol) (file : List ℕ) where
   -- of n nodes, the first of number b: some were read, and then a rule number that no rule has
   pub record NoRuleFrom (b n at k : ℕ) : Type 0 where
     pub before : List Node
@@ -38,17 +38,17 @@ module _ (p : Protocol) (s : List ℕ) where
     pub place : ℕ
     pub rule : ℕ
     pub next : ℕ
-    pub reads : many (node p s) many-before at ≡ got before place
+    pub reads : many (node p file) many-before at ≡ got before place
     pub number : k ≡ b + many-before
     pub fewer : many-before < n
-    pub tells : readNumber s place ≡ got rule next
+    pub tells : readNumber file place ≡ got rule next
     pub no-such : ruleOf p rule ≡ none
 
   -- the count was read too, and the nodes are numbered from 1
-  pub record NoRule (at k : ℕ) : Type 0 where
+  pub record RuleMissing (at k : ℕ) : Type 0 where
     pub count : ℕ
     pub start : ℕ
-    pub counts : below s (suc mostNodes) at ≡ got count start
+    pub counts : below file (suc mostNodes) at ≡ got count start
     pub there : NoRuleFrom 1 count start k
 
   absent-none : (o : Option Rule) → absent o ≡ true → o ≡ none
@@ -59,12 +59,12 @@ module _ (p : Protocol) (s : List ℕ) where
   cut-unknown (got r e) h k = k r e refl (absent-none (ruleOf p r) h)
   cut-unknown fault h k = clash (cc)
 
-  from-norule : (b n at k : ℕ) → nodesFrom p s b n at ≡ no-rule k → NoRuleFrom b n at k
+  from-norule : (b n at k : ℕ) → nodesFrom p file b n at ≡ no-rule k → NoRuleFrom b n at k
   unfolding nodesFrom many
   from-norule b zero at k h = clash (cc)
   from-norule b (suc n) at k h =
-      cut _ _ _ (unknown p (readNumber s at)) h
-      (λ t h. cut-unknown (readNumber s at) t (λ r e hr q.
+      cut _ _ _ (unknown p (readNumber file at)) h
+      (λ t h. cut-unknown (readNumber file at) t (λ r e hr q.
       let i : b ≡ k = cc in
       record {
         before = [];
@@ -78,7 +78,7 @@ module _ (p : Protocol) (s : List ℕ) where
         tells = hr;
         no-such = q;
       }))
-      (λ t h. cut-plain-rule (node p s at) _ h (λ x d hx h. cut-rule (nodesFrom p s (suc b) n d) _ h
+      (λ t h. cut-plain-rule (node p file at) _ h (λ x d hx h. cut-rule (nodesFrom p file (suc b) n d) _ h
       (λ g.
       let f = from-norule (suc b) n d k g in
       record {
@@ -87,7 +87,7 @@ module _ (p : Protocol) (s : List ℕ) where
         place = f .place;
         rule = f .rule;
         next = f .next;
-        reads = many-cons (node p s) (f .many-before) at d (f .place) x (f .before) hx (f .reads);
+        reads = many-cons (node p file) (f .many-before) at d (f .place) x (f .before) hx (f .reads);
         number = omega (arith, f .number);
         fewer = omega (arith, f .fewer);
         tells = f .tells;
@@ -98,50 +98,50 @@ module _ (p : Protocol) (s : List ℕ) where
   -- where some nodes were read and none can be read next, the reading ends with what stands there
   pub ends-there :
       (o : ℕ → Reading (List Node)) → ((k : ℕ) (f : List Node → ℕ → Reading (List Node)) → onward (o k) f ≡ o k)
-      → (place : ℕ) → ((b m : ℕ) → nodesFrom p s b (suc m) place ≡ o b)
-      → (j b n at : ℕ) (xs : List Node) → many (node p s) j at ≡ got xs place → j < n → nodesFrom p s b n at ≡ o (b + j)
+      → (place : ℕ) → ((b m : ℕ) → nodesFrom p file b (suc m) place ≡ o b)
+      → (j b n at : ℕ) (xs : List Node) → many (node p file) j at ≡ got xs place → j < n → nodesFrom p file b n at ≡ o (b + j)
   unfolding nodesFrom many
   ends-there o stays place here j b zero at xs h l = absurd (omega arith)
   ends-there o stays place here zero b (suc n) at xs h l =
       let a : at ≡ place = cc in
       let i : b ≡ b + 0 = omega arith in
-      ap (λ (k : ℕ). nodesFrom p s b (suc n) k) a ∙ here b n ∙ ap o i
+      ap (λ (k : ℕ). nodesFrom p file b (suc n) k) a ∙ here b n ∙ ap o i
   ends-there o stays place here (suc j) b (suc n) at xs h l =
-      cut-got (node p s at) _ h (λ x d hx h. cut-got (many (node p s) j d) _ h (λ ys c hys h.
+      cut-got (node p file at) _ h (λ x d hx h. cut-got (many (node p file) j d) _ h (λ ys c hys h.
       let a : c ≡ place = cc in
       let i : suc b + j ≡ b + suc j = omega arith in
-      ap (λ (t : Bool). pick t (no-rule b) (plainly (node p s at) (λ x e. onward (nodesFrom p s (suc b) n e) (λ xs f. read (x ∷ xs) f))))
-      (node-known p s at d x hx)
-      ∙ ap (λ (o : Read Node). plainly o (λ x e. onward (nodesFrom p s (suc b) n e) (λ xs f. read (x ∷ xs) f))) hx
+      ap (λ (t : Bool). pick t (no-rule b) (plainly (node p file at) (λ x e. onward (nodesFrom p file (suc b) n e) (λ xs f. read (x ∷ xs) f))))
+      (node-known p file at d x hx)
+      ∙ ap (λ (o : Read Node). plainly o (λ x e. onward (nodesFrom p file (suc b) n e) (λ xs f. read (x ∷ xs) f))) hx
       ∙ ap (λ (o : Reading (List Node)). onward o (λ xs f. read (x ∷ xs) f))
       (ends-there o stays place here j (suc b) n d ys (hys ∙ ap (got ys) a) (omega arith))
       ∙ stays (suc b + j) (λ xs f. read (x ∷ xs) f) ∙ ap o i))
 
   pub stops-unknown :
-      (place : ℕ) → unknown p (readNumber s place) ≡ true → (j b n at : ℕ) (xs : List Node) → many (node p s) j at ≡ got xs place → j < n
-      → nodesFrom p s b n at ≡ no-rule (b + j)
+      (place : ℕ) → unknown p (readNumber file place) ≡ true → (j b n at : ℕ) (xs : List Node) → many (node p file) j at ≡ got xs place → j < n
+      → nodesFrom p file b n at ≡ no-rule (b + j)
   unfolding nodesFrom
   stops-unknown place u =
       ends-there no-rule (λ k f. refl) place
-      (λ b m. ap (λ (t : Bool). pick t (no-rule b) (plainly (node p s place) (λ x e. onward (nodesFrom p s (suc b) m e) (λ xs f. read (x ∷ xs) f)))) u)
+      (λ b m. ap (λ (t : Bool). pick t (no-rule b) (plainly (node p file place) (λ x e. onward (nodesFrom p file (suc b) m e) (λ xs f. read (x ∷ xs) f)))) u)
 
   pub stops-broken :
-      (place : ℕ) → unknown p (readNumber s place) ≡ false → node p s place ≡ fault
-      → (j b n at : ℕ) (xs : List Node) → many (node p s) j at ≡ got xs place → j < n → nodesFrom p s b n at ≡ broken
+      (place : ℕ) → unknown p (readNumber file place) ≡ false → node p file place ≡ fault
+      → (j b n at : ℕ) (xs : List Node) → many (node p file) j at ≡ got xs place → j < n → nodesFrom p file b n at ≡ broken
   unfolding nodesFrom
   stops-broken place u g =
       ends-there (λ k. broken) (λ k f. refl) place
       (λ b m.
-      ap (λ (t : Bool). pick t (no-rule b) (plainly (node p s place) (λ x e. onward (nodesFrom p s (suc b) m e) (λ xs f. read (x ∷ xs) f)))) u
-      ∙ ap (λ (o : Read Node). plainly o (λ x e. onward (nodesFrom p s (suc b) m e) (λ xs f. read (x ∷ xs) f))) g)
+      ap (λ (t : Bool). pick t (no-rule b) (plainly (node p file place) (λ x e. onward (nodesFrom p file (suc b) m e) (λ xs f. read (x ∷ xs) f)))) u
+      ∙ ap (λ (o : Read Node). plainly o (λ x e. onward (nodesFrom p file (suc b) m e) (λ xs f. read (x ∷ xs) f))) g)
 
-  pub no-rule-exactly : (at k : ℕ) → (nodes p s at ≡ no-rule k) ↔ NoRule at k
+  pub no-rule-exactly : (at k : ℕ) → (nodes p file at ≡ no-rule k) ↔ RuleMissing at k
   unfolding nodes
   no-rule-exactly at k = (
-    (λ h. cut-plain-rule (below s (suc mostNodes) at) _ h (λ n d hn h. record { count = n; start = d; counts = hn; there = from-norule 1 n d k h })),
+    (λ h. cut-plain-rule (below file (suc mostNodes) at) _ h (λ n d hn h. record { count = n; start = d; counts = hn; there = from-norule 1 n d k h })),
     (λ h.
         let f = h .there in
-        ap (λ (o : Read ℕ). plainly o (λ n e. nodesFrom p s 1 n e)) (h .counts)
+        ap (λ (o : Read ℕ). plainly o (λ n e. nodesFrom p file 1 n e)) (h .counts)
         ∙ stops-unknown (f .place) (ap (unknown p) (f .tells) ∙ ap absent (f .no-such)) (f .many-before) 1 (h .count) (h .start) (f .before) (f .reads)
         (f .fewer)
         ∙ ap no-rule (sym (f .number))),

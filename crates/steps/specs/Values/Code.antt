@@ -52,15 +52,15 @@ ofName sort (nm.PublicName f) = pick (eqb sort 0) true (eqb sort 2)
 ofName sort nm.Other = eqb sort 0
 
 -- the term t stands at a place, under a table of the built-in functions
-pub record ValueThere (slots s : List ℕ) (at : ℕ) (t : Term) (e : ℕ) : Type 0 where
-  pub table : Builtins slots
-  pub there : term s slots at ≡ got t e
-  pub short : length s ≤ longest
+pub record ValueThere (arities file : List ℕ) (at : ℕ) (t : Term) (e : ℕ) : Type 0 where
+  pub table : Builtins arities
+  pub there : term file arities at ≡ got t e
+  pub short : length file ≤ longest
 
-pub record SomeValue (slots s : List ℕ) (at : ℕ) : Type 0 where
+pub record SomeValue (arities file : List ℕ) (at : ℕ) : Type 0 where
   pub value : Term
   pub end : ℕ
-  pub is : ValueThere slots s at value end
+  pub is : ValueThere arities file at value end
 
 -- ── a name by its symbol ──
 module _ {y : Symbol} where
@@ -99,49 +99,50 @@ neither k n l =
     ap₂ (λ (a b : Bool). pick a true b) (ne-eqb (suc (suc (suc k))) 0 (λ h. omega arith)) (ne-eqb (suc (suc (suc k))) n (λ h. omega arith))
 
 -- ── the term of a symbol ──
-module _ (s slots : List ℕ) (at : ℕ) (bytes : Bytes s) (t : Term) (e : ℕ) (there : term s slots at ≡ got t e) where
-  built : build (term s slots) (symbolAt s slots at) ≡ got t e
-  built = sym (term-build s slots bytes at) ∙ there
+module _ (file arities : List ℕ) (at : ℕ) (bytes : Bytes file) (t : Term) (e : ℕ) (there : term file arities at ≡ got t e) where
+  built : build (term file arities) (symbolAt file arities at) ≡ got t e
+  built = sym (term-build file arities bytes at) ∙ there
 
-  pub leaf-is : (k n d : ℕ) → symbolAt s slots at ≡ sy.Leaf k n d → t ≡ leaf (kindOf k) n
+  pub leaf-is : (k n d : ℕ) → symbolAt file arities at ≡ sy.Leaf k n d → t ≡ leaf (kindOf k) n
   leaf-is k n d h =
-      let g : got (leaf (kindOf k) n) d ≡ got t e = sym (ap (build (term s slots)) h) ∙ built in
+      let g : got (leaf (kindOf k) n) d ≡ got t e = sym (ap (build (term file arities)) h) ∙ built in
       cc
 
-  no-name : ((n d : ℕ) → (symbolAt s slots at ≡ sy.Leaf 2 n d → ⊥) × (symbolAt s slots at ≡ sy.Leaf 1 n d → ⊥)) → (isFresh t ≡ false) × (isPublic t ≡ false)
-  no-name h = go (symbolAt s slots at) refl built
+  no-name : ((n d : ℕ) → (symbolAt file arities at ≡ sy.Leaf 2 n d → ⊥) × (symbolAt file arities at ≡ sy.Leaf 1 n d → ⊥)) → (isFresh t ≡ false) ×
+      (isPublic t ≡ false)
+  no-name h = go (symbolAt file arities at) refl built
     where
-      leaves : (k n d : ℕ) → symbolAt s slots at ≡ sy.Leaf k n d → k < 3 → (isFresh (leaf (kindOf k) n) ≡ false) × (isPublic (leaf (kindOf k) n) ≡ false)
+      leaves : (k n d : ℕ) → symbolAt file arities at ≡ sy.Leaf k n d → k < 3 → (isFresh (leaf (kindOf k) n) ≡ false) × (isPublic (leaf (kindOf k) n) ≡ false)
       leaves zero n d g l = (refl, refl)
       leaves (suc zero) n d g l = absurd (h n d .1 g)
       leaves (suc (suc zero)) n d g l = absurd (h n d .0 g)
       leaves (suc (suc (suc k))) n d g l = absurd (omega arith)
 
-      go : (y : Symbol) → symbolAt s slots at ≡ y → build (term s slots) y ≡ got t e → (isFresh t ≡ false) × (isPublic t ≡ false)
+      go : (y : Symbol) → symbolAt file arities at ≡ y → build (term file arities) y ≡ got t e → (isFresh t ≡ false) × (isPublic t ≡ false)
       go (sy.Leaf k n d) g b =
-          let r = leaves k n d g (leaf-at s slots at k n d g .small) in
+          let r = leaves k n d g (leaf-at file arities at k n d g .small) in
           let i = leaf-is k n d g in
           (ap isFresh i ∙ r .0, ap isPublic i ∙ r .1)
       go (sy.Op k n d) g b =
-          cut-got (many (term s slots) n d) _ b (λ ts f hm q.
+          cut-got (many (term file arities) n d) _ b (λ ts f hm q.
           let i : app k (terms ts) ≡ t = cc in
           (sym (ap isFresh i), sym (ap isPublic i)))
       go sy.Fault g b = clash (cc)
 
   -- a term that no fresh name begins is none
-  pub no-fresh : ((n d : ℕ) → symbolAt s slots at ≡ sy.Leaf 2 n d → ⊥) → freshNumber t ≡ none
-  no-fresh h = go (symbolAt s slots at) refl built
+  pub no-fresh : ((n d : ℕ) → symbolAt file arities at ≡ sy.Leaf 2 n d → ⊥) → freshNumber t ≡ none
+  no-fresh h = go (symbolAt file arities at) refl built
     where
-      leaves : (k n d : ℕ) → symbolAt s slots at ≡ sy.Leaf k n d → k < 3 → freshNumber (leaf (kindOf k) n) ≡ none
+      leaves : (k n d : ℕ) → symbolAt file arities at ≡ sy.Leaf k n d → k < 3 → freshNumber (leaf (kindOf k) n) ≡ none
       leaves zero n d g l = refl
       leaves (suc zero) n d g l = refl
       leaves (suc (suc zero)) n d g l = absurd (h n d g)
       leaves (suc (suc (suc k))) n d g l = absurd (omega arith)
 
-      go : (y : Symbol) → symbolAt s slots at ≡ y → build (term s slots) y ≡ got t e → freshNumber t ≡ none
-      go (sy.Leaf k n d) g b = ap freshNumber (leaf-is k n d g) ∙ leaves k n d g (leaf-at s slots at k n d g .small)
+      go : (y : Symbol) → symbolAt file arities at ≡ y → build (term file arities) y ≡ got t e → freshNumber t ≡ none
+      go (sy.Leaf k n d) g b = ap freshNumber (leaf-is k n d g) ∙ leaves k n d g (leaf-at file arities at k n d g .small)
       go (sy.Op k n d) g b =
-          cut-got (many (term s slots) n d) _ b (λ ts f hm q.
+          cut-got (many (term file arities) n d) _ b (λ ts f hm q.
           let i : app k (terms ts) ≡ t = cc in
           sym (ap freshNumber i))
       go sy.Fault g b = clash (cc)
@@ -164,15 +165,15 @@ module _ (s slots : List ℕ) (at : ℕ) (bytes : Bytes s) (t : Term) (e : ℕ) 
   sorts-other (suc (suc zero)) a b = sym b
   sorts-other (suc (suc (suc k))) a b = ne-eqb (suc (suc (suc k))) 0 (λ h. omega arith)
 
-  pub name-sort : (sort : ℕ) (x : Name) → NameIs (symbolAt s slots at) x → ofName sort x ≡ ofSort sort t
+  pub name-sort : (sort : ℕ) (x : Name) → NameIs (symbolAt file arities at) x → ofName sort x ≡ ofSort sort t
   name-sort sort (nm.FreshName f) (d, h) = sorts-fresh sort (f .0) ∙ ap (ofSort sort) (sym (leaf-is 2 (f .0) d h))
   name-sort sort (nm.PublicName f) (d, h) = sorts-public sort (f .0) ∙ ap (ofSort sort) (sym (leaf-is 1 (f .0) d h))
   name-sort sort nm.Other h = let (a, b) = no-name h in sorts-other sort a b
 
 -- ── the whole test ──
-module _ (s slots : List ℕ) (at : ℕ) (t : Term) (e : ℕ) (v : ValueThere slots s at t e) (sort : ℕ) where
+module _ (file arities : List ℕ) (at : ℕ) (t : Term) (e : ℕ) (v : ValueThere arities file at t e) (sort : ℕ) where
   -- what the walk says of it
-  pub walk-is : {w : Walk} {d n : ℕ} {b : Bool} → w ≡ walked 0 0 numberLimit (term s slots at) → w ≡ wk.End d n b → (symbols t ≡ n) ×
+  pub walk-is : {w : Walk} {d n : ℕ} {b : Bool} → w ≡ walked 0 0 numberLimit (term file arities at) → w ≡ wk.End d n b → (symbols t ≡ n) ×
       (holds t 0 0 numberLimit ≡ b)
   walk-is {w} {d} {n} {b} h k =
       let g : wk.End e (symbols t) (holds t 0 0 numberLimit) ≡ wk.End d n b = sym (h ∙ ap (walked 0 0 numberLimit) (v .there)) ∙ k in
@@ -180,7 +181,7 @@ module _ (s slots : List ℕ) (at : ℕ) (t : Term) (e : ℕ) (v : ValueThere sl
       let c : holds t 0 0 numberLimit ≡ b = cc in
       (a, c)
 
-  pub walk-none : {C : Type 0} {w : Walk} → w ≡ walked 0 0 numberLimit (term s slots at) → w ≡ wk.Fault → C
+  pub walk-none : {C : Type 0} {w : Walk} → w ≡ walked 0 0 numberLimit (term file arities at) → w ≡ wk.Fault → C
   walk-none h k =
       let g : wk.End e (symbols t) (holds t 0 0 numberLimit) ≡ wk.Fault = sym (h ∙ ap (walked 0 0 numberLimit) (v .there)) ∙ k in
       clash (cc)
@@ -204,11 +205,11 @@ module _ (s slots : List ℕ) (at : ℕ) (t : Term) (e : ℕ) (v : ValueThere sl
       ∙ ap (λ (a : Bool). a && (ltb (symbols t) (suc mostInValue) && isCanonical t)) k ∙ ap (λ (a : Bool). a && isCanonical t)
       (lt-ltb (symbols t) (suc mostInValue) (omega arith)))
 
-  module _ (bytes : Bytes s) where
+  module _ (bytes : Bytes file) where
     -- it is a message
-    pub message : holds t 0 0 numberLimit ≡ false → symbols t ≤ mostInValue → MessageAt slots s at t
+    pub message : holds t 0 0 numberLimit ≡ false → symbols t ≤ mostInValue → MessageAt arities file at t
     message h l =
-        let f = term-form s slots bytes t at e (v .there) in
+        let f = term-form file arities bytes t at e (v .there) in
         record {
           table = v .table;
           formed = f .0 .0;
@@ -220,10 +221,11 @@ module _ (s slots : List ℕ) (at : ℕ) (t : Term) (e : ℕ) (v : ValueThere sl
           short = v .short;
         }
 
-    pub canonical-is : (b : Bool) → Promises (MessageAt slots s at) (λ (t : Term). (b ≡ true) ↔ (canon t ≡ t)) → MessageAt slots s at t → b ≡ isCanonical t
+    pub canonical-is : (b : Bool) → Promises (MessageAt arities file at) (λ (t : Term). (b ≡ true) ↔ (canon t ≡ t)) → MessageAt arities file at t → b ≡
+        isCanonical t
     canonical-is b h m =
         let c = h t m in
-        let d = canon-decides slots (group slots (v .table)) t (m .formed) in
+        let d = canon-decides arities (group arities (v .table)) t (m .formed) in
         by-bool (isCanonical t)
         (λ q. c .1 (d .0 q) ∙ sym q)
         (λ q. not-true b (λ r. true-false (isCanonical t) (d .1 (c .0 r)) q) ∙ sym q)

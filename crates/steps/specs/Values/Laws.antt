@@ -53,21 +53,21 @@ is-sort (suc (suc zero)) v (n, e) = ap isPublic e
 is-sort (suc (suc (suc k))) v h = absurd h
 
 -- ── one value ──
-module _ (slots : List ℕ) (fit : FitArities (arity slots)) where
-  pub canonical-decides : (v : Term) → Formed (arity slots) v → (isCanonical v ≡ true) ↔ Canonical v
+module _ (arities : List ℕ) (fit : FitArities (arity arities)) where
+  pub canonical-decides : (v : Term) → Formed (arity arities) v → (isCanonical v ≡ true) ↔ Canonical v
   canonical-decides v w =
       let e = equal-bytes (encode (canon v)) (encode v) in
-      let c = canonical-bytes (arity slots) fit v w in
+      let c = canonical-bytes (arity arities) fit v w in
       ((λ h. c .1 (e .0 h)), (λ h. e .1 (c .0 h)))
 
   -- the same by the canonical form
-  pub canon-decides : (v : Term) → Formed (arity slots) v → (isCanonical v ≡ true) ↔ (canon v ≡ v)
+  pub canon-decides : (v : Term) → Formed (arity arities) v → (isCanonical v ≡ true) ↔ (canon v ≡ v)
   canon-decides v w =
       let d = canonical-decides v w in
-      let c = canonical-canon (arity slots) fit v w in
+      let c = canonical-canon (arity arities) fit v w in
       ((λ h. c .0 (d .0 h)), (λ h. d .1 (c .1 h)))
 
-  pub value-decides : (sort : ℕ) (v : Term) → Good slots v → (valueOk sort v ≡ true) ↔ ValueFits sort v
+  pub value-decides : (sort : ℕ) (v : Term) → Good arities v → (valueOk sort v ≡ true) ↔ ValueFits sort v
   value-decides sort v g = (
     (λ h.
         let (a, b) = and-split (not (holds v 0 0 numberLimit)) (ofSort sort v && (ltb (symbols v) (suc mostInValue) && isCanonical v)) h in
@@ -125,7 +125,7 @@ pub record BadTerm (vs : List Term) (u : Rule) : Type 0 where
 
 pub terms-fail : (vs : List Term) (u : Rule) → ruleOk vs u ≡ false → BadTerm vs u
 terms-fail vs u h =
-    let (fs, a, b) = all-fails _ (u .parts) h in
+    let (fs, a, b) = all-fails _ (u .lists) h in
     let (f, c, d) = all-fails (factOk vs) fs b in
     let (t, e, g) = all-fails (termOk vs) (f .terms) d in
     record {
@@ -136,6 +136,6 @@ terms-fail vs u h =
 
 pub fail-terms : (vs : List Term) (u : Rule) (t : Term) → TermOf u t → mostFilledIn < filledSymbols vs t → ruleOk vs u ≡ false
 fail-terms vs u t h l =
-    fails-all _ (u .parts) (h .facts) (h .of-rule)
+    fails-all _ (u .lists) (h .facts) (h .of-rule)
     (fails-all (factOk vs) (h .facts) (h .fact) (h .of-facts)
     (fails-all (termOk vs) (h .fact .terms) t (h .of-fact) (le-ltb (filledSymbols vs t) (suc mostFilledIn) (omega arith))))

@@ -14,7 +14,7 @@ use Rattle.number.specs.Reading.{Read, got, fault, andThen, readNumber, many}
 use Rattle.number.specs.Reading.Laws.{cut-got}
 use Rattle.number.specs.Reading.Many.{many-length}
 use Rattle.term.specs.Term.{Term}
-use Rattle.term.specs.Arity.{slots}
+use Rattle.term.specs.Arity.{tagArities}
 use Rattle.term.specs.Reader.{term}
 use Rattle.term.specs.Walk.{ended}
 use Rattle.term.specs.declared.Part.{Part}
@@ -45,22 +45,22 @@ pub behind-part : (at : ℕ) (r : Read Term) → behindPart at (ended r) ≡ beh
 behind-part at (got t e) = refl
 behind-part at fault = refl
 
--- ── a rule at a place of src, and the values of a node of it at a place of s ──
-pub record RuleHere (table s src : List ℕ) (place at : ℕ) (u : Rule) (vs : List Term) (e : ℕ) : Type 0 where
+-- ── a rule at a place of src, and the values of a node of it at a place of file ──
+pub record RuleHere (table file src : List ℕ) (place at : ℕ) (u : Rule) (vs : List Term) (e : ℕ) : Type 0 where
   pub builtins : Builtins table
   pub ars : List ℕ
   pub here : Here (rule src table ars) u place
   pub few : length (u .sorts) ≤ mostVariables
-  pub reads : many (term s table) (length (u .sorts)) at ≡ got vs e
-  pub short : length s ≤ longest
+  pub reads : many (term file table) (length (u .sorts)) at ≡ got vs e
+  pub short : length file ≤ longest
 
-pub record SomeRule (table s src : List ℕ) (place at : ℕ) : Type 0 where
+pub record SomeRule (table file src : List ℕ) (place at : ℕ) : Type 0 where
   pub its : Rule
   pub its-values : List Term
   pub end : ℕ
-  pub is : RuleHere table s src place at its its-values end
+  pub is : RuleHere table file src place at its its-values end
 
-module _ {table s src : List ℕ} {place at : ℕ} {u : Rule} {vs : List Term} {e : ℕ} (h : RuleHere table s src place at u vs e) where
+module _ {table file src : List ℕ} {place at : ℕ} {u : Rule} {vs : List Term} {e : ℕ} (h : RuleHere table file src place at u vs e) where
   pub sort-here : (v : ℕ) → v < length (u .sorts) → valueOf (sortOf src place v) ≡ getD (u .sorts) v 0
   sort-here v l = sort-law src table (h .ars) place u (rule-layout src table (h .ars) place u (h .here)) v l
 
@@ -69,20 +69,20 @@ module _ {table s src : List ℕ} {place at : ℕ} {u : Rule} {vs : List Term} {
 
   -- the loop over the values stands at i, before value v
   pub record Left (v i : ℕ) : Type 0 where
-    pub more : many (term s table) (length (u .sorts) - v) i ≡ got (drop v vs) e
+    pub more : many (term file table) (length (u .sorts) - v) i ≡ got (drop v vs) e
     pub same : valuesOk (u .sorts) vs ≡ valuesOk (drop v (u .sorts)) (drop v vs)
 
   pub left-all : Left 0 at
   left-all =
       let z : length (u .sorts) - 0 ≡ length (u .sorts) = omega arith in
-      record { more = ap (λ (k : ℕ). many (term s table) k at) z ∙ h .reads; same = refl }
+      record { more = ap (λ (k : ℕ). many (term file table) k at) z ∙ h .reads; same = refl }
 
   -- value v, which stands there
   pub record Turn (v i : ℕ) : Type 0 where
     pub value : Term
     pub next : ℕ
-    pub is : ValueThere table s i value next
-    pub rest : many (term s table) (length (u .sorts) - (v + 1)) next ≡ got (drop (v + 1) vs) e
+    pub is : ValueThere table file i value next
+    pub rest : many (term file table) (length (u .sorts) - (v + 1)) next ≡ got (drop (v + 1) vs) e
     pub test : valuesOk (u .sorts) vs ≡ (valueOk (getD (u .sorts) v 0) value && valuesOk (drop (v + 1) (u .sorts)) (drop (v + 1) vs))
 
   pub turn : (v i : ℕ) → v < length (u .sorts) → Left v i → Turn v i
@@ -90,12 +90,12 @@ module _ {table s src : List ℕ} {place at : ℕ} {u : Rule} {vs : List Term} {
   turn v i l g = go (length (u .sorts) - v) refl (g .more)
     where
       n : length vs ≡ length (u .sorts)
-      n = many-length (term s table) (length (u .sorts)) at e vs (h .reads)
+      n = many-length (term file table) (length (u .sorts)) at e vs (h .reads)
 
-      go : (m : ℕ) → length (u .sorts) - v ≡ m → many (term s table) m i ≡ got (drop v vs) e → Turn v i
+      go : (m : ℕ) → length (u .sorts) - v ≡ m → many (term file table) m i ≡ got (drop v vs) e → Turn v i
       go zero z q = absurd (omega arith)
       go (suc m) z q =
-          cut-got (term s table i) _ q (λ t d ht q. cut-got (many (term s table) m d) _ q (λ ts c hts q.
+          cut-got (term file table i) _ q (λ t d ht q. cut-got (many (term file table) m d) _ q (λ ts c hts q.
           let a : t ∷ ts ≡ drop v vs = cc in
           let b : c ≡ e = cc in
           let w : drop v vs ≡ getD vs v t ∷ drop (suc v) vs = drop-cons vs v t (omega (arith, n)) in
@@ -107,7 +107,7 @@ module _ {table s src : List ℕ} {place at : ℕ} {u : Rule} {vs : List Term} {
             value = t;
             next = d;
             is = record { table = h .builtins; there = ht; short = h .short };
-            rest = ap (λ (j : ℕ). many (term s table) j d) (sym k) ∙ hts ∙ ap₂ got (hts′ ∙ ap (λ (j : ℕ). drop j vs) o) b;
+            rest = ap (λ (j : ℕ). many (term file table) j d) (sym k) ∙ hts ∙ ap₂ got (hts′ ∙ ap (λ (j : ℕ). drop j vs) o) b;
             test =
                 g .same ∙ ap₂ valuesOk (drop-cons (u .sorts) v 0 l) (sym a)
                 ∙ ap₂ (λ (x : List ℕ) (y : List Term). valueOk (getD (u .sorts) v 0) t && valuesOk x y)
@@ -117,9 +117,9 @@ module _ {table s src : List ℕ} {place at : ℕ} {u : Rule} {vs : List Term} {
   pub left-bad : (v i : ℕ) (x : Turn v i) → valueOk (getD (u .sorts) v 0) (x .value) ≡ false → false ≡ valuesOk (u .sorts) vs
   left-bad v i x f = sym (x .test ∙ ap (λ (b : Bool). b && valuesOk (drop (v + 1) (u .sorts)) (drop (v + 1) vs)) f)
 
-  pub left-more : (v i : ℕ) (x : Turn v i) → valueOk (getD (u .sorts) v 0) (x .value) ≡ true → Left (v + 1) (behindOf i (term s table i))
+  pub left-more : (v i : ℕ) (x : Turn v i) → valueOk (getD (u .sorts) v 0) (x .value) ≡ true → Left (v + 1) (behindOf i (term file table i))
   left-more v i x t = record {
-    more = ap (λ (r : Read Term). many (term s table) (length (u .sorts) - (v + 1)) (behindOf i r)) (x .is .there) ∙ x .rest;
+    more = ap (λ (r : Read Term). many (term file table) (length (u .sorts) - (v + 1)) (behindOf i r)) (x .is .there) ∙ x .rest;
     same = x .test ∙ ap (λ (b : Bool). b && valuesOk (drop (v + 1) (u .sorts)) (drop (v + 1) vs)) t;
   }
 
@@ -127,64 +127,64 @@ module _ {table s src : List ℕ} {place at : ℕ} {u : Rule} {vs : List Term} {
   left-none v i l g = sym (g .same ∙ ap (λ (x : List ℕ). valuesOk x (drop v vs)) (drop-of-length-le (u .sorts) l))
 
 -- ── a node at a place ──
-pub record SomeNode (protocol table rules : List ℕ) (nr : ℕ) (s : List ℕ) (place : ℕ) : Type 0 where
+pub record SomeNode (protocol table rules : List ℕ) (nr : ℕ) (file : List ℕ) (place : ℕ) : Type 0 where
   pub of : Protocol
   pub index : IndexOf protocol table rules nr of
   pub its : Node
-  pub here : Here (node of s) its place
+  pub here : Here (node of file) its place
 
 -- a node whose rule number was read, its values from `at` on
-pub record NodeFrom (p : Protocol) (s : List ℕ) (number at : ℕ) (x : Node) (e : ℕ) : Type 0 where
+pub record NodeFrom (p : Protocol) (file : List ℕ) (number at : ℕ) (x : Node) (e : ℕ) : Type 0 where
   pub is-number : x .rule ≡ number
-  pub reads : values p s number (ruleOf p number) at ≡ got x e
+  pub reads : values p file number (ruleOf p number) at ≡ got x e
 
-module _ (p : Protocol) (s : List ℕ) where
-  rule-kept : (r d e : ℕ) (o : Option Rule) (x : Node) → values p s r o d ≡ got x e → x .rule ≡ r
+module _ (p : Protocol) (file : List ℕ) where
+  rule-kept : (r d e : ℕ) (o : Option Rule) (x : Node) → values p file r o d ≡ got x e → x .rule ≡ r
   rule-kept r d e none x h = clash (cc)
   rule-kept r d e (some u) x h =
-      cut-got (many (term s (slots (p .functions))) (length (u .sorts)) d) _ h (λ vs c hv h.
+      cut-got (many (term file (tagArities (p .functions))) (length (u .sorts)) d) _ h (λ vs c hv h.
       let a : node-of r vs ≡ x = cc in
       sym (ap (λ (y : Node). y .rule) a))
 
-  pub node-from : (place r d : ℕ) (x : Node) → readNumber s place ≡ got r d → Here (node p s) x place → (e : ℕ) × NodeFrom p s r d x e
+  pub node-from : (place r d : ℕ) (x : Node) → readNumber file place ≡ got r d → Here (node p file) x place → (e : ℕ) × NodeFrom p file r d x e
   unfolding node
   node-from place r d x h k =
-      let q : values p s r (ruleOf p r) d ≡ got x (k .next) = sym (ap (λ (o : Read ℕ). andThen o (λ r e. values p s r (ruleOf p r) e)) h) ∙ k .reads in
+      let q : values p file r (ruleOf p r) d ≡ got x (k .next) = sym (ap (λ (o : Read ℕ). andThen o (λ r e. values p file r (ruleOf p r) e)) h) ∙ k .reads in
       (k .next, record { is-number = rule-kept r d (k .next) (ruleOf p r) x q; reads = q })
 
-  pub no-node-from : {C : Type 0} (place : ℕ) (x : Node) → readNumber s place ≡ fault → Here (node p s) x place → C
+  pub no-node-from : {C : Type 0} (place : ℕ) (x : Node) → readNumber file place ≡ fault → Here (node p file) x place → C
   unfolding node
   no-node-from place x h k =
-      let q : fault ≡ got x (k .next) = sym (ap (λ (o : Read ℕ). andThen o (λ r e. values p s r (ruleOf p r) e)) h) ∙ k .reads in
+      let q : fault ≡ got x (k .next) = sym (ap (λ (o : Read ℕ). andThen o (λ r e. values p file r (ruleOf p r) e)) h) ∙ k .reads in
       clash (cc)
 
 -- the rule of such a node stands at a place of src, and its values behind its number
-pub record SomeFrom (protocol table rules : List ℕ) (nr : ℕ) (s : List ℕ) (number at : ℕ) : Type 0 where
+pub record SomeFrom (protocol table rules : List ℕ) (nr : ℕ) (file : List ℕ) (number at : ℕ) : Type 0 where
   pub of : Protocol
   pub index : IndexOf protocol table rules nr of
   pub its : Node
   pub end : ℕ
-  pub is : NodeFrom of s number at its end
-  pub short : length s ≤ longest
+  pub is : NodeFrom of file number at its end
+  pub short : length file ≤ longest
 
-module _ {protocol table rules : List ℕ} {nr : ℕ} {p : Protocol} (i : IndexOf protocol table rules nr p) (s : List ℕ) (short : length s ≤ longest)
-    (number at : ℕ) (x : Node) (e : ℕ) (from : NodeFrom p s number at x e) (u : Rule) (is : ruleOf p number ≡ some u) where
-  behind-values : many (term s (slots (p .functions))) (length (u .sorts)) at ≡ got (x .values) e
+module _ {protocol table rules : List ℕ} {nr : ℕ} {p : Protocol} (i : IndexOf protocol table rules nr p) (file : List ℕ) (short : length file ≤ longest)
+    (number at : ℕ) (x : Node) (e : ℕ) (from : NodeFrom p file number at x e) (u : Rule) (is : ruleOf p number ≡ some u) where
+  behind-values : many (term file (tagArities (p .functions))) (length (u .sorts)) at ≡ got (x .values) e
   behind-values =
-      cut-got (many (term s (slots (p .functions))) (length (u .sorts)) at) _
-      (sym (ap (λ (o : Option Rule). values p s number o at) is) ∙ from .reads)
+      cut-got (many (term file (tagArities (p .functions))) (length (u .sorts)) at) _
+      (sym (ap (λ (o : Option Rule). values p file number o at) is) ∙ from .reads)
       (λ vs c hv h.
       let a : node-of number vs ≡ x = cc in
       let b : c ≡ e = cc in
       hv ∙ ap₂ got (ap (λ (y : Node). y .values) a) b)
 
-  pub rule-here : (src ars : List ℕ) (place : ℕ) → Here (rule src table ars) u place → RuleHere table s src place at u (x .values) e
+  pub rule-here : (src ars : List ℕ) (place : ℕ) → Here (rule src table ars) u place → RuleHere table file src place at u (x .values) e
   rule-here src ars place h = record {
     builtins = subst Builtins (sym (index-slots i)) (declared (p .functions));
     ars = ars;
     here = h;
     few = rule-within p (index-within i) number u is .laid .few;
-    reads = ap (λ (l : List ℕ). many (term s l) (length (u .sorts)) at) (index-slots i) ∙ behind-values;
+    reads = ap (λ (l : List ℕ). many (term file l) (length (u .sorts)) at) (index-slots i) ∙ behind-values;
     short = short;
   }
 
@@ -194,9 +194,9 @@ module _ {protocol table rules : List ℕ} {nr : ℕ} {p : Protocol} (i : IndexO
 
 -- it has a rule
 pub from-rule :
-    (p : Protocol) (s : List ℕ) (number at : ℕ) (x : Node) (e : ℕ) → NodeFrom p s number at x e → (u : Rule) × (ruleOf p number ≡ some u)
-from-rule p s number at x e from = go (ruleOf p number) refl (from .reads)
+    (p : Protocol) (file : List ℕ) (number at : ℕ) (x : Node) (e : ℕ) → NodeFrom p file number at x e → (u : Rule) × (ruleOf p number ≡ some u)
+from-rule p file number at x e from = go (ruleOf p number) refl (from .reads)
   where
-    go : (o : Option Rule) → ruleOf p number ≡ o → values p s number o at ≡ got x e → (u : Rule) × (ruleOf p number ≡ some u)
+    go : (o : Option Rule) → ruleOf p number ≡ o → values p file number o at ≡ got x e → (u : Rule) × (ruleOf p number ≡ some u)
     go none h q = clash (cc)
     go (some u) h q = (u, h)

@@ -58,69 +58,69 @@ abbrev pub noTerm : Term
 noTerm = leaf variable 0
 
 -- ── a fact at a place ──
-pub record SomeFact (table ars s : List ℕ) (place : ℕ) : Type 0 where
+pub record SomeFact (table ars file : List ℕ) (place : ℕ) : Type 0 where
   pub its : Fact
-  pub here : Here (fact s table ars) its place
+  pub here : Here (fact file table ars) its place
 
-module _ (s table ars : List ℕ) (bytes : Bytes s) (place : ℕ) (f : Fact) (h : Here (fact s table ars) f place) where
-  pub symbol-inside : valueOf (below s (length ars) place) < length ars
+module _ (file table ars : List ℕ) (bytes : Bytes file) (place : ℕ) (f : Fact) (h : Here (fact file table ars) f place) where
+  pub symbol-inside : valueOf (below file (length ars) place) < length ars
   symbol-inside =
-      let b = below-inside s (length ars) place bytes (f .symbol) _ (fact-fields s table ars place f h .symbol) in
-      omega (arith, b .small, symbol-law s table ars place f h)
+      let b = below-inside file (length ars) place bytes (f .symbol) _ (fact-fields file table ars place f h .symbol) in
+      omega (arith, b .small, symbol-law file table ars place f h)
 
-  pub terms-many : (y : ℕ) → y ≡ valueOf (below s (length ars) place) → getD ars y 0 ≡ length (f .terms)
+  pub terms-many : (y : ℕ) → y ≡ valueOf (below file (length ars) place) → getD ars y 0 ≡ length (f .terms)
   terms-many y e =
-      ap (λ (k : ℕ). getD ars k 0) (e ∙ symbol-law s table ars place f h) ∙ sym (terms-law s table ars place f h)
+      ap (λ (k : ℕ). getD ars k 0) (e ∙ symbol-law file table ars place f h) ∙ sym (terms-law file table ars place f h)
 
-  plain-term : (at e : ℕ) (t : Term) → ruleTerm s table at ≡ got t e → term s table at ≡ got t e
+  plain-term : (at e : ℕ) (t : Term) → ruleTerm file table at ≡ got t e → term file table at ≡ got t e
   unfolding ruleTerm
   plain-term at e t q =
-      cut-got (term s table at) _ q (λ u d hu q. cut _ _ _ (ltb (symbols u) 65) q
+      cut-got (term file table at) _ q (λ u d hu q. cut _ _ _ (ltb (symbols u) 65) q
       (λ z q. let a : u ≡ t = cc in let b : d ≡ e = cc in hu ∙ ap₂ got a b)
       (λ z q. clash (cc)))
 
-  pub term-there : (j i : ℕ) → j < length (f .terms) → i ≡ termPlace s table ars place j → (e : ℕ) × (term s table i ≡ got (getD (f .terms) j noTerm) e)
+  pub term-there : (j i : ℕ) → j < length (f .terms) → i ≡ termPlace file table ars place j → (e : ℕ) × (term file table i ≡ got (getD (f .terms) j noTerm) e)
   term-there j i l e =
-      let x = term-law s table ars place f h noTerm j l in
-      (x .next, ap (term s table) e ∙ plain-term (termPlace s table ars place j) (x .next) (getD (f .terms) j noTerm) (x .reads))
+      let x = term-law file table ars place f h noTerm j l in
+      (x .next, ap (term file table) e ∙ plain-term (termPlace file table ars place j) (x .next) (getD (f .terms) j noTerm) (x .reads))
 
 -- ── a list of facts at a place, and a rule ──
 abbrev pub listSmall : (ℕ → ℕ) → List Fact → Bool
 listSmall w fs = allBy (factSmall w) fs
 
 abbrev pub ruleSmall : (ℕ → ℕ) → Rule → Bool
-ruleSmall w u = allBy (listSmall w) (u .parts)
+ruleSmall w u = allBy (listSmall w) (u .lists)
 
-pub record SomeList (table ars s : List ℕ) (place : ℕ) : Type 0 where
+pub record SomeList (table ars file : List ℕ) (place : ℕ) : Type 0 where
   pub its : List Fact
-  pub here : Here (facts s table ars) its place
+  pub here : Here (facts file table ars) its place
 
-pub record RuleAt (table ars s : List ℕ) (place : ℕ) : Type 0 where
+pub record RuleAt (table ars file : List ℕ) (place : ℕ) : Type 0 where
   pub its : Rule
-  pub here : Here (rule s table ars) its place
+  pub here : Here (rule file table ars) its place
 
-module _ (s table ars : List ℕ) (place : ℕ) (fs : List Fact) (h : Here (facts s table ars) fs place) where
-  pub facts-many : valueOf (below s 9 place) ≡ length fs
-  facts-many = count-law s table ars place fs h
+module _ (file table ars : List ℕ) (place : ℕ) (fs : List Fact) (h : Here (facts file table ars) fs place) where
+  pub facts-many : valueOf (below file 9 place) ≡ length fs
+  facts-many = count-law file table ars place fs h
 
-  pub fact-there : (i at : ℕ) → i < length fs → at ≡ factPlace s table ars place i → Here (fact s table ars) (getD fs i noFact) at
+  pub fact-there : (i at : ℕ) → i < length fs → at ≡ factPlace file table ars place i → Here (fact file table ars) (getD fs i noFact) at
   fact-there i at l e =
-      let x = fact-law s table ars place fs h i l in
-      record { next = x .next; reads = ap (fact s table ars) e ∙ x .reads }
+      let x = fact-law file table ars place fs h i l in
+      record { next = x .next; reads = ap (fact file table ars) e ∙ x .reads }
 
-module _ (s table ars : List ℕ) (place : ℕ) (u : Rule) (h : Here (rule s table ars) u place) where
-  laid : Here (layout s table ars) u place
-  laid = rule-layout s table ars place u h
+module _ (file table ars : List ℕ) (place : ℕ) (u : Rule) (h : Here (rule file table ars) u place) where
+  laid : Here (layout file table ars) u place
+  laid = rule-layout file table ars place u h
 
-  pub lists-many : length (u .parts) ≡ 3
+  pub lists-many : length (u .lists) ≡ 3
   lists-many =
-      let x = rule-parts s table ars place u laid in
-      many-length (facts s table ars) 3 (x .behind) (laid .next) (u .parts) (x .parts)
+      let x = rule-parts file table ars place u laid in
+      many-length (facts file table ars) 3 (x .behind) (laid .next) (u .lists) (x .lists)
 
-  pub list-there : (w at : ℕ) → w < 3 → at ≡ listPlace s table ars place w → Here (facts s table ars) (getD (u .parts) w []) at
+  pub list-there : (w at : ℕ) → w < 3 → at ≡ listPlace file table ars place w → Here (facts file table ars) (getD (u .lists) w []) at
   list-there w at l e =
-      let x = list-law s table ars place u laid w l in
-      record { next = x .next; reads = ap (facts s table ars) e ∙ x .reads }
+      let x = list-law file table ars place u laid w l in
+      record { next = x .next; reads = ap (facts file table ars) e ∙ x .reads }
 
 -- ── with the sizes of the values it is the test of cause 8 ──
 all-same : {A : Type 0} (f g : A → Bool) → ((x : A) → f x ≡ g x) → (xs : List A) → allBy f xs ≡ allBy g xs
@@ -140,7 +140,7 @@ mutual
 
 pub rule-weighed : (w : ℕ → ℕ) (vs : List Term) → ((n : ℕ) → w n ≡ symbols (valueAt vs n)) → (u : Rule) → ruleSmall w u ≡ ruleOk vs u
 rule-weighed w vs h u =
-    all-same (listSmall w) (allBy (factOk vs)) (λ fs. all-same (factSmall w) (factOk vs) (λ f. all-same (termSmall w) (termOk vs) one (f .terms)) fs) (u .parts)
+    all-same (listSmall w) (allBy (factOk vs)) (λ fs. all-same (factSmall w) (factOk vs) (λ f. all-same (termSmall w) (termOk vs) one (f .terms)) fs) (u .lists)
   where
     one : (t : Term) → termSmall w t ≡ termOk vs t
     one t = ap (λ (n : ℕ). ltb n (suc mostFilledIn)) (weigh-same w (λ n. symbols (valueAt vs n)) h t ∙ weigh-filled (valueAt vs) t)

@@ -7,10 +7,10 @@ use mathlib.Core.Option.{Option, none, some, Option·some-injective}
 use mathlib.Core.Path.{_≡_, refl, ap, sym, _∙_, subst}
 use native.Mathlib.Omega.{arith}
 use lib.ListN.{getElem?}
+use Rattle.term.specs.Arity.{tagArities}
 use Rattle.lists.specs.Choice.{by-size}
 use Rattle.lists.specs.All.{All}
 use Rattle.term.specs.Term.{Term}
-use Rattle.term.specs.Arity.{slots}
 use Rattle.term.specs.Reader.Exact.{Good}
 use Rattle.lists.specs.Tests.{by-bool, true-false, not-true}
 use Rattle.lists.specs.Lists.{nth}
@@ -32,7 +32,7 @@ cut-rule q (some u) h k = k u refl h
 
 module _ (p : Protocol) (xs : List Node) where
   abbrev slots-of : List ℕ
-  slots-of = slots (p .functions)
+  slots-of = tagArities (p .functions)
 
   -- ── 8 ──
   pub fails-long : (k : ℕ) → Fails (λ j x. nodeTermsOk p x) xs k → TermLong p xs k

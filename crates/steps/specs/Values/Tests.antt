@@ -53,7 +53,7 @@ abbrev pub factOk : List Term → Fact → Bool
 factOk vs f = allBy (termOk vs) (f .terms)
 
 abbrev pub ruleOk : List Term → Rule → Bool
-ruleOk vs u = allBy (allBy (factOk vs)) (u .parts)
+ruleOk vs u = allBy (allBy (factOk vs)) (u .lists)
 
 -- of the rule, where there is one
 abbrev pub ofRule : (Rule → Bool) → Option Rule → Bool

@@ -83,16 +83,16 @@ abbrev pub sizeIn : List ℕ → ℕ → ℕ
 sizeIn sizes v = getD sizes v 1
 
 -- ── a walk: what was added up and what is left make the whole ──
-module _ (s slots : List ℕ) (w : ℕ → ℕ) (t : Term) where
+module _ (file arities : List ℕ) (w : ℕ → ℕ) (t : Term) where
   pub record Going (sum pending i : ℕ) : Type 0 where
     pub rest : List Term
     pub end : ℕ
-    pub reads : many (term s slots) pending i ≡ got rest end
+    pub reads : many (term file arities) pending i ≡ got rest end
     pub adds : sum + total w rest ≡ weigh w t
 
-  pub going-starts : (at e : ℕ) → term s slots at ≡ got t e → Going 0 1 at
+  pub going-starts : (at e : ℕ) → term file arities at ≡ got t e → Going 0 1 at
   unfolding many
-  going-starts at e h = record { rest = t ∷ []; end = e; reads = then-got (term s slots at) _ h; adds = omega arith }
+  going-starts at e h = record { rest = t ∷ []; end = e; reads = then-got (term file arities at) _ h; adds = omega arith }
 
   pub going-ends : (sum i : ℕ) → Going sum 0 i → sum ≡ weigh w t
   unfolding many
@@ -104,44 +104,48 @@ module _ (s slots : List ℕ) (w : ℕ → ℕ) (t : Term) where
 
   pub record Stepped (sum pending i a k e : ℕ) : Type 0 where
     pub ahead : i < e
-    pub inside : e ≤ length s
+    pub inside : e ≤ length file
     pub going : Going (sum + a) (pending - 1 + k) e
 
-module _ (s slots : List ℕ) (bytes : Bytes s) (w : ℕ → ℕ) (t : Term) where
-  pub going-fault : {C : Type 0} (sum pending i : ℕ) → 0 < pending → Going s slots w t sum pending i → weightOf w (symbolAt s slots i) ≡ wt.Fault → C
+module _ (file arities : List ℕ) (bytes : Bytes file) (w : ℕ → ℕ) (t : Term) where
+  pub going-fault : {C : Type 0} (sum pending i : ℕ) → 0 < pending → Going file arities w t sum pending i → weightOf w (symbolAt file arities i) ≡ wt.Fault → C
   unfolding many
   going-fault sum zero i l g h = absurd (omega arith)
   going-fault sum (suc n) i l g h =
-      cut-got (term s slots i) _ (g .reads) (λ u d hu q. go (symbolAt s slots i) refl (sym (term-build s slots bytes i) ∙ hu) h)
+      cut-got (term file arities i) _ (g .reads) (λ u d hu q. go (symbolAt file arities i) refl (sym (term-build file arities bytes i) ∙ hu) h)
     where
-      go : {C : Type 0} {u : Term} {d : ℕ} (y : Symbol) → symbolAt s slots i ≡ y → build (term s slots) (symbolAt s slots i) ≡ got u d → weightOf w
-          (symbolAt s slots i) ≡ wt.Fault → C
+      go : {C : Type 0} {u : Term} {d : ℕ} (y : Symbol) → symbolAt file arities i ≡ y → build (term file arities) (symbolAt file arities i) ≡ got u d →
+          weightOf w
+          (symbolAt file arities i) ≡ wt.Fault → C
       go (sy.Leaf f m b) y hu h = let q : wt.Takes (leafWeight w (kindOf f) m) 0 b ≡ wt.Fault = sym (ap (weightOf w) y) ∙ h in clash (cc)
       go (sy.Op f m b) y hu h = let q : wt.Takes 1 m b ≡ wt.Fault = sym (ap (weightOf w) y) ∙ h in clash (cc)
-      go {C} {u} {d} sy.Fault y hu h = let q : fault ≡ got u d = sym (ap (build (term s slots)) y) ∙ hu in clash (cc)
+      go {C} {u} {d} sy.Fault y hu h = let q : fault ≡ got u d = sym (ap (build (term file arities)) y) ∙ hu in clash (cc)
 
-  pub going-more : (sum pending i a k e : ℕ) → 0 < pending → Going s slots w t sum pending i → weightOf w (symbolAt s slots i) ≡ wt.Takes a k e → Stepped s
-      slots w t sum pending i a k e
+  pub going-more : (sum pending i a k e : ℕ) → 0 < pending → Going file arities w t sum pending i → weightOf w (symbolAt file arities i) ≡ wt.Takes a k e →
+      Stepped file
+      arities w t sum pending i a k e
   unfolding many
   going-more sum zero i a k e l g h = absurd (omega arith)
   going-more sum (suc n) i a k e l g h =
-      cut-got (term s slots i) _ (g .reads) (λ u d hu q. cut-got (many (term s slots) n d) _ q (λ us c hus q.
+      cut-got (term file arities i) _ (g .reads) (λ u d hu q. cut-got (many (term file arities) n d) _ q (λ us c hus q.
       let r : u ∷ us ≡ g .rest = cc in
       let z : sum + (weigh w u + total w us) ≡ weigh w t = ap (λ (l : List Term). sum + total w l) r ∙ g .adds in
-      go (symbolAt s slots i) refl u d us c (sym (term-build s slots bytes i) ∙ hu) hus z h))
+      go (symbolAt file arities i) refl u d us c (sym (term-build file arities bytes i) ∙ hu) hus z h))
     where
-      go : (y : Symbol) → symbolAt s slots i ≡ y → (u : Term) (d : ℕ) (us : List Term) (c : ℕ) → build (term s slots) (symbolAt s slots i) ≡ got u d
-          → many (term s slots) n d ≡ got us c → sum + (weigh w u + total w us) ≡ weigh w t → weightOf w (symbolAt s slots i) ≡ wt.Takes a k e → Stepped s
-          slots w t sum (suc n) i a k e
+      go : (y : Symbol) → symbolAt file arities i ≡ y → (u : Term) (d : ℕ) (us : List Term) (c : ℕ) → build (term file arities) (symbolAt file arities i) ≡ got
+          u d
+          → many (term file arities) n d ≡ got us c → sum + (weigh w u + total w us) ≡ weigh w t → weightOf w (symbolAt file arities i) ≡ wt.Takes a k e →
+          Stepped file
+          arities w t sum (suc n) i a k e
       go (sy.Leaf f m b) y u d us c hu hus z h =
-          let p : got (leaf (kindOf f) m) b ≡ got u d = sym (ap (build (term s slots)) y) ∙ hu in
+          let p : got (leaf (kindOf f) m) b ≡ got u d = sym (ap (build (term file arities)) y) ∙ hu in
           let q : wt.Takes (leafWeight w (kindOf f) m) 0 b ≡ wt.Takes a k e = sym (ap (weightOf w) y) ∙ h in
           let pu : leaf (kindOf f) m ≡ u = cc in
           let pd : b ≡ d = cc in
           let qa : leafWeight w (kindOf f) m ≡ a = cc in
           let qk : 0 ≡ k = cc in
           let qe : b ≡ e = cc in
-          let x = leaf-ahead s slots bytes i f m b y in
+          let x = leaf-ahead file arities bytes i f m b y in
           let j : suc n - 1 + k ≡ n = omega arith in
           let de : e ≡ d = sym qe ∙ pd in
           record {
@@ -150,19 +154,19 @@ module _ (s slots : List ℕ) (bytes : Bytes s) (w : ℕ → ℕ) (t : Term) whe
             going = record {
               rest = us;
               end = c;
-              reads = ap₂ (λ (o b : ℕ). many (term s slots) o b) j de ∙ hus;
+              reads = ap₂ (λ (o b : ℕ). many (term file arities) o b) j de ∙ hus;
               adds = omega (arith, ap (weigh w) pu);
             };
           }
       go (sy.Op f m b) y u d us c hu hus z h =
-          cut-got (many (term s slots) m b) _ (sym (ap (build (term s slots)) y) ∙ hu) (λ vs o hvs p.
+          cut-got (many (term file arities) m b) _ (sym (ap (build (term file arities)) y) ∙ hu) (λ vs o hvs p.
           let q : wt.Takes 1 m b ≡ wt.Takes a k e = sym (ap (weightOf w) y) ∙ h in
           let pu : app f (terms vs) ≡ u = cc in
           let pd : o ≡ d = cc in
           let qa : 1 ≡ a = cc in
           let qk : m ≡ k = cc in
           let qe : b ≡ e = cc in
-          let x = op-ahead s slots bytes i f m b y in
+          let x = op-ahead file arities bytes i f m b y in
           let j : suc n - 1 + k ≡ n + m = omega arith in
           record {
             ahead = omega (arith, x .after);
@@ -171,9 +175,9 @@ module _ (s slots : List ℕ) (bytes : Bytes s) (w : ℕ → ℕ) (t : Term) whe
               rest = vs ++ us;
               end = c;
               reads =
-                  ap₂ (λ (o b : ℕ). many (term s slots) o b) j (sym qe) ∙ many-split (term s slots) n m (n + m) b refl
-                  ∙ then-got (many (term s slots) m b) _ hvs
-                  ∙ then-got (many (term s slots) n o) _ (ap (many (term s slots) n) pd ∙ hus);
+                  ap₂ (λ (o b : ℕ). many (term file arities) o b) j (sym qe) ∙ many-split (term file arities) n m (n + m) b refl
+                  ∙ then-got (many (term file arities) m b) _ hvs
+                  ∙ then-got (many (term file arities) n o) _ (ap (many (term file arities) n) pd ∙ hus);
               adds = omega (arith, ap (weigh w) pu, total-terms w vs, total-append w vs us);
             };
           })
@@ -201,7 +205,7 @@ module _ (sizes : List ℕ) (n : ℕ) where
   leaf-other (suc (suc t)) h = refl
 
 -- ── what is asked ──
-pub record SomeTerm (slots s : List ℕ) (at : ℕ) : Type 0 where
+pub record SomeTerm (arities file : List ℕ) (at : ℕ) : Type 0 where
   pub its : Term
   pub end : ℕ
-  pub reads : term s slots at ≡ got its end
+  pub reads : term file arities at ≡ got its end

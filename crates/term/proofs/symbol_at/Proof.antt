@@ -23,7 +23,7 @@ returns c =
     let c3 = c .before .before .before in
     let c5 = c3 .before .before in
     let c8 = c5 .before .before .before in
-    c .leaf-at .ensures ∙ sym (symbol-leaf (now (c8 .args .s)) (now (c8 .args .arities)) (c8 .args .at)
+    c .leaf-at .ensures ∙ sym (symbol-leaf (now (c8 .args .file)) (now (c8 .args .arities)) (c8 .args .at)
     (sym (c5 .read-number .ensures) ∙ ap asRead (c3 .t .given .1)) (c .before .if1 .taken))
 
 op-at-requires : tie.Need-op-at-requires
@@ -37,13 +37,13 @@ returns-2 c =
     let c3 = c .before .before .before in
     let c5 = c3 .before .before in
     let c8 = c5 .before .before .before in
-    c .op-at .ensures ∙ sym (symbol-op (now (c8 .args .s)) (now (c8 .args .arities)) (c8 .args .at)
+    c .op-at .ensures ∙ sym (symbol-op (now (c8 .args .file)) (now (c8 .args .arities)) (c8 .args .at)
     (sym (c5 .read-number .ensures) ∙ ap asRead (c3 .t .given .1)) (c .before .if1 .left))
 
 returns-3 : tie.Need-returns-3
 returns-3 c =
     let c5 = c .before .before .before .before .before in
-    sym (symbol-none (now (c5 .args .s)) (now (c5 .args .arities)) (c5 .args .at)
+    sym (symbol-none (now (c5 .args .file)) (now (c5 .args .arities)) (c5 .args .at)
     (sym (c .before .before .read-number .ensures) ∙ ap asRead (c .enum-told .given .1)))
 
 pub symbol-at-spec : {M : Type 1} → statement M

@@ -12,7 +12,7 @@ terms-end-requires c κs = search needs
 returns : tie.Need-returns
 returns c =
     let c3 = c .before .before .before in
-    c .terms-end .ensures ∙ endeds-one (term (now (c3 .args .s)) (now (c3 .args .arities))) (c3 .args .at)
+    c .terms-end .ensures ∙ endeds-one (term (now (c3 .args .file)) (now (c3 .args .arities))) (c3 .args .at)
 
 pub term-end-spec : {M : Type 1} → statement M
 term-end-spec = tie.close (tie.spec terms-end-requires returns)

@@ -17,7 +17,7 @@ sub-result c =
     let c3 = c .before .before .before in
     let c5 = c3 .before .before in
     let c6 = c5 .before in
-    let w = end-within (now (c6 .args .s)) (now (c6 .args .arities)) (λ i. c5 .shared-slice-known .given i .fits) (c6 .args .at) _ _
+    let w = end-within (now (c6 .args .file)) (now (c6 .args .arities)) (λ i. c5 .shared-slice-known .given i .fits) (c6 .args .at) _ _
     (sym (c3 .term-end .ensures) ∙ c .before .e .given .1) in
     omega arith
 
@@ -26,7 +26,7 @@ part-result-start c =
     let c3 = c .before .before .before in
     let c5 = c3 .before .before in
     let c6 = c5 .before in
-    let w = end-within (now (c6 .args .s)) (now (c6 .args .arities)) (λ i. c5 .shared-slice-known .given i .fits) (c6 .args .at) _ _
+    let w = end-within (now (c6 .args .file)) (now (c6 .args .arities)) (λ i. c5 .shared-slice-known .given i .fits) (c6 .args .at) _ _
     (sym (c3 .term-end .ensures) ∙ c .before .e .given .1) in
     omega arith
 
@@ -35,7 +35,7 @@ part-result-end c =
     let c3 = c .before .before .before in
     let c5 = c3 .before .before in
     let c6 = c5 .before in
-    let w = end-within (now (c6 .args .s)) (now (c6 .args .arities)) (λ i. c5 .shared-slice-known .given i .fits) (c6 .args .at) _ _
+    let w = end-within (now (c6 .args .file)) (now (c6 .args .arities)) (λ i. c5 .shared-slice-known .given i .fits) (c6 .args .at) _ _
     (sym (c3 .term-end .ensures) ∙ c .before .e .given .1) in
     omega arith
 
@@ -50,7 +50,7 @@ returns c =
     let c4 = c .before .before .before .before in
     let c6 = c4 .before .before in
     let c7 = c6 .before in
-    part-bytes (now (c7 .args .s)) (now (c7 .args .arities)) (λ i. c6 .shared-slice-known .given i .fits) (c7 .args .at) _ _
+    part-bytes (now (c7 .args .file)) (now (c7 .args .arities)) (λ i. c6 .shared-slice-known .given i .fits) (c7 .args .at) _ _
     (sym (c4 .term-end .ensures) ∙ c .before .before .e .given .1)
 
 returns-2 : tie.Need-returns-2
@@ -58,7 +58,7 @@ returns-2 c =
     let c3 = c .before .before .before in
     let c5 = c3 .before .before in
     let c6 = c5 .before in
-    none-bytes (now (c6 .args .s)) (now (c6 .args .arities)) (λ i. c5 .shared-slice-known .given i .fits) (c6 .args .at)
+    none-bytes (now (c6 .args .file)) (now (c6 .args .arities)) (λ i. c5 .shared-slice-known .given i .fits) (c6 .args .at)
     (sym (c3 .term-end .ensures) ∙ c .before .enum-told .given .1)
 
 pub term-part-spec : {M : Type 1} → statement M

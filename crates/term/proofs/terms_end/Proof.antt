@@ -21,13 +21,13 @@ returns c =
     let c3 = c .before .before .before in
     let c6 = c3 .before .before .before in
     let a = c6 .args in
-    ap partOf (sym (c .before .e .given .1) ∙ c3 .walk-terms .ensures) ∙ walks-part 0 0 0 (many (term (now (a .s)) (now (a .arities))) (a .k) (a .at))
+    ap partOf (sym (c .before .e .given .1) ∙ c3 .walk-terms .ensures) ∙ walks-part 0 0 0 (many (term (now (a .file)) (now (a .arities))) (a .k) (a .at))
 
 returns-2 : tie.Need-returns-2
 returns-2 c =
     let a = c .before .before .before .before .before .args in
     ap partOf (sym (c .enum-told .given .1) ∙ c .before .before .walk-terms .ensures) ∙ walks-part 0 0 0
-    (many (term (now (a .s)) (now (a .arities))) (a .k) (a .at))
+    (many (term (now (a .file)) (now (a .arities))) (a .k) (a .at))
 
 pub terms-end-spec : {M : Type 1} → statement M
 terms-end-spec = tie.close (tie.spec walk-terms-requires enum-known-e enum-told returns returns-2)

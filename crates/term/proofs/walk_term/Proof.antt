@@ -12,7 +12,7 @@ walk-terms-requires c κs = search needs
 returns : tie.Need-returns
 returns c =
     let c3 = c .before .before .before in
-    c .walk-terms .ensures ∙ walks-one (c3 .args .kind) (c3 .args .lo) (c3 .args .hi) (term (now (c3 .args .s)) (now (c3 .args .arities))) (c3 .args .at)
+    c .walk-terms .ensures ∙ walks-one (c3 .args .kind) (c3 .args .lo) (c3 .args .hi) (term (now (c3 .args .file)) (now (c3 .args .arities))) (c3 .args .at)
 
 pub walk-term-spec : {M : Type 1} → statement M
 walk-term-spec = tie.close (tie.spec walk-terms-requires returns)

@@ -12,13 +12,13 @@ use Rattle.term.proofs.walk_terms.Statement.{statement}
 use Rattle.term.proofs.walk_terms.Tie as tie
 
 abbrev Inv-loop : tie.InvT-loop
-Inv-loop s arities at k kind lo hi i₀ pending₀ count₀ found₀ i pending count found =
-    (count ≤ length s) × (count ≤ i) × (pending ≤ 255 * count + k) × (tally kind lo hi count found (many (term s arities) pending i) ≡ walks kind lo hi
-    (many (term s arities) k at))
+Inv-loop file arities at k kind lo hi i₀ pending₀ count₀ found₀ i pending count found =
+    (count ≤ length file) × (count ≤ i) × (pending ≤ 255 * count + k) × (tally kind lo hi count found (many (term file arities) pending i) ≡ walks kind lo hi
+    (many (term file arities) k at))
 
 abbrev μ-loop : tie.MeasureT-loop
-μ-loop s arities at k kind lo hi i₀ pending₀ count₀ found₀ i pending count found =
-    length s - count
+μ-loop file arities at k kind lo hi i₀ pending₀ count₀ found₀ i pending count found =
+    length file - count
 
 loop-holds : tie.Need-loop-holds Inv-loop μ-loop
 loop-holds c = (
@@ -26,7 +26,7 @@ loop-holds c = (
   search needs,
   search needs,
   tally-begins (c .before .before .args .kind) (c .before .before .args .lo) (c .before .before .args .hi)
-      (many (term (now (c .before .before .args .s)) (now (c .before .before .args .arities))) (c .before .before .args .k) (c .before .before .args .at)),
+      (many (term (now (c .before .before .args .file)) (now (c .before .before .args .arities))) (c .before .before .args .k) (c .before .before .args .at)),
 )
 
 one-symbol-requires : tie.Need-one-symbol-requires Inv-loop μ-loop
@@ -46,7 +46,7 @@ add-pending c =
     let c3 = c .before .before .before in
     let c7 = c3 .before .before .before .before in
     let c8 = c7 .before in
-    let a = step-ahead (c8 .args .kind) (c8 .args .lo) (c8 .args .hi) (now (c8 .args .s)) (now (c8 .args .arities))
+    let a = step-ahead (c8 .args .kind) (c8 .args .lo) (c8 .args .hi) (now (c8 .args .file)) (now (c8 .args .arities))
     (λ i. c7 .shared-slice-known .given i .fits) _ _ _ _ (sym (c3 .one-symbol .ensures) ∙ c .before .n .given .1) in
     omega (arith, c .known-told .given .0)
 
@@ -55,7 +55,7 @@ add-count c =
     let c3 = c .before .before .before in
     let c7 = c3 .before .before .before .before in
     let c8 = c7 .before in
-    let a = step-ahead (c8 .args .kind) (c8 .args .lo) (c8 .args .hi) (now (c8 .args .s)) (now (c8 .args .arities))
+    let a = step-ahead (c8 .args .kind) (c8 .args .lo) (c8 .args .hi) (now (c8 .args .file)) (now (c8 .args .arities))
     (λ i. c7 .shared-slice-known .given i .fits) _ _ _ _ (sym (c3 .one-symbol .ensures) ∙ c .before .n .given .1) in
     omega arith
 
@@ -64,7 +64,7 @@ loop-less c =
     let c3 = c .before .before .before in
     let c7 = c3 .before .before .before .before in
     let c8 = c7 .before in
-    let a = step-ahead (c8 .args .kind) (c8 .args .lo) (c8 .args .hi) (now (c8 .args .s)) (now (c8 .args .arities))
+    let a = step-ahead (c8 .args .kind) (c8 .args .lo) (c8 .args .hi) (now (c8 .args .file)) (now (c8 .args .arities))
     (λ i. c7 .shared-slice-known .given i .fits) _ _ _ _ (sym (c3 .one-symbol .ensures) ∙ c .before .n .given .1) in
     omega arith
 
@@ -75,12 +75,12 @@ loop-again c =
     let c5 = c4 .before in
     let c7 = c5 .before .before in
     let c8 = c7 .before in
-    let a = step-ahead (c8 .args .kind) (c8 .args .lo) (c8 .args .hi) (now (c8 .args .s)) (now (c8 .args .arities))
+    let a = step-ahead (c8 .args .kind) (c8 .args .lo) (c8 .args .hi) (now (c8 .args .file)) (now (c8 .args .arities))
     (λ i. c7 .shared-slice-known .given i .fits) _ _ _ _ (sym (c3 .one-symbol .ensures) ∙ c .before .n .given .1) in (
       omega arith,
       omega arith,
       omega (arith, c .known-told .given .0),
-      walk-turn (c8 .args .kind) (c8 .args .lo) (c8 .args .hi) (now (c8 .args .s))
+      walk-turn (c8 .args .kind) (c8 .args .lo) (c8 .args .hi) (now (c8 .args .file))
           (now (c8 .args .arities)) (λ i. c7 .shared-slice-known .given i .fits) _ _ _ _ _ _ _ (c4 .loop-test .taken)
           (sym (c3 .one-symbol .ensures) ∙ c .before .n .given .1) ∙ c5 .loop .inv .3,
     )
@@ -94,14 +94,16 @@ returns c =
     let c4 = c3 .before in
     let c6 = c4 .before .before in
     let c7 = c6 .before in
-    sym (walk-fault (c7 .args .kind) (c7 .args .lo) (c7 .args .hi) (now (c7 .args .s)) (now (c7 .args .arities)) (λ i. c6 .shared-slice-known .given i .fits) _
+    sym (walk-fault (c7 .args .kind) (c7 .args .lo) (c7 .args .hi) (now (c7 .args .file)) (now (c7 .args .arities))
+    (λ i. c6 .shared-slice-known .given i .fits) _
     _ _ _ (c3 .loop-test .taken) (sym (c .before .before .one-symbol .ensures) ∙ c .enum-told .given .1)) ∙ c4 .loop .inv .3
 
 returns-2 : tie.Need-returns-2 Inv-loop μ-loop
 returns-2 c =
     let c3 = c .before .before .before in
     let c4 = c3 .before in
-    sym (walk-done (c4 .args .kind) (c4 .args .lo) (c4 .args .hi) (now (c4 .args .s)) (now (c4 .args .arities)) (λ i. c3 .shared-slice-known .given i .fits) _
+    sym (walk-done (c4 .args .kind) (c4 .args .lo) (c4 .args .hi) (now (c4 .args .file)) (now (c4 .args .arities)) (λ i. c3 .shared-slice-known .given i .fits)
+    _
     _ _ _ (c .loop-test .left)) ∙ c .before .loop .inv .3
 
 pub walk-terms-spec : {M : Type 1} → statement M

@@ -9,7 +9,7 @@ use lib.Seq.{getD-append-add}
 use lib.Dec.{ltb}
 use borrow.Author.Tests.{le-ltb, eq-eqb, ne-eqb}
 use Rattle.lists.specs.Choice.{cut-lt, pick-same, clash}
-use Rattle.term.specs.Arity.{undeclared, arity, builtin, padded, slots}
+use Rattle.term.specs.Arity.{undeclared, arity, builtin, padded, tagArities}
 
 -- a slot in the table, and past its end
 pub slot-inside : (l : List ℕ) (f : ℕ) → f < length l → getD l f 0 ≡ getD l f undeclared
@@ -44,10 +44,10 @@ padded-at (suc n) (a ∷ l) zero h = refl
 padded-at (suc n) (a ∷ l) (suc j) h = padded-at n l j (omega arith)
 
 -- "13+j free function j (j from 0)"
-pub slot-free : (free : List ℕ) (j : ℕ) → j < 16 → getD (slots free) (13 + j) undeclared ≡ getD free j undeclared
-unfolding slots
+pub slot-free : (free : List ℕ) (j : ℕ) → j < 16 → getD (tagArities free) (13 + j) undeclared ≡ getD free j undeclared
+unfolding tagArities
 slot-free free j h = getD-append-add builtin (padded 16 free) j undeclared ∙ padded-at 16 free j h
 
-pub slot-builtin : (free : List ℕ) (f : ℕ) → f < 13 → getD (slots free) f undeclared ≡ getD builtin f undeclared
-unfolding slots
+pub slot-builtin : (free : List ℕ) (f : ℕ) → f < 13 → getD (tagArities free) f undeclared ≡ getD builtin f undeclared
+unfolding tagArities
 slot-builtin free f h = List·getD-append builtin (padded 16 free) undeclared f h

@@ -20,33 +20,33 @@ use Rattle.term.specs.Arity.{arity}
 use Rattle.term.specs.Reader.{terms, nameAt, opAt, symbolOf, symbolAt, build, termIn, term}
 
 -- ── the symbol at a place, case by case ──
-module _ (s slots : List ℕ) (at : ℕ) where
-  pub symbol-leaf : {t e : ℕ} → readNumber s at ≡ got t e → t < 3 → symbolAt s slots at ≡ nameAt t (readNumber s e)
+module _ (file arities : List ℕ) (at : ℕ) where
+  pub symbol-leaf : {t e : ℕ} → readNumber file at ≡ got t e → t < 3 → symbolAt file arities at ≡ nameAt t (readNumber file e)
   unfolding symbolAt
-  symbol-leaf {t} {e} h l = ap (symbolOf s slots) h ∙ simp (lt-ltb t 3 l)
+  symbol-leaf {t} {e} h l = ap (symbolOf file arities) h ∙ simp (lt-ltb t 3 l)
 
-  pub symbol-op : {t e : ℕ} → readNumber s at ≡ got t e → 3 ≤ t → symbolAt s slots at ≡ opAt t (arity slots t) e
+  pub symbol-op : {t e : ℕ} → readNumber file at ≡ got t e → 3 ≤ t → symbolAt file arities at ≡ opAt t (arity arities t) e
   unfolding symbolAt
-  symbol-op {t} {e} h l = ap (symbolOf s slots) h ∙ simp (le-ltb t 3 l)
+  symbol-op {t} {e} h l = ap (symbolOf file arities) h ∙ simp (le-ltb t 3 l)
 
-  pub symbol-none : readNumber s at ≡ fault → symbolAt s slots at ≡ sy.Fault
+  pub symbol-none : readNumber file at ≡ fault → symbolAt file arities at ≡ sy.Fault
   unfolding symbolAt
-  symbol-none h = ap (symbolOf s slots) h
+  symbol-none h = ap (symbolOf file arities) h
 
   -- ── and back ──
   pub record LeafAt (t n e : ℕ) : Type 0 where
     pub middle : ℕ
-    pub tag : readNumber s at ≡ got t middle
+    pub tag : readNumber file at ≡ got t middle
     pub small : t < 3
-    pub number : readNumber s middle ≡ got n e
+    pub number : readNumber file middle ≡ got n e
 
   pub record OpAt (t k e : ℕ) : Type 0 where
-    pub tag : readNumber s at ≡ got t e
+    pub tag : readNumber file at ≡ got t e
     pub big : 3 ≤ t
-    pub takes : arity slots t ≡ some k
+    pub takes : arity arities t ≡ some k
 
   name-from :
-      (t n e d u : ℕ) → readNumber s at ≡ got t d → t < 3 → (r : Read ℕ) → readNumber s d ≡ r → nameAt t r ≡ sy.Leaf u n e
+      (t n e d u : ℕ) → readNumber file at ≡ got t d → t < 3 → (r : Read ℕ) → readNumber file d ≡ r → nameAt t r ≡ sy.Leaf u n e
       → LeafAt u n e
   name-from t n e d u h l (got m f) g k =
       let a : t ≡ u = cc in
@@ -63,80 +63,80 @@ module _ (s slots : List ℕ) (at : ℕ) where
   no-op t u n e f (some k) h = clash (cc)
   no-op t u n e f none h = clash (cc)
 
-  op-from : (t u k e f : ℕ) → readNumber s at ≡ got t f → 3 ≤ t → (o : Option ℕ) → arity slots t ≡ o → opAt t o f ≡ sy.Op u k e → OpAt u k e
+  op-from : (t u k e f : ℕ) → readNumber file at ≡ got t f → 3 ≤ t → (o : Option ℕ) → arity arities t ≡ o → opAt t o f ≡ sy.Op u k e → OpAt u k e
   op-from t u k e f h l (some j) g q =
       let a : t ≡ u = cc in
       let b : j ≡ k = cc in
       let c : f ≡ e = cc in
-      record { tag = h ∙ ap₂ got a c; big = omega arith; takes = ap (arity slots) (sym a) ∙ g ∙ ap some b }
+      record { tag = h ∙ ap₂ got a c; big = omega arith; takes = ap (arity arities) (sym a) ∙ g ∙ ap some b }
   op-from t u k e f h l none g q = clash (cc)
 
-  leaf-from : (t n e : ℕ) (r : Read ℕ) → readNumber s at ≡ r → symbolOf s slots r ≡ sy.Leaf t n e → LeafAt t n e
+  leaf-from : (t n e : ℕ) (r : Read ℕ) → readNumber file at ≡ r → symbolOf file arities r ≡ sy.Leaf t n e → LeafAt t n e
   leaf-from t n e (got u d) h g =
       cut-lt _ _ _ u 3 g
-      (λ l g. name-from u n e d t h l (readNumber s d) refl g)
-      (λ l g. no-op u t n e d (arity slots u) g)
+      (λ l g. name-from u n e d t h l (readNumber file d) refl g)
+      (λ l g. no-op u t n e d (arity arities u) g)
   leaf-from t n e fault h g = clash (cc)
 
-  ops-from : (t k e : ℕ) (r : Read ℕ) → readNumber s at ≡ r → symbolOf s slots r ≡ sy.Op t k e → OpAt t k e
+  ops-from : (t k e : ℕ) (r : Read ℕ) → readNumber file at ≡ r → symbolOf file arities r ≡ sy.Op t k e → OpAt t k e
   ops-from t k e (got u d) h g =
       cut-lt _ _ _ u 3 g
-      (λ l g. no-name u t k e (readNumber s d) g)
-      (λ l g. op-from u t k e d h l (arity slots u) refl g)
+      (λ l g. no-name u t k e (readNumber file d) g)
+      (λ l g. op-from u t k e d h l (arity arities u) refl g)
   ops-from t k e fault h g = clash (cc)
 
-  pub leaf-at : (t n e : ℕ) → symbolAt s slots at ≡ sy.Leaf t n e → LeafAt t n e
+  pub leaf-at : (t n e : ℕ) → symbolAt file arities at ≡ sy.Leaf t n e → LeafAt t n e
   unfolding symbolAt
-  leaf-at t n e h = leaf-from t n e (readNumber s at) refl h
+  leaf-at t n e h = leaf-from t n e (readNumber file at) refl h
 
-  pub op-at : (t k e : ℕ) → symbolAt s slots at ≡ sy.Op t k e → OpAt t k e
+  pub op-at : (t k e : ℕ) → symbolAt file arities at ≡ sy.Op t k e → OpAt t k e
   unfolding symbolAt
-  op-at t k e h = ops-from t k e (readNumber s at) refl h
+  op-at t k e h = ops-from t k e (readNumber file at) refl h
 
 -- ── a symbol is in the file ──
-pub record Ahead (s : List ℕ) (at e : ℕ) : Type 0 where
+pub record Ahead (file : List ℕ) (at e : ℕ) : Type 0 where
   pub after : at < e
-  pub within : e ≤ length s
+  pub within : e ≤ length file
 
-module _ (s slots : List ℕ) (bytes : Bytes s) where
-  number-ahead : (at v e : ℕ) → readNumber s at ≡ got v e → Ahead s at e
+module _ (file arities : List ℕ) (bytes : Bytes file) where
+  number-ahead : (at v e : ℕ) → readNumber file at ≡ got v e → Ahead file at e
   number-ahead at v e h =
-      let f = read-form s bytes at v e h in
+      let f = read-form file bytes at v e h in
       record { after = omega (arith, f .1 .ends, groups-some v); within = stands-within (f .1) (groups-some v) }
 
   module _ (at : ℕ) where
-    pub leaf-ahead : (t n e : ℕ) → symbolAt s slots at ≡ sy.Leaf t n e → Ahead s at e
+    pub leaf-ahead : (t n e : ℕ) → symbolAt file arities at ≡ sy.Leaf t n e → Ahead file at e
     leaf-ahead t n e h =
-        let l = leaf-at s slots at t n e h in
+        let l = leaf-at file arities at t n e h in
         let a = number-ahead at t (l .middle) (l .tag) in
         let b = number-ahead (l .middle) n e (l .number) in
         record { after = omega arith; within = b .within }
 
-    pub op-ahead : (t k e : ℕ) → symbolAt s slots at ≡ sy.Op t k e → Ahead s at e
-    op-ahead t k e h = number-ahead at t e (op-at s slots at t k e h .tag)
+    pub op-ahead : (t k e : ℕ) → symbolAt file arities at ≡ sy.Op t k e → Ahead file at e
+    op-ahead t k e h = number-ahead at t e (op-at file arities at t k e h .tag)
 
-    none-behind : length s ≤ at → (y : Symbol) → symbolAt s slots at ≡ y → y ≡ sy.Fault
+    none-behind : length file ≤ at → (y : Symbol) → symbolAt file arities at ≡ y → y ≡ sy.Fault
     none-behind l (sy.Leaf t n e) h = let a = leaf-ahead t n e h in absurd (omega arith)
     none-behind l (sy.Op t k e) h = let a = op-ahead t k e h in absurd (omega arith)
     none-behind l sy.Fault h = refl
 
-    symbol-behind : length s ≤ at → symbolAt s slots at ≡ sy.Fault
-    symbol-behind l = none-behind l (symbolAt s slots at) refl
+    symbol-behind : length file ≤ at → symbolAt file arities at ≡ sy.Fault
+    symbol-behind l = none-behind l (symbolAt file arities at) refl
 
   -- ── a term goes forward ──
   build-forward :
       (p : ℕ → Read Term) → ((at : ℕ) (x : Term) (e : ℕ) → p at ≡ got x e → at ≤ e)
-      → (at : ℕ) (x : Term) (e : ℕ) (y : Symbol) → symbolAt s slots at ≡ y → build p y ≡ got x e → at ≤ e
+      → (at : ℕ) (x : Term) (e : ℕ) (y : Symbol) → symbolAt file arities at ≡ y → build p y ≡ got x e → at ≤ e
   build-forward p fw at x e (sy.Leaf t n d) h g = let a : d ≡ e = cc in let b = leaf-ahead at t n d h in omega arith
   build-forward p fw at x e (sy.Op t k d) h g =
       cut-got (many p k d) _ g (λ ts f hm g′.
       let a : f ≡ e = cc in let b = op-ahead at t k d h in omega (arith, many-forward p fw k d ts f hm))
   build-forward p fw at x e sy.Fault h g = clash (cc)
 
-  term-forward : (depth at : ℕ) (x : Term) (e : ℕ) → termIn depth s slots at ≡ got x e → at ≤ e
+  term-forward : (depth at : ℕ) (x : Term) (e : ℕ) → termIn depth file arities at ≡ got x e → at ≤ e
   unfolding termIn
   term-forward zero at x e h = clash (cc)
-  term-forward (suc depth) at x e h = build-forward (termIn depth s slots) (term-forward depth) at x e (symbolAt s slots at) refl h
+  term-forward (suc depth) at x e h = build-forward (termIn depth file arities) (term-forward depth) at x e (symbolAt file arities at) refl h
 
   -- ── any depth that is enough gives the same ──
   build-same :
@@ -145,18 +145,18 @@ module _ (s slots : List ℕ) (bytes : Bytes s) where
   build-same p q (sy.Op t k e) h = ap (λ (r : Read (List Term)). andThen r (λ ts f. got (app t (terms ts)) f)) (h t k e refl)
   build-same p q sy.Fault h = refl
 
-  depth-enough : (d c at : ℕ) → length s ≤ d + at → length s ≤ c + at → termIn d s slots at ≡ termIn c s slots at
+  depth-enough : (d c at : ℕ) → length file ≤ d + at → length file ≤ c + at → termIn d file arities at ≡ termIn c file arities at
   unfolding termIn
   depth-enough zero zero at l m = refl
-  depth-enough zero (suc c) at l m = sym (ap (build (termIn c s slots)) (symbol-behind at (omega arith)))
-  depth-enough (suc d) zero at l m = ap (build (termIn d s slots)) (symbol-behind at (omega arith))
+  depth-enough zero (suc c) at l m = sym (ap (build (termIn c file arities)) (symbol-behind at (omega arith)))
+  depth-enough (suc d) zero at l m = ap (build (termIn d file arities)) (symbol-behind at (omega arith))
   depth-enough (suc d) (suc c) at l m =
-      build-same (termIn d s slots) (termIn c s slots) (symbolAt s slots at) (λ t k e h.
+      build-same (termIn d file arities) (termIn c file arities) (symbolAt file arities at) (λ t k e h.
       let a = op-ahead at t k e h in
-      many-agree (termIn c s slots) (term-forward c) (termIn d s slots) e
+      many-agree (termIn c file arities) (term-forward c) (termIn d file arities) e
       (λ b n. depth-enough d c b (omega arith) (omega arith)) k e (omega arith))
 
   -- a term, by its first symbol
-  pub term-build : (at : ℕ) → term s slots at ≡ build (term s slots) (symbolAt s slots at)
+  pub term-build : (at : ℕ) → term file arities at ≡ build (term file arities) (symbolAt file arities at)
   unfolding term termIn
-  term-build at = depth-enough (length s) (suc (length s)) at (omega arith) (omega arith)
+  term-build at = depth-enough (length file) (suc (length file)) at (omega arith) (omega arith)

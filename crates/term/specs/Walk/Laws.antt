@@ -84,71 +84,71 @@ module _ (kind lo hi : ℕ) where
   op-turn count found t (got ts d) g = op-last count found t ts (g d)
   op-turn count found t fault g = refl
 
-  module _ (s slots : List ℕ) (bytes : Bytes s) where
+  module _ (file arities : List ℕ) (bytes : Bytes file) where
     -- a symbol is in the file
-    step-from : (at k e : ℕ) (b : Bool) (y : Symbol) → symbolAt s slots at ≡ y → stepOf y ≡ st.Takes k b e → Ahead s at e
+    step-from : (at k e : ℕ) (b : Bool) (y : Symbol) → symbolAt file arities at ≡ y → stepOf y ≡ st.Takes k b e → Ahead file at e
     step-from at k e b (sy.Leaf t n d) h g =
         let a : d ≡ e = cc in
-        let l = leaf-ahead s slots bytes at t n d h in
+        let l = leaf-ahead file arities bytes at t n d h in
         record { after = omega arith; within = omega arith }
     step-from at k e b (sy.Op t j d) h g =
         let a : d ≡ e = cc in
-        let l = op-ahead s slots bytes at t j d h in
+        let l = op-ahead file arities bytes at t j d h in
         record { after = omega arith; within = omega arith }
     step-from at k e b sy.Fault h g = clash (cc)
 
-    pub step-ahead : (at k e : ℕ) (b : Bool) → stepOf (symbolAt s slots at) ≡ st.Takes k b e → Ahead s at e
-    step-ahead at k e b h = step-from at k e b (symbolAt s slots at) refl h
+    pub step-ahead : (at k e : ℕ) (b : Bool) → stepOf (symbolAt file arities at) ≡ st.Takes k b e → Ahead file at e
+    step-ahead at k e b h = step-from at k e b (symbolAt file arities at) refl h
 
     turned :
-        (count pending at k e m : ℕ) (found b : Bool) (y : Symbol) → symbolAt s slots at ≡ y → m ≡ pending + k → stepOf y ≡ st.Takes k b e
-        → tally count found (andThen (build (term s slots) y) (λ x d. andThen (many (term s slots) pending d) (λ xs f. got (x ∷ xs) f)))
-        ≡ tally (count + 1) (found || b) (many (term s slots) m e)
+        (count pending at k e m : ℕ) (found b : Bool) (y : Symbol) → symbolAt file arities at ≡ y → m ≡ pending + k → stepOf y ≡ st.Takes k b e
+        → tally count found (andThen (build (term file arities) y) (λ x d. andThen (many (term file arities) pending d) (λ xs f. got (x ∷ xs) f)))
+        ≡ tally (count + 1) (found || b) (many (term file arities) m e)
     turned count pending at k e m found b (sy.Leaf t n d) y l h =
         let j : 0 ≡ k = cc in
         let z : pending ≡ m = omega arith in
         let w : d ≡ e = cc in
         let v : hits kind lo hi t n ≡ b = cc in
-        leaf-turn count found (kindOf t) t n (tag-kind t (leaf-at s slots at t n d y .small)) (many (term s slots) pending d)
-        ∙ ap₂ (λ (x : Bool) (r : Read (List Term)). tally (count + 1) (found || x) r) v (ap₂ (many (term s slots)) z w)
+        leaf-turn count found (kindOf t) t n (tag-kind t (leaf-at file arities at t n d y .small)) (many (term file arities) pending d)
+        ∙ ap₂ (λ (x : Bool) (r : Read (List Term)). tally (count + 1) (found || x) r) v (ap₂ (many (term file arities)) z w)
     turned count pending at k e m found b (sy.Op t j d) y l h =
         let i : j ≡ k = cc in
         let z : m ≡ pending + j = omega arith in
         let w : d ≡ e = cc in
         let v : false ≡ b = cc in
-        ap (tally count found) (then-then (many (term s slots) j d) _ _)
-        ∙ op-turn count found t (many (term s slots) j d) (many (term s slots) pending)
-        ∙ ap (tally (count + 1) (found || false)) (sym (many-split (term s slots) pending j m d z))
-        ∙ ap₂ (λ (x : Bool) (r : Read (List Term)). tally (count + 1) (found || x) r) v (ap (many (term s slots) m) w)
+        ap (tally count found) (then-then (many (term file arities) j d) _ _)
+        ∙ op-turn count found t (many (term file arities) j d) (many (term file arities) pending)
+        ∙ ap (tally (count + 1) (found || false)) (sym (many-split (term file arities) pending j m d z))
+        ∙ ap₂ (λ (x : Bool) (r : Read (List Term)). tally (count + 1) (found || x) r) v (ap (many (term file arities) m) w)
     turned count pending at k e m found b sy.Fault y l h = clash (cc)
 
     -- one symbol more
     pub walk-turn :
-        (at pending count k e : ℕ) (found b : Bool) → 0 < pending → stepOf (symbolAt s slots at) ≡ st.Takes k b e
-        → tally (count + 1) (found || b) (many (term s slots) (pending - 1 + k) e) ≡ tally count found (many (term s slots) pending at)
+        (at pending count k e : ℕ) (found b : Bool) → 0 < pending → stepOf (symbolAt file arities at) ≡ st.Takes k b e
+        → tally (count + 1) (found || b) (many (term file arities) (pending - 1 + k) e) ≡ tally count found (many (term file arities) pending at)
     unfolding many
     walk-turn at zero count k e found b l h = absurd (omega arith)
     walk-turn at (suc pending) count k e found b l h =
-        sym (ap (λ (r : Read Term). tally count found (andThen r (λ x d. andThen (many (term s slots) pending d) (λ xs f. got (x ∷ xs) f))))
-        (term-build s slots bytes at)
-        ∙ turned count pending at k e (suc pending - 1 + k) found b (symbolAt s slots at) refl (omega arith) h)
+        sym (ap (λ (r : Read Term). tally count found (andThen r (λ x d. andThen (many (term file arities) pending d) (λ xs f. got (x ∷ xs) f))))
+        (term-build file arities bytes at)
+        ∙ turned count pending at k e (suc pending - 1 + k) found b (symbolAt file arities at) refl (omega arith) h)
 
-    stopped : (y : Symbol) → stepOf y ≡ st.Fault → build (term s slots) y ≡ fault
+    stopped : (y : Symbol) → stepOf y ≡ st.Fault → build (term file arities) y ≡ fault
     stopped (sy.Leaf t n d) h = clash (cc)
     stopped (sy.Op t j d) h = clash (cc)
     stopped sy.Fault h = refl
 
     -- no symbol here, no terms at all
     pub walk-fault :
-        (at pending count : ℕ) (found : Bool) → 0 < pending → stepOf (symbolAt s slots at) ≡ st.Fault
-        → tally count found (many (term s slots) pending at) ≡ wk.Fault
+        (at pending count : ℕ) (found : Bool) → 0 < pending → stepOf (symbolAt file arities at) ≡ st.Fault
+        → tally count found (many (term file arities) pending at) ≡ wk.Fault
     unfolding many
     walk-fault at zero count found l h = absurd (omega arith)
     walk-fault at (suc pending) count found l h =
-        ap (λ (r : Read Term). tally count found (andThen r (λ x d. andThen (many (term s slots) pending d) (λ xs f. got (x ∷ xs) f))))
-        (term-build s slots bytes at ∙ stopped (symbolAt s slots at) h)
+        ap (λ (r : Read Term). tally count found (andThen r (λ x d. andThen (many (term file arities) pending d) (λ xs f. got (x ∷ xs) f))))
+        (term-build file arities bytes at ∙ stopped (symbolAt file arities at) h)
 
-    pub walk-done : (at pending count : ℕ) (found : Bool) → pending ≤ 0 → tally count found (many (term s slots) pending at) ≡ wk.End at count found
+    pub walk-done : (at pending count : ℕ) (found : Bool) → pending ≤ 0 → tally count found (many (term file arities) pending at) ≡ wk.End at count found
     unfolding many
     walk-done at zero count found l = ap₂ (wk.End at) (omega arith) (or-false found)
     walk-done at (suc pending) count found l = absurd (omega arith)

@@ -8,11 +8,11 @@ use Rattle.cases_facts.proofs.outcome.first_fact.Statement.{statement}
 use Rattle.cases_facts.proofs.outcome.first_fact.Tie as tie
 
 abbrev Inv-loop : tie.InvT-loop
-Inv-loop k out₀ s protocol arities ars rules nr places n x i₀ out i =
+Inv-loop k out₀ file protocol arities ars rules nr places n x i₀ out i =
     (i ≤ n) × (length out ≡ length out₀)
 
 abbrev μ-loop : tie.MeasureT-loop
-μ-loop k out₀ s protocol arities ars rules nr places n x i₀ out i =
+μ-loop k out₀ file protocol arities ars rules nr places n x i₀ out i =
     n - i
 
 mul-x : tie.Need-mul-x Inv-loop μ-loop

@@ -8,11 +8,11 @@ use Rattle.cases_facts.proofs.outcome.show_arguments.Statement.{stateme
 use Rattle.cases_facts.proofs.outcome.show_arguments.Tie as tie
 
 abbrev Inv-loop : tie.InvT-loop
-Inv-loop arguments out₀ s protocol arities ars rules nr n k₀ out k =
+Inv-loop arguments out₀ file protocol arities ars rules nr n k₀ out k =
     (k ≤ n) × (length out ≡ length out₀)
 
 abbrev μ-loop : tie.MeasureT-loop
-μ-loop arguments out₀ s protocol arities ars rules nr n k₀ out k =
+μ-loop arguments out₀ file protocol arities ars rules nr n k₀ out k =
     n - k
 
 loop-holds : tie.Need-loop-holds Inv-loop μ-loop

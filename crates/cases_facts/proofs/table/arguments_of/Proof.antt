@@ -6,11 +6,11 @@ use Rattle.cases_facts.proofs.table.arguments_of.Statement.{statement}
 use Rattle.cases_facts.proofs.table.arguments_of.Tie as tie
 
 abbrev Inv-loop : tie.InvT-loop
-Inv-loop s protocol arities ars rules nr arguments₀ places n k₀ arguments k =
-    (k ≤ n) × ArgumentsListed protocol arities rules nr s arguments
+Inv-loop file protocol arities ars rules nr arguments₀ places n k₀ arguments k =
+    (k ≤ n) × ArgumentsListed protocol arities rules nr file arguments
 
 abbrev μ-loop : tie.MeasureT-loop
-μ-loop s protocol arities ars rules nr arguments₀ places n k₀ arguments k =
+μ-loop file protocol arities ars rules nr arguments₀ places n k₀ arguments k =
     n - k
 
 loop-holds : tie.Need-loop-holds Inv-loop μ-loop

@@ -8,11 +8,11 @@ use Rattle.cases_facts.proofs.table.facts_of.Statement.{statement}
 use Rattle.cases_facts.proofs.table.facts_of.Tie as tie
 
 abbrev Inv-loop : tie.InvT-loop
-Inv-loop s protocol arities ars rules nr nodes n facts₀ k₀ facts k =
-    (k ≤ n) × FactsListed protocol arities rules nr s facts
+Inv-loop file protocol arities ars rules nr nodes n facts₀ k₀ facts k =
+    (k ≤ n) × FactsListed protocol arities rules nr file facts
 
 abbrev μ-loop : tie.MeasureT-loop
-μ-loop s protocol arities ars rules nr nodes n facts₀ k₀ facts k =
+μ-loop file protocol arities ars rules nr nodes n facts₀ k₀ facts k =
     n - k
 
 loop-holds : tie.Need-loop-holds Inv-loop μ-loop

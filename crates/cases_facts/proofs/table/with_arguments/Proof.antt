@@ -7,11 +7,11 @@ use Rattle.cases_facts.proofs.table.with_arguments.Statement.{statement
 use Rattle.cases_facts.proofs.table.with_arguments.Tie as tie
 
 abbrev Inv-loop : tie.InvT-loop
-Inv-loop s protocol arities ars rules nr x count arguments₀ i₀ arguments i =
-    (i ≤ count) × ArgumentsListed protocol arities rules nr s arguments
+Inv-loop file protocol arities ars rules nr x count arguments₀ i₀ arguments i =
+    (i ≤ count) × ArgumentsListed protocol arities rules nr file arguments
 
 abbrev μ-loop : tie.MeasureT-loop
-μ-loop s protocol arities ars rules nr x count arguments₀ i₀ arguments i =
+μ-loop file protocol arities ars rules nr x count arguments₀ i₀ arguments i =
     count - i
 
 argument-count-requires : tie.Need-argument-count-requires Inv-loop μ-loop

@@ -7,11 +7,11 @@ use Rattle.cases_facts.proofs.table.with_list.Statement.{statement}
 use Rattle.cases_facts.proofs.table.with_list.Tie as tie
 
 abbrev Inv-loop : tie.InvT-loop
-Inv-loop s protocol arities ars rules nr node w count facts₀ i₀ facts i =
-    (i ≤ count) × FactsListed protocol arities rules nr s facts
+Inv-loop file protocol arities ars rules nr node w count facts₀ i₀ facts i =
+    (i ≤ count) × FactsListed protocol arities rules nr file facts
 
 abbrev μ-loop : tie.MeasureT-loop
-μ-loop s protocol arities ars rules nr node w count facts₀ i₀ facts i =
+μ-loop file protocol arities ars rules nr node w count facts₀ i₀ facts i =
     count - i
 
 fact-count-requires : tie.Need-fact-count-requires Inv-loop μ-loop

@@ -6,11 +6,11 @@ use Rattle.cases_facts.proofs.table.with_node.Statement.{statement}
 use Rattle.cases_facts.proofs.table.with_node.Tie as tie
 
 abbrev Inv-loop : tie.InvT-loop
-Inv-loop s protocol arities ars rules nr node facts₀ w₀ facts w =
-    (w ≤ 3) × FactsListed protocol arities rules nr s facts
+Inv-loop file protocol arities ars rules nr node facts₀ w₀ facts w =
+    (w ≤ 3) × FactsListed protocol arities rules nr file facts
 
 abbrev μ-loop : tie.MeasureT-loop
-μ-loop s protocol arities ars rules nr node facts₀ w₀ facts w =
+μ-loop file protocol arities ars rules nr node facts₀ w₀ facts w =
     3 - w
 
 loop-holds : tie.Need-loop-holds Inv-loop μ-loop
@@ -22,8 +22,8 @@ with-list-requires c κs =
     let c7 = c .before .before .before .before .before .before .before in
     (omega arith, c7 .pre .0, c7 .pre .1, c7 .pre .2, c .before .loop .inv .1)
 
-add-w : tie.Need-add-w Inv-loop μ-loop
-add-w c = search needs
+add-list : tie.Need-add-list Inv-loop μ-loop
+add-list c = search needs
 
 loop-less : tie.Need-loop-less Inv-loop μ-loop
 loop-less c = search needs
@@ -38,4 +38,4 @@ returns c = search needs
 pub with-node-spec : {M : Type 1} → statement M
 with-node-spec =
     tie.close
-    (tie.spec Inv-loop μ-loop loop-holds with-list-requires add-w loop-less loop-again returns)
+    (tie.spec Inv-loop μ-loop loop-holds with-list-requires add-list loop-less loop-again returns)

@@ -51,7 +51,7 @@ returns : tie.Need-returns
 returns c =
     let c5 = c .before .before .before .before .before in
     let c13 = c5 .before .before .before .before .before .before .before .before in
-    λ p m i h. fact-marked (factAt p (c13 .args .x .part) (c13 .args .x .number) m) _ _ _ _ _ (c5 .node-fact .ensures p m i h .put)
+    λ p m i h. fact-marked (factAt p (c13 .args .x .list) (c13 .args .x .number) m) _ _ _ _ _ (c5 .node-fact .ensures p m i h .put)
     (c5 .node-fact .ensures p m i h .symbols) (c .mark-bytes .ensures)
 
 pub fact-mark-spec : {M : Type 1} → statement M

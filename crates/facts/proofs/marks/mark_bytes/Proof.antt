@@ -7,12 +7,12 @@ use Rattle.facts.proofs.marks.mark_bytes.Statement.{statement}
 use Rattle.facts.proofs.marks.mark_bytes.Tie as tie
 
 abbrev Inv-loop : tie.InvT-loop
-Inv-loop s from h₀ i₀ h i =
-    (h < markLimit) × (i ≤ length s) × Marked from s h i
+Inv-loop file from h₀ i₀ h i =
+    (h < markLimit) × (i ≤ length file) × Marked from file h i
 
 abbrev μ-loop : tie.MeasureT-loop
-μ-loop s from h₀ i₀ h i =
-    length s - i
+μ-loop file from h₀ i₀ h i =
+    length file - i
 
 loop-holds : tie.Need-loop-holds Inv-loop μ-loop
 loop-holds c =

@@ -29,8 +29,8 @@ returns c =
     let c10 = c4 .before .before .before .before .before .before in
     λ p x i h l.
     let (u, is, known) = node-rule p _ _ _ _ x (sym (c4 .read-number .ensures) ∙ ap asRead (c .before .before .r .given .1)) h in
-    c .symbol-from .ensures p u i is (omega (arith, l, facts-counted p x u known (c10 .args .place .part))) ∙ sym
-    (ap (λ (f : Fact). f .symbol) (fact-filled p x u known (c10 .args .place .part) (c10 .args .place .number) l))
+    c .symbol-from .ensures p u i is (omega (arith, l, facts-counted p x u known (c10 .args .place .list))) ∙ sym
+    (ap (λ (f : Fact). f .symbol) (fact-filled p x u known (c10 .args .place .list) (c10 .args .place .number) l))
 
 returns-2 : tie.Need-returns-2
 returns-2 c =

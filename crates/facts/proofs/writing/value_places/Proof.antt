@@ -14,11 +14,11 @@ use Rattle.facts.proofs.writing.value_places.Statement.{statement}
 use Rattle.facts.proofs.writing.value_places.Tie as tie
 
 abbrev Inv-loop : tie.InvT-loop
-Inv-loop s arities at k starts₀ i₀ v₀ starts i v =
-    (v ≤ k) × (length starts ≡ length starts₀) × Came (term s arities) at v i × ((j : ℕ) → j < v → Came (term s arities) at j (getD starts j 0))
+Inv-loop file arities at k starts₀ i₀ v₀ starts i v =
+    (v ≤ k) × (length starts ≡ length starts₀) × Came (term file arities) at v i × ((j : ℕ) → j < v → Came (term file arities) at j (getD starts j 0))
 
 abbrev μ-loop : tie.MeasureT-loop
-μ-loop s arities at k starts₀ i₀ v₀ starts i v =
+μ-loop file arities at k starts₀ i₀ v₀ starts i v =
     k - v
 
 loop-holds : tie.Need-loop-holds Inv-loop μ-loop

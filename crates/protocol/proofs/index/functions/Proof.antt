@@ -51,7 +51,7 @@ returns c =
     let c15 = c10 .before .before .before .before .before in (
       omega (arith, c10 .copy-into .kept, c .before .before .functions-from .kept),
       told-as _ _ (Slotted (c .before .before .functions-from .last .1 .1 .1 .0))
-          (c .before .before .functions-from .result) (counted-got _ (below (now (c15 .args .s)) arityLimit) 16 _ _ _
+          (c .before .before .functions-from .result) (counted-got _ (below (now (c15 .args .file)) arityLimit) 16 _ _ _
           (sym (c7 .below .ensures) ∙ ap asRead (c5 .n .given .1))) (c .before .before .functions-from .ensures .1),
     )
 
@@ -63,7 +63,7 @@ returns-2 c =
     let c5 = c .before .before .before .before .before in
     let c10 = c5 .before .before .before .before .before in (
       omega (arith, c5 .copy-into .kept),
-      counted-fault _ (below (now (c10 .args .s)) arityLimit) 16 _
+      counted-fault _ (below (now (c10 .args .file)) arityLimit) 16 _
           (sym (c .before .before .below .ensures) ∙ ap asRead (c .enum-told .given .1)),
     )
 

@@ -12,11 +12,11 @@ use Rattle.protocol.proofs.index.functions_from.Statement.{statement}
 use Rattle.protocol.proofs.index.functions_from.Tie as tie
 
 abbrev Inv-loop : tie.InvT-loop
-Inv-loop s at n arities₀ i₀ j₀ arities i j =
-    (j ≤ n) × (length arities ≡ length arities₀) × Slotting s at j i arities
+Inv-loop file at n arities₀ i₀ j₀ arities i j =
+    (j ≤ n) × (length arities ≡ length arities₀) × Slotting file at j i arities
 
 abbrev μ-loop : tie.MeasureT-loop
-μ-loop s at n arities₀ i₀ j₀ arities i j =
+μ-loop file at n arities₀ i₀ j₀ arities i j =
     n - j
 
 loop-holds : tie.Need-loop-holds Inv-loop μ-loop
@@ -79,8 +79,8 @@ returns-2 : tie.Need-returns-2 Inv-loop μ-loop
 returns-2 c =
     let c4 = c .before .before .before .before in
     let m : c .before .loop .j ≡ c4 .args .n = omega arith in
-    let o : Slotting (now (c4 .args .s)) (c4 .args .at) (c4 .args .n) (c .before .loop .i) (c .before .loop .arities) = subst
-    (λ (k : ℕ). Slotting (now (c4 .args .s)) (c4 .args .at) k (c .before .loop .i) (c .before .loop .arities)) m (c .before .loop .inv .2) in
+    let o : Slotting (now (c4 .args .file)) (c4 .args .at) (c4 .args .n) (c .before .loop .i) (c .before .loop .arities) = subst
+    (λ (k : ℕ). Slotting (now (c4 .args .file)) (c4 .args .at) k (c .before .loop .i) (c .before .loop .arities)) m (c .before .loop .inv .2) in
     (search needs, record { item = o .items; there = o .there; says = o .slotted })
 
 pub functions-from-spec : {M : Type 1} → statement M

@@ -2,7 +2,7 @@ use Rattle.protocol.specs.Figures.{mostOwn, mostRules, arityLimit}
 use Rattle.protocol.specs.Index.Laws.{no-functions, no-symbols, no-rules, leftover, entries}
 use Rattle.protocol.specs.Index.Fill.{told-value, told-fault}
 use Rattle.protocol.specs.Index.{Slotted, Tabled, Placed}
-use Rattle.protocol.specs.Protocol.{noRule, own, rule}
+use Rattle.protocol.specs.Protocol.{emptyRule, own, rule}
 use Rattle.number.specs.Reading.{below, counted}
 use Prim.Native.Nat.{_+_, _≤_}
 use lib.ListN.{take, length-take}
@@ -28,7 +28,7 @@ returns : tie.Need-returns
 returns c =
     let c4 = c .before .before .before .before in
     let c11 = c4 .before .before .before .before .before .before .before in
-    no-functions _ (told-fault (counted (now (c11 .args .s)) 16 (below (now (c11 .args .s)) arityLimit) 0) (Slotted (c4 .functions .last .1 .1 .0))
+    no-functions _ (told-fault (counted (now (c11 .args .file)) 16 (below (now (c11 .args .file)) arityLimit) 0) (Slotted (c4 .functions .last .1 .1 .0))
     (c .enum-told .given .1) (c4 .functions .ensures .1))
 
 symbols-requires : tie.Need-symbols-requires
@@ -55,8 +55,9 @@ returns-2 c =
     let c10 = c6 .before .before .before .before in
     let c14 = c10 .before .before .before .before in
     let c21 = c14 .before .before .before .before .before .before .before in
-    no-symbols _ _ _ _ (told-value (counted (now (c21 .args .s)) 16 (below (now (c21 .args .s)) arityLimit) 0) (Slotted (c14 .functions .last .1 .1 .0))
-    (c10 .e .given .1) (c14 .functions .ensures .1)) (told-fault (counted (now (c21 .args .s)) mostOwn (own (now (c21 .args .s))) (c10 .e .given .0 .1 .0))
+    no-symbols _ _ _ _ (told-value (counted (now (c21 .args .file)) 16 (below (now (c21 .args .file)) arityLimit) 0) (Slotted (c14 .functions .last .1 .1 .0))
+    (c10 .e .given .1) (c14 .functions .ensures .1)) (told-fault (counted (now (c21 .args .file)) mostOwn (own (now (c21 .args .file)))
+    (c10 .e .given .0 .1 .0))
     (Tabled (c6 .symbols .last .1 .1 .0) (c6 .symbols .last .1 .1 .1 .0)) (c .enum-told2 .given .1) (c6 .symbols .ensures .1))
 
 cast-m : tie.Need-cast-m
@@ -70,7 +71,8 @@ slice-reshare-prefix-rules c =
     let c8 = c .before .before .before .before .before .before .before .before in
     let c12 = c8 .before .before .before .before in
     let c23 = c12 .before .before .before .before .before .before .before .before .before .before .before in
-    let b : (c .before .before .no .given .0 .0) ≤ 32 = (told-value (counted (now (c23 .args .s)) mostOwn (own (now (c23 .args .s))) (c12 .e .given .0 .1 .0))
+    let b : (c .before .before .no .given .0 .0) ≤ 32 = (told-value (counted (now (c23 .args .file)) mostOwn (own (now (c23 .args .file)))
+    (c12 .e .given .0 .1 .0))
     (Tabled (c8 .symbols .last .1 .1 .0) (c8 .symbols .last .1 .1 .1 .0)) (c .before .before .no .given .1) (c8 .symbols .ensures .1)) .says .few in
     omega (arith, c8 .symbols .kept)
 
@@ -80,7 +82,7 @@ slice-aggregate-rules c =
     let c9 = c3 .before .before .before .before .before .before in
     let c13 = c9 .before .before .before .before in
     let c24 = c13 .before .before .before .before .before .before .before .before .before .before .before in
-    let b : (c3 .no .given .0 .0) ≤ 32 = (told-value (counted (now (c24 .args .s)) mostOwn (own (now (c24 .args .s))) (c13 .e .given .0 .1 .0))
+    let b : (c3 .no .given .0 .0) ≤ 32 = (told-value (counted (now (c24 .args .file)) mostOwn (own (now (c24 .args .file))) (c13 .e .given .0 .1 .0))
     (Tabled (c9 .symbols .last .1 .1 .0) (c9 .symbols .last .1 .1 .1 .0)) (c3 .no .given .1) (c9 .symbols .ensures .1)) .says .few in
     simp length-take (omega (arith, c9 .symbols .kept))
 
@@ -113,12 +115,12 @@ returns-3 c =
     let c19 = c15 .before .before .before .before in
     let c23 = c19 .before .before .before .before in
     let c30 = c23 .before .before .before .before .before .before .before in
-    no-rules _ _ _ _ (told-value (counted (now (c30 .args .s)) 16 (below (now (c30 .args .s)) arityLimit) 0) (Slotted (c23 .functions .last .1 .1 .0))
-    (c19 .e .given .1) (c23 .functions .ensures .1)) _ _ _ _ (told-value (counted (now (c30 .args .s)) mostOwn (own (now (c30 .args .s)))
+    no-rules _ _ _ _ (told-value (counted (now (c30 .args .file)) 16 (below (now (c30 .args .file)) arityLimit) 0) (Slotted (c23 .functions .last .1 .1 .0))
+    (c19 .e .given .1) (c23 .functions .ensures .1)) _ _ _ _ (told-value (counted (now (c30 .args .file)) mostOwn (own (now (c30 .args .file)))
     (c19 .e .given .0 .1 .0)) (Tabled (c15 .symbols .last .1 .1 .0) (c15 .symbols .last .1 .1 .1 .0)) (c9 .no .given .1) (c15 .symbols .ensures .1))
-    (told-fault (counted (now (c30 .args .s)) mostRules (rule (now (c30 .args .s)) (c23 .functions .last .1 .1 .0)
+    (told-fault (counted (now (c30 .args .file)) mostRules (rule (now (c30 .args .file)) (c23 .functions .last .1 .1 .0)
     (take ((c9 .no .given .0 .0) + 4) (c15 .symbols .last .1 .1 .0))) (c9 .no .given .0 .1 .0))
-    (Placed (rule (now (c30 .args .s)) (c23 .functions .last .1 .1 .0) (take ((c9 .no .given .0 .0) + 4) (c15 .symbols .last .1 .1 .0))) noRule
+    (Placed (rule (now (c30 .args .file)) (c23 .functions .last .1 .1 .0) (take ((c9 .no .given .0 .0) + 4) (c15 .symbols .last .1 .1 .0))) emptyRule
     (c4 .rules .last .1 .1 .1 .1 .0)) (c .enum-told3 .given .1) (c4 .rules .ensures .1))
 
 cast-t29 : tie.Need-cast-t29
@@ -145,13 +147,13 @@ returns-4 c =
     let c25 = c21 .before .before .before .before in
     let c31 = c25 .before .before .before .before .before .before in
     let c32 = c31 .before in
-    entries _ _ _ _ (told-value (counted (now (c32 .args .s)) 16 (below (now (c32 .args .s)) arityLimit) 0) (Slotted (c25 .functions .last .1 .1 .0))
+    entries _ _ _ _ (told-value (counted (now (c32 .args .file)) 16 (below (now (c32 .args .file)) arityLimit) 0) (Slotted (c25 .functions .last .1 .1 .0))
     (c21 .e .given .1)
-    (c25 .functions .ensures .1)) _ _ _ _ (told-value (counted (now (c32 .args .s)) mostOwn (own (now (c32 .args .s))) (c21 .e .given .0 .1 .0))
+    (c25 .functions .ensures .1)) _ _ _ _ (told-value (counted (now (c32 .args .file)) mostOwn (own (now (c32 .args .file))) (c21 .e .given .0 .1 .0))
     (Tabled (c17 .symbols .last .1 .1 .0) (c17 .symbols .last .1 .1 .1 .0)) (c11 .no .given .1) (c17 .symbols .ensures .1)) _ _ _
-    (told-value (counted (now (c32 .args .s)) mostRules (rule (now (c32 .args .s)) (c25 .functions .last .1 .1 .0)
+    (told-value (counted (now (c32 .args .file)) mostRules (rule (now (c32 .args .file)) (c25 .functions .last .1 .1 .0)
     (take ((c11 .no .given .0 .0) + 4) (c17 .symbols .last .1 .1 .0))) (c11 .no .given .0 .1 .0))
-    (Placed (rule (now (c32 .args .s)) (c25 .functions .last .1 .1 .0) (take ((c11 .no .given .0 .0) + 4) (c17 .symbols .last .1 .1 .0))) noRule
+    (Placed (rule (now (c32 .args .file)) (c25 .functions .last .1 .1 .0) (take ((c11 .no .given .0 .0) + 4) (c17 .symbols .last .1 .1 .0))) emptyRule
     (c6 .rules .last .1 .1 .1 .1 .0)) (c .before .before .nr .given .1) (c6 .rules .ensures .1)) (λ i. c31 .shared-slice-known .given i .fits)
     (c .if1 .taken)
 
@@ -175,12 +177,12 @@ returns-5 c =
     let c21 = c17 .before .before .before .before in
     let c25 = c21 .before .before .before .before in
     let c32 = c25 .before .before .before .before .before .before .before in
-    leftover _ _ _ _ (told-value (counted (now (c32 .args .s)) 16 (below (now (c32 .args .s)) arityLimit) 0) (Slotted (c25 .functions .last .1 .1 .0))
-    (c21 .e .given .1) (c25 .functions .ensures .1)) _ _ _ _ (told-value (counted (now (c32 .args .s)) mostOwn (own (now (c32 .args .s)))
+    leftover _ _ _ _ (told-value (counted (now (c32 .args .file)) 16 (below (now (c32 .args .file)) arityLimit) 0) (Slotted (c25 .functions .last .1 .1 .0))
+    (c21 .e .given .1) (c25 .functions .ensures .1)) _ _ _ _ (told-value (counted (now (c32 .args .file)) mostOwn (own (now (c32 .args .file)))
     (c21 .e .given .0 .1 .0)) (Tabled (c17 .symbols .last .1 .1 .0) (c17 .symbols .last .1 .1 .1 .0)) (c11 .no .given .1) (c17 .symbols .ensures .1)) _ _ _
-    (told-value (counted (now (c32 .args .s)) mostRules (rule (now (c32 .args .s)) (c25 .functions .last .1 .1 .0)
+    (told-value (counted (now (c32 .args .file)) mostRules (rule (now (c32 .args .file)) (c25 .functions .last .1 .1 .0)
     (take ((c11 .no .given .0 .0) + 4) (c17 .symbols .last .1 .1 .0))) (c11 .no .given .0 .1 .0))
-    (Placed (rule (now (c32 .args .s)) (c25 .functions .last .1 .1 .0) (take ((c11 .no .given .0 .0) + 4) (c17 .symbols .last .1 .1 .0))) noRule
+    (Placed (rule (now (c32 .args .file)) (c25 .functions .last .1 .1 .0) (take ((c11 .no .given .0 .0) + 4) (c17 .symbols .last .1 .1 .0))) emptyRule
     (c6 .rules .last .1 .1 .1 .1 .0)) (c .before .before .nr .given .1) (c6 .rules .ensures .1)) (c .if1 .left)
 
 pub read-protocol-spec : {M : Type 1} → statement M

@@ -1,6 +1,6 @@
 use Rattle.protocol.specs.Index.{Placed}
 use Rattle.protocol.specs.Index.Fill.{told-as}
-use Rattle.protocol.specs.Protocol.{rule, noRule}
+use Rattle.protocol.specs.Protocol.{rule, emptyRule}
 use Rattle.number.specs.Reading.Many.{counted-got, counted-fault}
 use Rattle.number.specs.Reading.Numbers.{below-inside}
 use Rattle.number.specs.Reading.{asRead}
@@ -42,9 +42,9 @@ returns c =
     let c7 = c5 .before .before in
     let c12 = c7 .before .before .before .before .before in (
       search needs,
-      told-as _ _ (Placed (rule (now (c12 .args .s)) (now (c12 .args .arities)) (now (c12 .args .ars))) noRule
+      told-as _ _ (Placed (rule (now (c12 .args .file)) (now (c12 .args .arities)) (now (c12 .args .ars))) emptyRule
           (c .before .before .rules-from .last .1 .1 .1 .1 .1 .0)) (c .before .before .rules-from .result)
-          (counted-got _ (rule (now (c12 .args .s)) (now (c12 .args .arities)) (now (c12 .args .ars))) 64 _ _ _
+          (counted-got _ (rule (now (c12 .args .file)) (now (c12 .args .arities)) (now (c12 .args .ars))) 64 _ _ _
           (sym (c7 .below .ensures) ∙ ap asRead (c5 .n .given .1))) (c .before .before .rules-from .ensures .1),
     )
 
@@ -52,7 +52,7 @@ returns-2 : tie.Need-returns-2
 returns-2 c =
     let c7 = c .before .before .before .before .before .before .before in (
       search needs,
-      counted-fault _ (rule (now (c7 .args .s)) (now (c7 .args .arities)) (now (c7 .args .ars))) 64 _
+      counted-fault _ (rule (now (c7 .args .file)) (now (c7 .args .arities)) (now (c7 .args .ars))) 64 _
           (sym (c .before .before .below .ensures) ∙ ap asRead (c .enum-told .given .1)),
     )
 

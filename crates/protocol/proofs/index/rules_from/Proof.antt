@@ -1,6 +1,6 @@
 use borrow.Author.Needs.{needs}
 use Rattle.protocol.specs.Index.Fill.{places-more, places-end}
-use Rattle.protocol.specs.Protocol.{Rule, noRule, rule}
+use Rattle.protocol.specs.Protocol.{Rule, emptyRule, rule}
 use Rattle.number.specs.Reading.Many.{Came, came-none, came-more, came-stop}
 use Rattle.number.specs.Reading.Laws.{cut-seen, cut-fault}
 use mathlib.Core.Path.{_≡_, sym, _∙_, subst}
@@ -13,11 +13,11 @@ use Rattle.protocol.proofs.index.rules_from.Statement.{statement}
 use Rattle.protocol.proofs.index.rules_from.Tie as tie
 
 abbrev Inv-loop : tie.InvT-loop
-Inv-loop s arities ars at n places₀ i₀ j₀ places i j =
-    (j ≤ n) × (length places ≡ length places₀) × ((k : ℕ) → k < j → Came (rule s arities ars) at k (getD places k 0)) × Came (rule s arities ars) at j i
+Inv-loop file arities ars at n places₀ i₀ j₀ places i j =
+    (j ≤ n) × (length places ≡ length places₀) × ((k : ℕ) → k < j → Came (rule file arities ars) at k (getD places k 0)) × Came (rule file arities ars) at j i
 
 abbrev μ-loop : tie.MeasureT-loop
-μ-loop s arities ars at n places₀ i₀ j₀ places i j =
+μ-loop file arities ars at n places₀ i₀ j₀ places i j =
     n - j
 
 loop-holds : tie.Need-loop-holds Inv-loop μ-loop
@@ -53,10 +53,10 @@ loop-again c =
     let b : c5 .loop .j < length (c5 .loop .places) = omega arith in (
       search needs,
       simp length-set (omega arith),
-      places-more (rule (now (c10 .args .s)) (now (c10 .args .arities)) (now (c10 .args .ars))) (c10 .args .at)
+      places-more (rule (now (c10 .args .file)) (now (c10 .args .arities)) (now (c10 .args .ars))) (c10 .args .at)
           (c5 .loop .j) (c5 .loop .i) (c5 .loop .places) (c5 .loop .inv .2) (c5 .loop .inv .3) b,
       cut-seen (λ (x : Rule). false)
-          (rule (now (c10 .args .s)) (now (c10 .args .arities)) (now (c10 .args .ars)) (c5 .loop .i)) (sym (c3 .one-rule .ensures) ∙ c .before .e .given .1)
+          (rule (now (c10 .args .file)) (now (c10 .args .arities)) (now (c10 .args .ars)) (c5 .loop .i)) (sym (c3 .one-rule .ensures) ∙ c .before .e .given .1)
           (λ x g h. came-more _ _ _ _ _ x (c5 .loop .inv .3) g),
     )
 
@@ -73,7 +73,7 @@ returns c =
     let c9 = c4 .before .before .before .before .before in (
       search needs,
       came-stop _ _ _ _ _ (c4 .loop .inv .3) (cut-fault (λ (x : Rule). false)
-          (rule (now (c9 .args .s)) (now (c9 .args .arities)) (now (c9 .args .ars)) (c4 .loop .i))
+          (rule (now (c9 .args .file)) (now (c9 .args .arities)) (now (c9 .args .ars)) (c4 .loop .i))
           (sym (c .before .before .one-rule .ensures) ∙ c .enum-told .given .1)) (c3 .loop-test .taken),
     )
 
@@ -84,15 +84,15 @@ returns-2 : tie.Need-returns-2 Inv-loop μ-loop
 returns-2 c =
     let c6 = c .before .before .before .before .before .before in
     let m : c .before .loop .j ≡ c6 .args .n = omega arith in
-    let o : Came (rule (now (c6 .args .s)) (now (c6 .args .arities)) (now (c6 .args .ars))) (c6 .args .at) (c6 .args .n) (c .before .loop .i) = subst
-    (λ (k : ℕ). Came (rule (now (c6 .args .s)) (now (c6 .args .arities)) (now (c6 .args .ars))) (c6 .args .at) k (c .before .loop .i)) m
+    let o : Came (rule (now (c6 .args .file)) (now (c6 .args .arities)) (now (c6 .args .ars))) (c6 .args .at) (c6 .args .n) (c .before .loop .i) = subst
+    (λ (k : ℕ). Came (rule (now (c6 .args .file)) (now (c6 .args .arities)) (now (c6 .args .ars))) (c6 .args .at) k (c .before .loop .i)) m
     (c .before .loop .inv .3) in (
       search needs,
       record {
         item = o .items;
         there = o .there;
-        says = places-end (rule (now (c6 .args .s)) (now (c6 .args .arities)) (now (c6 .args .ars)))
-            (c6 .args .at) noRule (c6 .args .n) (c .before .loop .i) (o .items) (c .before .loop .places) (o .there)
+        says = places-end (rule (now (c6 .args .file)) (now (c6 .args .arities)) (now (c6 .args .ars)))
+            (c6 .args .at) emptyRule (c6 .args .n) (c .before .loop .i) (o .items) (c .before .loop .places) (o .there)
             (λ k l. c .before .loop .inv .2 k (omega arith));
       },
     )

@@ -45,13 +45,13 @@ returns c =
     let c14 = c10 .before .before .before .before in (
       search needs,
       told-as _ _ (Tabled (c4 .symbols-from .last .1 .1 .1 .0) (c4 .symbols-from .last .1 .1 .1 .1 .0)) (c4 .symbols-from .result)
-          (counted-got _ (own (now (c14 .args .s))) 32 _ _ _ (sym (c10 .below .ensures) ∙ ap asRead (c8 .n .given .1))) (c4 .symbols-from .ensures .1),
+          (counted-got _ (own (now (c14 .args .file))) 32 _ _ _ (sym (c10 .below .ensures) ∙ ap asRead (c8 .n .given .1))) (c4 .symbols-from .ensures .1),
     )
 
 returns-2 : tie.Need-returns-2
 returns-2 c = (
   search needs,
-  counted-fault _ (own (now (c .before .before .before .before .before .before .args .s))) 32 _
+  counted-fault _ (own (now (c .before .before .before .before .before .before .args .file))) 32 _
       (sym (c .before .before .below .ensures) ∙ ap asRead (c .enum-told .given .1)),
 )
 

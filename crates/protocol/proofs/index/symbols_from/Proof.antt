@@ -10,11 +10,11 @@ use Rattle.protocol.proofs.index.symbols_from.Statement.{statement}
 use Rattle.protocol.proofs.index.symbols_from.Tie as tie
 
 abbrev Inv-loop : tie.InvT-loop
-Inv-loop s at n ars₀ flags₀ i₀ j₀ ars flags i j =
-    (j ≤ n) × (length ars ≡ length ars₀) × (length flags ≡ length flags₀) × Owned s at j i ars flags
+Inv-loop file at n ars₀ flags₀ i₀ j₀ ars flags i j =
+    (j ≤ n) × (length ars ≡ length ars₀) × (length flags ≡ length flags₀) × Owned file at j i ars flags
 
 abbrev μ-loop : tie.MeasureT-loop
-μ-loop s at n ars₀ flags₀ i₀ j₀ ars flags i j =
+μ-loop file at n ars₀ flags₀ i₀ j₀ ars flags i j =
     n - j
 
 slice-aggregate-copy-into : tie.Need-slice-aggregate-copy-into Inv-loop μ-loop
@@ -125,8 +125,8 @@ returns-2 c =
     let c9 = c4 .before .before .before .before .before in
     let c15 = c9 .before .before .before .before .before .before in
     let m : c .before .loop .j ≡ c15 .args .n = omega arith in
-    let o : Owned (now (c15 .args .s)) (c15 .args .at) (c15 .args .n) (c .before .loop .i) (c .before .loop .ars) (c .before .loop .flags) = subst
-    (λ (k : ℕ). Owned (now (c15 .args .s)) (c15 .args .at) k (c .before .loop .i) (c .before .loop .ars) (c .before .loop .flags)) m
+    let o : Owned (now (c15 .args .file)) (c15 .args .at) (c15 .args .n) (c .before .loop .i) (c .before .loop .ars) (c .before .loop .flags) = subst
+    (λ (k : ℕ). Owned (now (c15 .args .file)) (c15 .args .at) k (c .before .loop .i) (c .before .loop .ars) (c .before .loop .flags)) m
     (c .before .loop .inv .3) in (
       (omega (arith, c9 .copy-into .kept), omega (arith, c4 .copy-into2 .kept)),
       record {

@@ -1,4 +1,4 @@
-use Rattle.protocol.specs.Places.Steps.{end-walk, fact-got, fact-none}
+use Rattle.protocol.specs.Places.Ends.{end-walk, fact-got, fact-none}
 use Rattle.protocol.specs.Protocol.Walks.{asks}
 use Rattle.protocol.specs.Protocol.{fact}
 use Rattle.number.specs.Reading.{asRead, many}
@@ -29,7 +29,7 @@ returns c =
     let c3 = c .before .before .before in
     let c5 = c3 .before .before in
     let c9 = c5 .before .before .before .before in
-    end-walk (anyBy (asks 0 0 0)) (many (fact (now (c9 .args .s)) (now (c9 .args .arities)) (now (c9 .args .ars))) (c9 .args .i) (c3 .e .given .0 .1 .0))
+    end-walk (anyBy (asks 0 0 0)) (many (fact (now (c9 .args .file)) (now (c9 .args .arities)) (now (c9 .args .ars))) (c9 .args .i) (c3 .e .given .0 .1 .0))
     (c .end-of .ensures) (c .before .some-facts .ensures) ∙ sym (fact-got _ (now (c9 .args .arities)) (now (c9 .args .ars)) _ (c9 .args .i)
     (sym (c5 .below .ensures) ∙ ap asRead (c3 .e .given .1)))
 

@@ -1,4 +1,4 @@
-use Rattle.protocol.specs.Places.Steps.{end-walk, list-got, list-none}
+use Rattle.protocol.specs.Places.Ends.{end-walk, list-got, list-none}
 use Rattle.protocol.specs.Protocol.Walks.{asks}
 use Rattle.protocol.specs.Protocol.{facts}
 use Rattle.number.specs.Reading.{asRead, many}
@@ -29,15 +29,15 @@ returns c =
     let c3 = c .before .before .before in
     let c5 = c3 .before .before in
     let c9 = c5 .before .before .before .before in
-    end-walk (anyBy (anyBy (asks 0 0 0))) (many (facts (now (c9 .args .s)) (now (c9 .args .arities)) (now (c9 .args .ars))) (c9 .args .w)
+    end-walk (anyBy (anyBy (asks 0 0 0))) (many (facts (now (c9 .args .file)) (now (c9 .args .arities)) (now (c9 .args .ars))) (c9 .args .list)
     (c3 .e .given .0 .1 .0))
-    (c .end-of .ensures) (c .before .some-parts .ensures) ∙ sym (list-got _ (now (c9 .args .arities)) (now (c9 .args .ars)) _ (c9 .args .w)
+    (c .end-of .ensures) (c .before .some-parts .ensures) ∙ sym (list-got _ (now (c9 .args .arities)) (now (c9 .args .ars)) _ (c9 .args .list)
     (sym (c5 .sorts-at .ensures) ∙ ap asRead (c3 .e .given .1)))
 
 returns-2 : tie.Need-returns-2
 returns-2 c =
     let c6 = c .before .before .before .before .before .before in
-    sym (list-none _ (now (c6 .args .arities)) (now (c6 .args .ars)) _ (c6 .args .w)
+    sym (list-none _ (now (c6 .args .arities)) (now (c6 .args .ars)) _ (c6 .args .list)
     (sym (c .before .before .sorts-at .ensures) ∙ ap asRead (c .enum-told .given .1)))
 
 pub list-at-spec : {M : Type 1} → statement M

@@ -1,4 +1,4 @@
-use Rattle.protocol.specs.Places.Steps.{sort-got, sort-none}
+use Rattle.protocol.specs.Places.Ends.{sort-got, sort-none}
 use Rattle.protocol.specs.Places.{valueOf}
 use Rattle.number.specs.Reading.{asRead}
 use mathlib.Core.Path.{ap, sym, _∙_}

@@ -1,4 +1,4 @@
-use Rattle.protocol.specs.Places.Steps.{end-walk, term-got, term-none}
+use Rattle.protocol.specs.Places.Ends.{end-walk, term-got, term-none}
 use Rattle.protocol.specs.Protocol.Walks.{leafAt}
 use Rattle.protocol.specs.Protocol.{ruleTerm}
 use Rattle.number.specs.Reading.{asRead, many}
@@ -29,7 +29,8 @@ returns c =
     let c3 = c .before .before .before in
     let c5 = c3 .before .before in
     let c9 = c5 .before .before .before .before in
-    end-walk (anyBy (leafAt 0 0 0)) (many (ruleTerm (now (c9 .args .s)) (now (c9 .args .arities))) (c9 .args .j) (c3 .e .given .0 .1 .0)) (c .end-of .ensures)
+    end-walk (anyBy (leafAt 0 0 0)) (many (ruleTerm (now (c9 .args .file)) (now (c9 .args .arities))) (c9 .args .j) (c3 .e .given .0 .1 .0))
+    (c .end-of .ensures)
     (c .before .rule-terms .ensures) ∙ sym (term-got _ (now (c9 .args .arities)) (now (c9 .args .ars)) _ (c9 .args .j)
     (sym (c5 .below .ensures) ∙ ap asRead (c3 .e .given .1)))
 

@@ -23,7 +23,7 @@ returns c =
     let c4 = c .before .before .before .before in
     let c8 = c4 .before .before .before .before in
     ap (λ (b : Bool). pick b sn.Fault (sn.End (c .before .before .e .given .0 .0) false)) (sym (c .if1 .taken)) ∙ parts-by (c8 .args .n)
-    (many (facts (now (c8 .args .s)) (now (c8 .args .arities)) (now (c8 .args .ars))) 3 (c8 .args .at)) (c4 .some-parts .ensures) _ _
+    (many (facts (now (c8 .args .file)) (now (c8 .args .arities)) (now (c8 .args .ars))) 3 (c8 .args .at)) (c4 .some-parts .ensures) _ _
     (c .before .before .e .given .1)
 
 enum-told : tie.Need-enum-told
@@ -35,14 +35,14 @@ returns-2 c =
     let c4 = c .before .before .before .before in
     let c8 = c4 .before .before .before .before in
     ap (λ (b : Bool). pick b sn.Fault (sn.End (c .before .before .e .given .0 .0) false)) (sym (c .if1 .left)) ∙ parts-by (c8 .args .n)
-    (many (facts (now (c8 .args .s)) (now (c8 .args .arities)) (now (c8 .args .ars))) 3 (c8 .args .at)) (c4 .some-parts .ensures) _ _
+    (many (facts (now (c8 .args .file)) (now (c8 .args .arities)) (now (c8 .args .ars))) 3 (c8 .args .at)) (c4 .some-parts .ensures) _ _
     (c .before .before .e .given .1)
 
 returns-3 : tie.Need-returns-3
 unfolding numberLimit
 returns-3 c =
     let c6 = c .before .before .before .before .before .before in
-    ap closed (sym (c .enum-told .given .1)) ∙ parts-closed (c6 .args .n) (many (facts (now (c6 .args .s)) (now (c6 .args .arities)) (now (c6 .args .ars))) 3
+    ap closed (sym (c .enum-told .given .1)) ∙ parts-closed (c6 .args .n) (many (facts (now (c6 .args .file)) (now (c6 .args .arities)) (now (c6 .args .ars))) 3
     (c6 .args .at)) (c .before .before .some-parts .ensures)
 
 pub closed-parts-spec : {M : Type 1} → statement M

@@ -13,11 +13,11 @@ use Rattle.protocol.proofs.walks.rule_terms.Statement.{statement}
 use Rattle.protocol.proofs.walks.rule_terms.Tie as tie
 
 abbrev Inv-loop : tie.InvT-loop
-Inv-loop s arities at n kind lo hi i₀ j₀ found₀ i j found =
-    (j ≤ n) × (seen (anyBy (leafAt kind lo hi)) (many (ruleTerm s arities) j at) ≡ End i found)
+Inv-loop file arities at n kind lo hi i₀ j₀ found₀ i j found =
+    (j ≤ n) × (seen (anyBy (leafAt kind lo hi)) (many (ruleTerm file arities) j at) ≡ End i found)
 
 abbrev μ-loop : tie.MeasureT-loop
-μ-loop s arities at n kind lo hi i₀ j₀ found₀ i j found =
+μ-loop file arities at n kind lo hi i₀ j₀ found₀ i j found =
     n - j
 
 loop-holds : tie.Need-loop-holds Inv-loop μ-loop
@@ -42,7 +42,7 @@ loop-again c =
     let c5 = c3 .before .before in
     let c8 = c5 .before .before .before in (
       search needs,
-      walk-more (ruleTerm (now (c8 .args .s)) (now (c8 .args .arities))) (leafAt (c8 .args .kind) (c8 .args .lo) (c8 .args .hi)) _ _ _ _ _ _
+      walk-more (ruleTerm (now (c8 .args .file)) (now (c8 .args .arities))) (leafAt (c8 .args .kind) (c8 .args .lo) (c8 .args .hi)) _ _ _ _ _ _
           (c5 .loop .inv .1) (sym (c3 .rule-term .ensures) ∙ c .before .e .given .1),
     )
 
@@ -54,7 +54,7 @@ returns c =
     let c3 = c .before .before .before in
     let c4 = c3 .before in
     let c7 = c4 .before .before .before in
-    sym (walk-stop (ruleTerm (now (c7 .args .s)) (now (c7 .args .arities))) (leafAt (c7 .args .kind) (c7 .args .lo) (c7 .args .hi)) _ _ _ _ _
+    sym (walk-stop (ruleTerm (now (c7 .args .file)) (now (c7 .args .arities))) (leafAt (c7 .args .kind) (c7 .args .lo) (c7 .args .hi)) _ _ _ _ _
     (c4 .loop .inv .1) (sym (c .before .before .rule-term .ensures) ∙ c .enum-told .given .1) (c3 .loop-test .taken))
 
 returns-2 : tie.Need-returns-2 Inv-loop μ-loop
@@ -62,7 +62,7 @@ returns-2 c =
     let c4 = c .before .before .before .before in
     let m : c .before .loop .j ≡ c4 .args .n = omega arith in
     sym (ap (λ (k : ℕ). seen (anyBy (leafAt (c4 .args .kind) (c4 .args .lo) (c4 .args .hi)))
-    (many (ruleTerm (now (c4 .args .s)) (now (c4 .args .arities))) k (c4 .args .at))) (sym m) ∙ c .before .loop .inv .1)
+    (many (ruleTerm (now (c4 .args .file)) (now (c4 .args .arities))) k (c4 .args .at))) (sym m) ∙ c .before .loop .inv .1)
 
 pub rule-terms-spec : {M : Type 1} → statement M
 rule-terms-spec =

@@ -13,11 +13,11 @@ use Rattle.protocol.proofs.walks.some_parts.Statement.{statement}
 use Rattle.protocol.proofs.walks.some_parts.Tie as tie
 
 abbrev Inv-loop : tie.InvT-loop
-Inv-loop s arities ars at n kind lo hi i₀ j₀ found₀ i j found =
-    (j ≤ n) × (seen (anyBy (anyBy (asks kind lo hi))) (many (facts s arities ars) j at) ≡ End i found)
+Inv-loop file arities ars at n kind lo hi i₀ j₀ found₀ i j found =
+    (j ≤ n) × (seen (anyBy (anyBy (asks kind lo hi))) (many (facts file arities ars) j at) ≡ End i found)
 
 abbrev μ-loop : tie.MeasureT-loop
-μ-loop s arities ars at n kind lo hi i₀ j₀ found₀ i j found =
+μ-loop file arities ars at n kind lo hi i₀ j₀ found₀ i j found =
     n - j
 
 loop-holds : tie.Need-loop-holds Inv-loop μ-loop
@@ -42,7 +42,7 @@ loop-again c =
     let c5 = c3 .before .before in
     let c9 = c5 .before .before .before .before in (
       search needs,
-      walk-more (facts (now (c9 .args .s)) (now (c9 .args .arities)) (now (c9 .args .ars)))
+      walk-more (facts (now (c9 .args .file)) (now (c9 .args .arities)) (now (c9 .args .ars)))
           (anyBy (asks (c9 .args .kind) (c9 .args .lo) (c9 .args .hi))) _ _ _ _ _ _ (c5 .loop .inv .1) (sym (c3 .one-part .ensures) ∙ c .before .e .given .1),
     )
 
@@ -54,7 +54,8 @@ returns c =
     let c3 = c .before .before .before in
     let c4 = c3 .before in
     let c8 = c4 .before .before .before .before in
-    sym (walk-stop (facts (now (c8 .args .s)) (now (c8 .args .arities)) (now (c8 .args .ars))) (anyBy (asks (c8 .args .kind) (c8 .args .lo) (c8 .args .hi))) _ _
+    sym (walk-stop (facts (now (c8 .args .file)) (now (c8 .args .arities)) (now (c8 .args .ars))) (anyBy (asks (c8 .args .kind) (c8 .args .lo) (c8 .args .hi)))
+    _ _
     _ _ _ (c4 .loop .inv .1) (sym (c .before .before .one-part .ensures) ∙ c .enum-told .given .1) (c3 .loop-test .taken))
 
 returns-2 : tie.Need-returns-2 Inv-loop μ-loop
@@ -62,7 +63,7 @@ returns-2 c =
     let c5 = c .before .before .before .before .before in
     let m : c .before .loop .j ≡ c5 .args .n = omega arith in
     sym (ap (λ (k : ℕ). seen (anyBy (anyBy (asks (c5 .args .kind) (c5 .args .lo) (c5 .args .hi))))
-    (many (facts (now (c5 .args .s)) (now (c5 .args .arities)) (now (c5 .args .ars))) k (c5 .args .at))) (sym m) ∙ c .before .loop .inv .1)
+    (many (facts (now (c5 .args .file)) (now (c5 .args .arities)) (now (c5 .args .ars))) k (c5 .args .at))) (sym m) ∙ c .before .loop .inv .1)
 
 pub some-parts-spec : {M : Type 1} → statement M
 some-parts-spec =

@@ -11,11 +11,11 @@ use Rattle.protocol.proofs.walks.sorts_end.Statement.{statement}
 use Rattle.protocol.proofs.walks.sorts_end.Tie as tie
 
 abbrev Inv-loop : tie.InvT-loop
-Inv-loop s at n i₀ j₀ i j =
-    (j ≤ n) × Came (below s sortCount) at j i
+Inv-loop file at n i₀ j₀ i j =
+    (j ≤ n) × Came (below file sortCount) at j i
 
 abbrev μ-loop : tie.MeasureT-loop
-μ-loop s at n i₀ j₀ i j =
+μ-loop file at n i₀ j₀ i j =
     n - j
 
 loop-holds : tie.Need-loop-holds Inv-loop μ-loop
@@ -54,7 +54,7 @@ returns-2 : tie.Need-returns-2 Inv-loop μ-loop
 returns-2 c =
     let c3 = c .before .before .before in
     let m : c .before .loop .j ≡ c3 .args .n = omega arith in
-    sym (sorts-came _ _ _ (subst (λ (k : ℕ). Came (below (now (c3 .args .s)) sortCount) (c3 .args .at) k (c .before .loop .i)) m (c .before .loop .inv .1)))
+    sym (sorts-came _ _ _ (subst (λ (k : ℕ). Came (below (now (c3 .args .file)) sortCount) (c3 .args .at) k (c .before .loop .i)) m (c .before .loop .inv .1)))
 
 pub sorts-end-spec : {M : Type 1} → statement M
 sorts-end-spec =

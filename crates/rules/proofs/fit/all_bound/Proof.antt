@@ -13,11 +13,11 @@ use Rattle.rules.proofs.fit.all_bound.Statement.{statement}
 use Rattle.rules.proofs.fit.all_bound.Tie as tie
 
 abbrev Inv-loop : tie.InvT-loop
-Inv-loop s arities ars at n j₀ j =
-    (j ≤ n) × OfRule s arities ars at (λ (r : Rule). n ≤ length (r .sorts) → allBelow (bound r) j ≡ true)
+Inv-loop file arities ars at n j₀ j =
+    (j ≤ n) × OfRule file arities ars at (λ (r : Rule). n ≤ length (r .sorts) → allBelow (bound r) j ≡ true)
 
 abbrev μ-loop : tie.MeasureT-loop
-μ-loop s arities ars at n j₀ j =
+μ-loop file arities ars at n j₀ j =
     n - j
 
 loop-holds : tie.Need-loop-holds Inv-loop μ-loop

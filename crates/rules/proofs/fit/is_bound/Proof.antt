@@ -23,7 +23,7 @@ list-asks-requires-2 c κs = search needs
 returns : tie.Need-returns
 returns c =
     let c6 = c .before .before .before .before .before .before in
-    bound-is (now (c6 .args .s)) (now (c6 .args .arities)) (now (c6 .args .ars)) (c6 .args .at) (c6 .args .v) _ _ _ _ refl
+    bound-is (now (c6 .args .file)) (now (c6 .args .arities)) (now (c6 .args .ars)) (c6 .args .at) (c6 .args .v) _ _ _ _ refl
     (c .before .before .sort-of .ensures) (c .before .list-asks .ensures) (c .list-asks2 .ensures)
 
 pub is-bound-spec : {M : Type 1} → statement M

@@ -33,7 +33,7 @@ returns : tie.Need-returns
 returns c =
     let c10 = c .before .before .before .before .before .before .before .before .before .before in
     let c20 = c10 .before .before .before .before .before .before .before .before .before .before in (
-      indexed-fault (now (c20 .args .s)) (c10 .read-protocol .last .1 .0) (c10 .read-protocol .last .1 .1 .0) (c10 .read-protocol .last .1 .1 .1 .0)
+      indexed-fault (now (c20 .args .file)) (c10 .read-protocol .last .1 .0) (c10 .read-protocol .last .1 .1 .0) (c10 .read-protocol .last .1 .1 .1 .0)
           (c10 .read-protocol .last .1 .1 .1 .1 .0) (c .enum-told .given .1) (c10 .read-protocol .ensures),
       tt,
     )
@@ -42,7 +42,8 @@ slice-reshare-prefix-least-unfit : tie.Need-slice-reshare-prefix-least-unfit
 slice-reshare-prefix-least-unfit c =
     let c12 = c .before .before .before .before .before .before .before .before .before .before .before .before in
     let c22 = c12 .before .before .before .before .before .before .before .before .before .before in
-    let b : c .before .before .ns .given .0 .0 ≤ 36 = (indexed-counts (now (c22 .args .s)) (c12 .read-protocol .last .1 .0) (c12 .read-protocol .last .1 .1 .0)
+    let b : c .before .before .ns .given .0 .0 ≤ 36 = (indexed-counts (now (c22 .args .file)) (c12 .read-protocol .last .1 .0)
+    (c12 .read-protocol .last .1 .1 .0)
     (c12 .read-protocol .last .1 .1 .1 .0) (c12 .read-protocol .last .1 .1 .1 .1 .0) (c .before .before .ns .given .1) (c12 .read-protocol .ensures))
     .few-symbols in
     omega (arith, c12 .read-protocol .kept)
@@ -52,7 +53,7 @@ slice-aggregate-least-unfit c =
     let c3 = c .before .before .before in
     let c13 = c3 .before .before .before .before .before .before .before .before .before .before in
     let c23 = c13 .before .before .before .before .before .before .before .before .before .before in
-    let b : c3 .ns .given .0 .0 ≤ 36 = (indexed-counts (now (c23 .args .s)) (c13 .read-protocol .last .1 .0) (c13 .read-protocol .last .1 .1 .0)
+    let b : c3 .ns .given .0 .0 ≤ 36 = (indexed-counts (now (c23 .args .file)) (c13 .read-protocol .last .1 .0) (c13 .read-protocol .last .1 .1 .0)
     (c13 .read-protocol .last .1 .1 .1 .0) (c13 .read-protocol .last .1 .1 .1 .1 .0) (c3 .ns .given .1) (c13 .read-protocol .ensures)) .few-symbols in
     simp length-take (omega (arith, c13 .read-protocol .kept))
 
@@ -61,7 +62,7 @@ least-unfit-requires c κs =
     let c4 = c .before .before .before .before in
     let c14 = c4 .before .before .before .before .before .before .before .before .before .before in
     let c24 = c14 .before .before .before .before .before .before .before .before .before .before in
-    let b : c4 .ns .given .0 .1 .0 ≤ 64 = (indexed-counts (now (c24 .args .s)) (c14 .read-protocol .last .1 .0) (c14 .read-protocol .last .1 .1 .0)
+    let b : c4 .ns .given .0 .1 .0 ≤ 64 = (indexed-counts (now (c24 .args .file)) (c14 .read-protocol .last .1 .0) (c14 .read-protocol .last .1 .1 .0)
     (c14 .read-protocol .last .1 .1 .1 .0) (c14 .read-protocol .last .1 .1 .1 .1 .0) (c4 .ns .given .1) (c14 .read-protocol .ensures)) .few-rules in
     (search needs, omega (arith, c14 .read-protocol .kept))
 
@@ -82,11 +83,11 @@ returns-2 c =
     let c6 = c .before .before .before .before .before .before in
     let c16 = c6 .before .before .before .before .before .before .before .before .before .before in
     let c26 = c16 .before .before .before .before .before .before .before .before .before .before in (
-      sym (none-broken (c .if1 .taken)) ∙ judged-is (now (c26 .args .s)) (c16 .read-protocol .last .1 .0) (c16 .read-protocol .last .1 .1 .0)
+      sym (none-broken (c .if1 .taken)) ∙ judged-is (now (c26 .args .file)) (c16 .read-protocol .last .1 .0) (c16 .read-protocol .last .1 .1 .0)
           (c16 .read-protocol .last .1 .1 .1 .0) (c16 .read-protocol .last .1 .1 .1 .1 .0)
-          (indexed-counts (now (c26 .args .s)) (c16 .read-protocol .last .1 .0) (c16 .read-protocol .last .1 .1 .0) (c16 .read-protocol .last .1 .1 .1 .0)
+          (indexed-counts (now (c26 .args .file)) (c16 .read-protocol .last .1 .0) (c16 .read-protocol .last .1 .1 .0) (c16 .read-protocol .last .1 .1 .1 .0)
           (c16 .read-protocol .last .1 .1 .1 .1 .0) (c6 .ns .given .1) (c16 .read-protocol .ensures)) (c .before .least-unfit .ensures),
-      (indexed-counts (now (c26 .args .s)) (c16 .read-protocol .last .1 .0) (c16 .read-protocol .last .1 .1 .0) (c16 .read-protocol .last .1 .1 .1 .0)
+      (indexed-counts (now (c26 .args .file)) (c16 .read-protocol .last .1 .0) (c16 .read-protocol .last .1 .1 .0) (c16 .read-protocol .last .1 .1 .1 .0)
           (c16 .read-protocol .last .1 .1 .1 .1 .0) (c6 .ns .given .1) (c16 .read-protocol .ensures)),
     )
 
@@ -107,9 +108,9 @@ returns-3 c =
     let c6 = c .before .before .before .before .before .before in
     let c16 = c6 .before .before .before .before .before .before .before .before .before .before in
     let c26 = c16 .before .before .before .before .before .before .before .before .before .before in (
-      sym (some-broken (c .if1 .left)) ∙ judged-is (now (c26 .args .s)) (c16 .read-protocol .last .1 .0) (c16 .read-protocol .last .1 .1 .0)
+      sym (some-broken (c .if1 .left)) ∙ judged-is (now (c26 .args .file)) (c16 .read-protocol .last .1 .0) (c16 .read-protocol .last .1 .1 .0)
           (c16 .read-protocol .last .1 .1 .1 .0) (c16 .read-protocol .last .1 .1 .1 .1 .0)
-          (indexed-counts (now (c26 .args .s)) (c16 .read-protocol .last .1 .0) (c16 .read-protocol .last .1 .1 .0) (c16 .read-protocol .last .1 .1 .1 .0)
+          (indexed-counts (now (c26 .args .file)) (c16 .read-protocol .last .1 .0) (c16 .read-protocol .last .1 .1 .0) (c16 .read-protocol .last .1 .1 .1 .0)
           (c16 .read-protocol .last .1 .1 .1 .1 .0) (c6 .ns .given .1) (c16 .read-protocol .ensures)) (c .before .least-unfit .ensures),
       tt,
     )

@@ -2,7 +2,7 @@ use borrow.Author.Needs.{needs}
 use Rattle.rules.specs.Fit.Laws.{unfit, placed-fits}
 use Rattle.lists.specs.Below.{least-none, least-more, least-hit, least}
 use Rattle.protocol.specs.Index.{Placed}
-use Rattle.protocol.specs.Protocol.{Rule, noRule, rule}
+use Rattle.protocol.specs.Protocol.{Rule, emptyRule, rule}
 use mathlib.Core.Path.{_≡_, ap, sym, _∙_}
 use mathlib.Core.List.{List}
 use Prim.Native.Nat.{_-_, _≤_}
@@ -12,11 +12,11 @@ use Rattle.rules.proofs.fit.least_unfit.Statement.{statement}
 use Rattle.rules.proofs.fit.least_unfit.Tie as tie
 
 abbrev Inv-loop : tie.InvT-loop
-Inv-loop s arities ars places n j₀ j =
-    (j ≤ n) × ((rs : List Rule) → Placed (rule s arities ars) noRule places rs n → least (unfit rs) j ≡ 0)
+Inv-loop file arities ars places n j₀ j =
+    (j ≤ n) × ((rs : List Rule) → Placed (rule file arities ars) emptyRule places rs n → least (unfit rs) j ≡ 0)
 
 abbrev μ-loop : tie.MeasureT-loop
-μ-loop s arities ars places n j₀ j =
+μ-loop file arities ars places n j₀ j =
     n - j
 
 loop-holds : tie.Need-loop-holds Inv-loop μ-loop
@@ -41,7 +41,7 @@ returns c =
     let c4 = c3 .before in
     let c9 = c4 .before .before .before .before .before in
     λ rs h. sym (least-hit (unfit rs) (c9 .args .n) (c4 .loop .j) (c4 .loop .inv .1 rs h)
-    (sym (placed-fits (now (c9 .args .s)) (now (c9 .args .arities)) (now (c9 .args .ars)) (now (c9 .args .places)) (c9 .args .n) (c4 .loop .j) _ rs h
+    (sym (placed-fits (now (c9 .args .file)) (now (c9 .args .arities)) (now (c9 .args .ars)) (now (c9 .args .places)) (c9 .args .n) (c4 .loop .j) _ rs h
     (c3 .loop-test .taken) (c .before .rule-fits .ensures)) ∙ c .if1 .taken) (c3 .loop-test .taken))
 
 add-j : tie.Need-add-j Inv-loop μ-loop
@@ -57,7 +57,7 @@ loop-again c =
     let c9 = c4 .before .before .before .before .before in (
       search needs,
       (λ rs h. least-more (unfit rs) (c4 .loop .j) (c4 .loop .inv .1 rs h)
-          (sym (placed-fits (now (c9 .args .s)) (now (c9 .args .arities)) (now (c9 .args .ars)) (now (c9 .args .places)) (c9 .args .n) (c4 .loop .j) _ rs h
+          (sym (placed-fits (now (c9 .args .file)) (now (c9 .args .arities)) (now (c9 .args .ars)) (now (c9 .args .places)) (c9 .args .n) (c4 .loop .j) _ rs h
           (c3 .loop-test .taken) (c .before .rule-fits .ensures)) ∙ c .if1 .left)),
     )
 

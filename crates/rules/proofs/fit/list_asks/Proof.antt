@@ -16,7 +16,8 @@ hit-of-requires c κs = search needs
 returns : tie.Need-returns
 returns c =
     let c6 = c .before .before .before .before .before .before in
-    list-asked (now (c6 .args .s)) (now (c6 .args .arities)) (now (c6 .args .ars)) (c6 .args .at) (c6 .args .w) (c6 .args .kind) (c6 .args .lo) (c6 .args .hi)
+    list-asked (now (c6 .args .file)) (now (c6 .args .arities)) (now (c6 .args .ars)) (c6 .args .at) (c6 .args .list) (c6 .args .kind) (c6 .args .lo)
+    (c6 .args .hi)
     _ (c6 .pre .1) (c .hit-of .ensures) (c .before .before .list-at .ensures) (c .before .one-part .ensures)
 
 pub list-asks-spec : {M : Type 1} → statement M

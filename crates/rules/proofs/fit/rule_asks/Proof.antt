@@ -13,7 +13,7 @@ hit-of-requires c κs = search needs
 returns : tie.Need-returns
 returns c =
     let c5 = c .before .before .before .before .before in
-    rule-asked (now (c5 .args .s)) (now (c5 .args .arities)) (now (c5 .args .ars)) (c5 .args .at) (c5 .args .kind) (c5 .args .lo) (c5 .args .hi)
+    rule-asked (now (c5 .args .file)) (now (c5 .args .arities)) (now (c5 .args .ars)) (c5 .args .at) (c5 .args .kind) (c5 .args .lo) (c5 .args .hi)
     (c .hit-of .ensures) (c .before .one-layout .ensures)
 
 pub rule-asks-spec : {M : Type 1} → statement M

@@ -28,7 +28,7 @@ returns c =
     let c3 = c .before .before .before in
     let c4 = c3 .before in
     let c8 = c4 .before .before .before .before in
-    λ r h. ap₂ _&&_ (fresh-asked (now (c8 .args .s)) (now (c8 .args .arities)) (now (c8 .args .ars)) (c8 .args .at) _ r (c4 .rule-asks .ensures r h))
+    λ r h. ap₂ _&&_ (fresh-asked (now (c8 .args .file)) (now (c8 .args .arities)) (now (c8 .args .ars)) (c8 .args .at) _ r (c4 .rule-asks .ensures r h))
     (ap₂ _&&_ (ap not (c3 .list-asks .ensures r h)) (ap₂ _&&_ (ap₂ _&&_ (ap not (c .before .before .list-asks2 .ensures r h))
     (ap not (c .before .list-asks3 .ensures r h))) (c .variables-bound .ensures r h)))
 

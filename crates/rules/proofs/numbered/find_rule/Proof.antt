@@ -33,7 +33,7 @@ same-length c = search needs
 returns : tie.Need-returns
 returns c =
     let c8 = c .before .before .before .before .before .before .before .before in
-    λ s ns ars flags i.
+    λ file ns ars flags i.
     let l : c8 .args .number < 5 = omega arith in
     record {
       its = fixed (c8 .args .number);
@@ -47,7 +47,7 @@ same-length-2 c = search needs
 returns-2 : tie.Need-returns-2
 returns-2 c =
     let c9 = c .before .before .before .before .before .before .before .before .before in
-    λ s ns ars flags i. finds-applied (i .is) (c9 .args .number) s (now (c9 .args .arities)) (take ns ars) (c .before .before .apply-rule .last .1 .1 .0)
+    λ file ns ars flags i. finds-applied (i .is) (c9 .args .number) file (now (c9 .args .arities)) (take ns ars) (c .before .before .apply-rule .last .1 .1 .0)
     (c9 .args .number - 2) (omega arith) (omega arith) (omega arith) (c .before .before .apply-rule .result)
     (c .before .before .apply-rule .ensures (i .is .functions) (i .within .arities) (i .slotted))
 
@@ -57,14 +57,15 @@ same-length-3 c = search needs
 returns-3 : tie.Need-returns-3
 returns-3 c =
     let c10 = c .before .before .before .before .before .before .before .before .before .before in
-    λ s ns ars flags i. finds-applied (i .is) (c10 .args .number) s (now (c10 .args .arities)) (take ns ars) (c .before .before .apply-rule2 .last .1 .1 .0)
+    λ file ns ars flags i. finds-applied (i .is) (c10 .args .number) file (now (c10 .args .arities)) (take ns ars)
+    (c .before .before .apply-rule2 .last .1 .1 .0)
     (c10 .args .number - 2) (omega arith) (omega arith) (omega arith) (c .before .before .apply-rule2 .result)
     (c .before .before .apply-rule2 .ensures (i .is .functions) (i .within .arities) (i .slotted))
 
 returns-4 : tie.Need-returns-4
 returns-4 c =
     let c7 = c .before .before .before .before .before .before .before in
-    λ s ns ars flags i. finds-own (i .is) (c7 .args .number) s (now (c7 .args .arities)) (take ns ars) (now (c7 .args .out)) (now (c7 .args .places))
+    λ file ns ars flags i. finds-own (i .is) (c7 .args .number) file (now (c7 .args .arities)) (take ns ars) (now (c7 .args .out)) (now (c7 .args .places))
     (c7 .args .nr) (i .placed) (omega arith) (c .own-rule .result) (c .own-rule .ensures)
 
 pub find-rule-spec : {M : Type 1} → statement M

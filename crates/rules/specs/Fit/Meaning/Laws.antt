@@ -24,21 +24,21 @@ use Rattle.lists.specs.All.Laws.{all-map}
 use Rattle.lists.specs.Below.{below-to, below-from}
 use Rattle.rules.specs.Fit.Meaning.Leaves.{lists-asked, asked-lists, variable-occurs, occurs-variable, among-asked, asked-two, asked-one}
 
-module _ (slots ars : List ℕ) (r : Rule) (w : RuleWithin slots ars r) where
-  ranges : All (All (λ f. All InRange (f .terms))) (r .parts)
+module _ (arities ars : List ℕ) (r : Rule) (w : RuleWithin arities ars r) where
+  ranges : All (All (λ f. All InRange (f .terms))) (r .lists)
   ranges =
-      all-map (FactsWithin slots ars) (All (λ f. All InRange (f .terms)))
-      (λ fs h. all-map (FactWithin slots ars) (λ f. All InRange (f .terms))
-      (λ f h. all-map (TermWithin slots) InRange (λ t h. h .range) (f .terms) (h .each)) fs (h .each))
-      (r .parts) (w .laid .each)
+      all-map (FactsWithin arities ars) (All (λ f. All InRange (f .terms)))
+      (λ fs h. all-map (FactWithin arities ars) (λ f. All InRange (f .terms))
+      (λ f h. all-map (TermWithin arities) InRange (λ t h. h .range) (f .terms) (h .each)) fs (h .each))
+      (r .lists) (w .laid .each)
 
   -- a variable that stands in the rule is declared
   in-sorts : (v : ℕ) → OccursIn variable v (conclusions r) → v < length (r .sorts)
   in-sorts v s =
       by-size v (length (r .sorts)) (λ l. l)
-      (λ l. absurd (not-both (anyBy (anyBy (leafIn 0 (length (r .sorts)) numberLimit)) (r .parts)) (w .bound)
-      (asked-lists variable (length (r .sorts)) v (r .parts) ranges l
-      (some-part (λ f. Some (Occurs variable v) (f .terms)) (r .parts) 2 s))))
+      (λ l. absurd (not-both (anyBy (anyBy (leafIn 0 (length (r .sorts)) numberLimit)) (r .lists)) (w .bound)
+      (asked-lists variable (length (r .sorts)) v (r .lists) ranges l
+      (some-part (λ f. Some (Occurs variable v) (f .terms)) (r .lists) 2 s))))
 
   bound-to : (v : ℕ) → bound r v ≡ true → OccursIn variable v (conclusions r) → OccursIn variable v (premises r) ⊎ (getD (r .sorts) v 0 ≡ 2)
   bound-to v h s =
@@ -72,7 +72,7 @@ module _ (slots ars : List ℕ) (r : Rule) (w : RuleWithin slots ars r) where
       let c = and-eq-true-iff (p3 r) (p4 r) .0 (b .1) in
       let d = and-eq-true-iff (not (anyBy (symbolIn 0 2) (conclusions r))) (not (anyBy (symbolIn 3 4) (conclusions r))) .0 (c .0) in
       record {
-        p1 = λ n s. not-both (anyBy (anyBy (leafIn 2 0 numberLimit)) (r .parts)) (a .0) (asked-lists fresh 0 n (r .parts) ranges (omega arith) s);
+        p1 = λ n s. not-both (anyBy (anyBy (leafIn 2 0 numberLimit)) (r .lists)) (a .0) (asked-lists fresh 0 n (r .lists) ranges (omega arith) s);
         p2 = λ s. not-both (anyBy (symbolIn 2 4) (premises r)) (b .0)
             (elim s [
               | inl s ↦ among-asked 2 4 3 (premises r) (omega arith) (omega arith) s
@@ -94,7 +94,7 @@ module _ (slots ars : List ℕ) (r : Rule) (w : RuleWithin slots ars r) where
   fit-from : Fit r → fits r ≡ true
   fit-from f =
       ap₂ _&&_
-      (not-from (anyBy (anyBy (leafIn 2 0 numberLimit)) (r .parts)) (λ h. let z = lists-asked fresh 0 numberLimit (r .parts) h in f .p1 (z .number) (z .has)))
+      (not-from (anyBy (anyBy (leafIn 2 0 numberLimit)) (r .lists)) (λ h. let z = lists-asked fresh 0 numberLimit (r .lists) h in f .p1 (z .number) (z .has)))
       (ap₂ _&&_ (not-from (anyBy (symbolIn 2 4) (premises r)) (λ h. f .p2 (asked-two 2 (premises r) h)))
       (ap₂ _&&_
       (ap₂ _&&_

@@ -9,19 +9,20 @@ use Rattle.protocol.specs.Index.{Placed}
 use Prim.Native.Nat.{ℕ, _-_, _≤_, _<_}
 use mathlib.Core.List.{List}
 use mathlib.Core.Path.{_≡_, _∙_, subst}
-use Rattle.steps.specs.Facts.{makes}
+use Rattle.steps.specs.Facts.{madeName}
 use lib.ListN.{length, getD}
 use native.Mathlib.Omega.{arith}
 use Rattle.steps.proofs.names.enter_names.Statement.{statement}
 use Rattle.steps.proofs.names.enter_names.Tie as tie
 
 abbrev Inv-loop : tie.InvT-loop
-Inv-loop s protocol arities rules nr places n names₀ j₀ names j =
-    (j ≤ n) × (length names ≡ length names₀) × ((p : Protocol) (xs : List Node) → IndexOf protocol arities rules nr p → Placed (node p s) noNode places xs n →
+Inv-loop file protocol arities rules nr places n names₀ j₀ names j =
+    (j ≤ n) × (length names ≡ length names₀) × ((p : Protocol) (xs : List Node) → IndexOf protocol arities rules nr p → Placed (node p file) noNode places xs n
+    →
     Entered names xs j)
 
 abbrev μ-loop : tie.MeasureT-loop
-μ-loop s protocol arities rules nr places n names₀ j₀ names j =
+μ-loop file protocol arities rules nr places n names₀ j₀ names j =
     n - j
 
 loop-holds : tie.Need-loop-holds Inv-loop μ-loop
@@ -60,7 +61,7 @@ loop-again c =
       omega arith,
       search needs,
       λ p xs i h. entered-more _ xs _ _ (c4 .loop .inv .2 p xs i h) b
-          (c .entry-of .ensures ∙ entry-made (makes (getD xs (c4 .loop .j) noNode)) (c .before .made-at .result)
+          (c .entry-of .ensures ∙ entry-made (madeName (getD xs (c4 .loop .j) noNode)) (c .before .made-at .result)
           (c .before .made-at .ensures p _ i (h .each (c4 .loop .j) (c3 .loop-test .taken)))),
     )
 

@@ -21,18 +21,19 @@ returns : tie.Need-returns
 returns c =
     let c3 = c .before .before .before in
     let c6 = c3 .before .before .before in
-    of-fresh (symbolAt (now (c6 .args .s)) (now (c6 .args .arities)) (c6 .args .at)) (c3 .name-at .result) (c3 .name-at .ensures) (c .before .f .given .1)
+    of-fresh (symbolAt (now (c6 .args .file)) (now (c6 .args .arities)) (c6 .args .at)) (c3 .name-at .result) (c3 .name-at .ensures) (c .before .f .given .1)
 
 returns-2 : tie.Need-returns-2
 returns-2 c =
     let c5 = c .before .before .before .before .before in
-    of-public (symbolAt (now (c5 .args .s)) (now (c5 .args .arities)) (c5 .args .at)) (c .before .before .name-at .result)
+    of-public (symbolAt (now (c5 .args .file)) (now (c5 .args .arities)) (c5 .args .at)) (c .before .before .name-at .result)
     (c .before .before .name-at .ensures) (c .enum-told .given .1)
 
 returns-3 : tie.Need-returns-3
 returns-3 c =
     let c5 = c .before .before .before .before .before in
-    of-other (symbolAt (now (c5 .args .s)) (now (c5 .args .arities)) (c5 .args .at)) (c .before .before .name-at .result) (c .before .before .name-at .ensures)
+    of-other (symbolAt (now (c5 .args .file)) (now (c5 .args .arities)) (c5 .args .at)) (c .before .before .name-at .result)
+    (c .before .before .name-at .ensures)
     (c .enum-told2 .given .1)
 
 pub fresh-at-spec : {M : Type 1} → statement M

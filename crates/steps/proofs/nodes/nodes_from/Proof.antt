@@ -10,11 +10,11 @@ use Rattle.steps.proofs.nodes.nodes_from.Statement.{statement}
 use Rattle.steps.proofs.nodes.nodes_from.Tie as tie
 
 abbrev Inv-loop : tie.InvT-loop
-Inv-loop s protocol arities rules nr at n places₀ i₀ j₀ places i j =
-    (j ≤ n) × (length places ≡ length places₀) × ((p : Protocol) → IndexOf protocol arities rules nr p → Passed p s at j i places)
+Inv-loop file protocol arities rules nr at n places₀ i₀ j₀ places i j =
+    (j ≤ n) × (length places ≡ length places₀) × ((p : Protocol) → IndexOf protocol arities rules nr p → Passed p file at j i places)
 
 abbrev μ-loop : tie.MeasureT-loop
-μ-loop s protocol arities rules nr at n places₀ i₀ j₀ places i j =
+μ-loop file protocol arities rules nr at n places₀ i₀ j₀ places i j =
     n - j
 
 loop-holds : tie.Need-loop-holds Inv-loop μ-loop

@@ -37,7 +37,7 @@ returns c =
     let c7 = c5 .before .before in
     let c13 = c7 .before .before .before .before .before .before in (
       search needs,
-      λ p i. told-as _ _ (nodes-got p _ _ (sym (c7 .below .ensures) ∙ ap asRead (c5 .n .given .1))) p (now (c13 .args .s))
+      λ p i. told-as _ _ (nodes-got p _ _ (sym (c7 .below .ensures) ∙ ap asRead (c5 .n .given .1))) p (now (c13 .args .file))
           (c .before .before .nodes-from .last .1 .1 .1 .1 .1 .1 .1 .0) (c .before .before .nodes-from .result) (c .before .before .nodes-from .ensures .1 p i),
     )
 

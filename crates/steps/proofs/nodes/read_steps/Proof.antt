@@ -19,7 +19,7 @@ returns c =
     let c6 = c .before .before .before .before .before .before in
     let c13 = c6 .before .before .before .before .before .before .before in (
       search needs,
-      λ p i. steps-end p (now (c13 .args .s)) (c6 .read-nodes .last .1 .1 .1 .1 .1 .1 .0) (c6 .read-nodes .result)
+      λ p i. steps-end p (now (c13 .args .file)) (c6 .read-nodes .last .1 .1 .1 .1 .1 .1 .0) (c6 .read-nodes .result)
           (c6 .read-nodes .ensures .1 p i) (c .before .before .n .given .1) (c .if1 .taken),
     )
 
@@ -37,7 +37,7 @@ returns-2 c =
     let c6 = c .before .before .before .before .before .before in
     let c13 = c6 .before .before .before .before .before .before .before in (
       search needs,
-      λ p i. steps-leftover p (now (c13 .args .s)) (c6 .read-nodes .last .1 .1 .1 .1 .1 .1 .0) (c6 .read-nodes .result)
+      λ p i. steps-leftover p (now (c13 .args .file)) (c6 .read-nodes .last .1 .1 .1 .1 .1 .1 .0) (c6 .read-nodes .result)
           (c6 .read-nodes .ensures .1 p i) (c .before .before .n .given .1) (c .if1 .left),
     )
 
@@ -49,7 +49,7 @@ returns-3 c =
     let c4 = c .before .before .before .before in
     let c11 = c4 .before .before .before .before .before .before .before in (
       search needs,
-      λ p i. steps-broken p (now (c11 .args .s)) (c4 .read-nodes .last .1 .1 .1 .1 .1 .1 .0) (c4 .read-nodes .result)
+      λ p i. steps-broken p (now (c11 .args .file)) (c4 .read-nodes .last .1 .1 .1 .1 .1 .1 .0) (c4 .read-nodes .result)
           (c4 .read-nodes .ensures .1 p i) (c .enum-told .given .1),
     )
 
@@ -61,7 +61,7 @@ returns-4 c =
     let c5 = c .before .before .before .before .before in
     let c12 = c5 .before .before .before .before .before .before .before in (
       search needs,
-      λ p i. steps-unknown p (now (c12 .args .s)) (c5 .read-nodes .last .1 .1 .1 .1 .1 .1 .0) (c5 .read-nodes .result)
+      λ p i. steps-unknown p (now (c12 .args .file)) (c5 .read-nodes .last .1 .1 .1 .1 .1 .1 .0) (c5 .read-nodes .result)
           (c5 .read-nodes .ensures .1 p i) (c .before .k .given .1),
     )
 

@@ -21,13 +21,13 @@ returns c =
     let c3 = c .before .before .before in
     let c6 = c3 .before .before .before in
     ap partEnd (sym (c .before .e .given .1) ∙ c3 .terms-end .ensures) ∙ part-end
-    (many (term (now (c6 .args .s)) (now (c6 .args .arities))) (c6 .args .k) (c6 .args .at))
+    (many (term (now (c6 .args .file)) (now (c6 .args .arities))) (c6 .args .k) (c6 .args .at))
 
 returns-2 : tie.Need-returns-2
 returns-2 c =
     let c5 = c .before .before .before .before .before in
     ap partEnd (sym (c .enum-told .given .1) ∙ c .before .before .terms-end .ensures) ∙ part-end
-    (many (term (now (c5 .args .s)) (now (c5 .args .arities))) (c5 .args .k) (c5 .args .at))
+    (many (term (now (c5 .args .file)) (now (c5 .args .arities))) (c5 .args .k) (c5 .args .at))
 
 pub values-end-spec : {M : Type 1} → statement M
 values-end-spec = tie.close (tie.spec terms-end-requires enum-known-e enum-told returns returns-2)

@@ -19,13 +19,13 @@ rule-nodes-requires c κs =
     let c14 = c13 .before in
     let g = c14 .pre .2 in
     let told = c6 .read-steps .ensures .1 (g .protocol) (g .index) in
-    let few = list-few (g .protocol) (now (c14 .args .s)) (c6 .read-steps .last .1 .1 .1 .1 .1 .0) (c6 .read-steps .result) told
+    let few = list-few (g .protocol) (now (c14 .args .file)) (c6 .read-steps .last .1 .1 .1 .1 .1 .0) (c6 .read-steps .result) told
     (c .before .before .n .given .1) (λ i. c13 .shared-slice-known .given i .fits) in (
       search needs,
       few,
       omega (arith, few, c6 .read-steps .ensures .0, c14 .pre .1),
       g,
-      list-some (g .index) (now (c14 .args .s))
+      list-some (g .index) (now (c14 .args .file))
           (c6 .read-steps .last .1 .1 .1 .1 .1 .0) (c6 .read-steps .result) told (c .before .before .n .given .1),
       c14 .pre .3,
     )
@@ -48,11 +48,11 @@ returns c =
     let told = c7 .read-steps .ensures .1 in (
       c7 .read-steps .ensures .0,
       (
-        λ p i. list-nodes p (now (c15 .args .s)) (c7 .read-steps .last .1 .1 .1 .1 .1 .0) (c7 .read-steps .result) (told p i) (c3 .n .given .1)
+        λ p i. list-nodes p (now (c15 .args .file)) (c7 .read-steps .last .1 .1 .1 .1 .1 .0) (c7 .read-steps .result) (told p i) (c3 .n .given .1)
             (c .rule-nodes .result) (λ xs pl. c .rule-nodes .ensures p xs i pl),
         λ p i.
-            let t = list-read p (now (c15 .args .s)) (c7 .read-steps .last .1 .1 .1 .1 .1 .0) (c7 .read-steps .result) (told p i) (c3 .n .given .1) in
-            where-good p (now (c15 .args .s)) (c7 .read-steps .last .1 .1 .1 .1 .1 .0) (λ k. c14 .shared-slice-known .given k .fits) _ _ t
+            let t = list-read p (now (c15 .args .file)) (c7 .read-steps .last .1 .1 .1 .1 .1 .0) (c7 .read-steps .result) (told p i) (c3 .n .given .1) in
+            where-good p (now (c15 .args .file)) (c7 .read-steps .last .1 .1 .1 .1 .1 .0) (λ k. c14 .shared-slice-known .given k .fits) _ _ t
             (c .rule-nodes .result) (c .rule-nodes .ensures p (t .items) i (t .placed)),
       ),
     )
@@ -66,7 +66,7 @@ returns-2 c =
     let c12 = c4 .before .before .before .before .before .before .before .before in (
       c4 .read-steps .ensures .0,
       (
-        λ p i. list-broken p (now (c12 .args .s)) (c4 .read-steps .last .1 .1 .1 .1 .1 .0) (c4 .read-steps .result) (c4 .read-steps .ensures .1 p i)
+        λ p i. list-broken p (now (c12 .args .file)) (c4 .read-steps .last .1 .1 .1 .1 .1 .0) (c4 .read-steps .result) (c4 .read-steps .ensures .1 p i)
             (c .enum-told .given .1),
         λ p i. tt,
       ),
@@ -81,7 +81,7 @@ returns-3 c =
     let c13 = c5 .before .before .before .before .before .before .before .before in (
       c5 .read-steps .ensures .0,
       (
-        λ p i. list-unknown p (now (c13 .args .s)) (c5 .read-steps .last .1 .1 .1 .1 .1 .0) (c5 .read-steps .result) (c5 .read-steps .ensures .1 p i)
+        λ p i. list-unknown p (now (c13 .args .file)) (c5 .read-steps .last .1 .1 .1 .1 .1 .0) (c5 .read-steps .result) (c5 .read-steps .ensures .1 p i)
             (c .before .k .given .1),
         λ p i. tt,
       ),

@@ -13,11 +13,11 @@ use Rattle.steps.proofs.sizes.fact_small.Tie as tie
 use Rattle.steps.proofs.sizes.fact_small.Reads as reads
 
 abbrev Inv-loop : tie.InvT-loop
-Inv-loop s arities ars place sizes y n j₀ j =
-    (j ≤ n) × (n ≤ 255) × ((f : Fact) → Here (fact s arities ars) f place → AllLeft (termSmall (sizeIn sizes)) noTerm (f .terms) j)
+Inv-loop file arities ars place sizes y n j₀ j =
+    (j ≤ n) × (n ≤ 255) × ((f : Fact) → Here (fact file arities ars) f place → AllLeft (termSmall (sizeIn sizes)) noTerm (f .terms) j)
 
 abbrev μ-loop : tie.MeasureT-loop
-μ-loop s arities ars place sizes y n j₀ j =
+μ-loop file arities ars place sizes y n j₀ j =
     n - j
 
 symbol-of-requires : tie.Need-symbol-of-requires Inv-loop μ-loop

@@ -13,11 +13,11 @@ use Rattle.steps.proofs.sizes.list_small.Statement.{statement}
 use Rattle.steps.proofs.sizes.list_small.Tie as tie
 
 abbrev Inv-loop : tie.InvT-loop
-Inv-loop s arities ars place sizes n j₀ j =
-    (j ≤ n) × ((fs : List Fact) → Here (facts s arities ars) fs place → AllLeft (factSmall (sizeIn sizes)) noFact fs j)
+Inv-loop file arities ars place sizes n j₀ j =
+    (j ≤ n) × ((fs : List Fact) → Here (facts file arities ars) fs place → AllLeft (factSmall (sizeIn sizes)) noFact fs j)
 
 abbrev μ-loop : tie.MeasureT-loop
-μ-loop s arities ars place sizes n j₀ j =
+μ-loop file arities ars place sizes n j₀ j =
     n - j
 
 count-of-requires : tie.Need-count-of-requires Inv-loop μ-loop

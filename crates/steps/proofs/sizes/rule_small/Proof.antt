@@ -13,16 +13,16 @@ use Rattle.steps.proofs.sizes.rule_small.Statement.{statement}
 use Rattle.steps.proofs.sizes.rule_small.Tie as tie
 
 abbrev Inv-loop : tie.InvT-loop
-Inv-loop s arities ars place sizes j₀ j =
-    (j ≤ 3) × ((u : Rule) → Here (rule s arities ars) u place → AllLeft (listSmall (sizeIn sizes)) [] (u .parts) j)
+Inv-loop file arities ars place sizes j₀ j =
+    (j ≤ 3) × ((u : Rule) → Here (rule file arities ars) u place → AllLeft (listSmall (sizeIn sizes)) [] (u .lists) j)
 
 abbrev μ-loop : tie.MeasureT-loop
-μ-loop s arities ars place sizes j₀ j =
+μ-loop file arities ars place sizes j₀ j =
     3 - j
 
 loop-holds : tie.Need-loop-holds Inv-loop μ-loop
 loop-holds c =
-    (search needs, λ u h. all-start (listSmall (sizeIn (now (c .before .before .before .before .args .sizes)))) [] (u .parts))
+    (search needs, λ u h. all-start (listSmall (sizeIn (now (c .before .before .before .before .args .sizes)))) [] (u .lists))
 
 list-at-requires : tie.Need-list-at-requires Inv-loop μ-loop
 list-at-requires c κs = search needs
@@ -34,7 +34,7 @@ list-small-requires c κs =
       search needs,
       c7 .pre .1,
       record {
-        its = getD (q .its .parts) (c .before .before .loop .j) [];
+        its = getD (q .its .lists) (c .before .before .loop .j) [];
         here = list-there _ _ _ _ (q .its) (q .here) _ _
             (c .before .loop-test .taken) (c .list-at .ensures);
       },
@@ -53,8 +53,8 @@ loop-again c =
     let c9 = c4 .before .before .before .before .before in (
       omega arith,
       λ u h.
-          let l : c4 .loop .j < length (u .parts) = omega (arith, lists-many _ _ _ _ u h) in
-          all-more (listSmall (sizeIn (now (c9 .args .sizes)))) [] (u .parts) (c4 .loop .j) l
+          let l : c4 .loop .j < length (u .lists) = omega (arith, lists-many _ _ _ _ u h) in
+          all-more (listSmall (sizeIn (now (c9 .args .sizes)))) [] (u .lists) (c4 .loop .j) l
           (sym (c .before .list-small .ensures _ (list-there _ _ _ _ u h _ _ (c3 .loop-test .taken) (c .before .before .list-at .ensures))) ∙ c .if1 .taken)
           (c4 .loop .inv .1 u h),
     )
@@ -65,14 +65,14 @@ returns c =
     let c4 = c3 .before in
     let c9 = c4 .before .before .before .before .before in
     λ u h.
-    let l : c4 .loop .j < length (u .parts) = omega (arith, lists-many _ _ _ _ u h) in
-    all-bad (listSmall (sizeIn (now (c9 .args .sizes)))) [] (u .parts) (c4 .loop .j) l
+    let l : c4 .loop .j < length (u .lists) = omega (arith, lists-many _ _ _ _ u h) in
+    all-bad (listSmall (sizeIn (now (c9 .args .sizes)))) [] (u .lists) (c4 .loop .j) l
     (sym (c .before .list-small .ensures _ (list-there _ _ _ _ u h _ _ (c3 .loop-test .taken) (c .before .before .list-at .ensures))) ∙ c .if1 .left)
     (c4 .loop .inv .1 u h)
 
 returns-2 : tie.Need-returns-2 Inv-loop μ-loop
 returns-2 c =
-    λ u h. all-done (listSmall (sizeIn (now (c .before .before .before .before .before .before .args .sizes)))) [] (u .parts) (c .before .loop .j)
+    λ u h. all-done (listSmall (sizeIn (now (c .before .before .before .before .before .before .args .sizes)))) [] (u .lists) (c .before .loop .j)
     (omega (arith, lists-many _ _ _ _ u h)) (c .before .loop .inv .1 u h)
 
 pub rule-small-spec : {M : Type 1} → statement M

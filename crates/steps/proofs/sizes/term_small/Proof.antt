@@ -16,12 +16,12 @@ use Rattle.steps.proofs.sizes.term_small.Tie as tie
 use Rattle.steps.proofs.sizes.term_small.Reads as reads
 
 abbrev Inv-loop : tie.InvT-loop
-Inv-loop s arities at sizes i₀ pending₀ sum₀ i pending sum =
-    (pending ≤ 255 * i + 1) × ((t : Term) (e : ℕ) → term s arities at ≡ got t e → Going s arities (sizeIn sizes) t sum pending i)
+Inv-loop file arities at sizes i₀ pending₀ sum₀ i pending sum =
+    (pending ≤ 255 * i + 1) × ((t : Term) (e : ℕ) → term file arities at ≡ got t e → Going file arities (sizeIn sizes) t sum pending i)
 
 abbrev μ-loop : tie.MeasureT-loop
-μ-loop s arities at sizes i₀ pending₀ sum₀ i pending sum =
-    length s - i
+μ-loop file arities at sizes i₀ pending₀ sum₀ i pending sum =
+    length file - i
 
 loop-holds : tie.Need-loop-holds Inv-loop μ-loop
 loop-holds c =
@@ -44,7 +44,7 @@ add-sum c =
     let c6 = c3 .before .before .before in
     let c10 = c6 .before .before .before .before in
     let b : _ ≤ longest = weight-small (sizeIn (now (c10 .args .sizes))) (longest) (omega arith) (c10 .pre .1)
-    (symbolAt (now (c10 .args .s)) (now (c10 .args .arities)) (c6 .loop .i)) (sym (c3 .one-weight .ensures) ∙ c .before .a .given .1) in
+    (symbolAt (now (c10 .args .file)) (now (c10 .args .arities)) (c6 .loop .i)) (sym (c3 .one-weight .ensures) ∙ c .before .a .given .1) in
     omega (arith, b)
 
 sub-pending : tie.Need-sub-pending Inv-loop μ-loop
@@ -111,7 +111,7 @@ returns-3 c =
     λ t e h.
     let z : c .before .loop .pending ≡ 0 = omega arith in
     ap (λ (n : ℕ). ltb n (suc mostFilledIn)) (going-ends _ _ (sizeIn (now (c5 .args .sizes))) t _ _
-    (subst (λ (k : ℕ). Going (now (c5 .args .s)) (now (c5 .args .arities)) (sizeIn (now (c5 .args .sizes))) t (c .before .loop .sum) k
+    (subst (λ (k : ℕ). Going (now (c5 .args .file)) (now (c5 .args .arities)) (sizeIn (now (c5 .args .sizes))) t (c .before .loop .sum) k
     (c .before .loop .i)) z (c .before .loop .inv .1 t e h)))
 
 pub term-small-spec : {M : Type 1} → statement M

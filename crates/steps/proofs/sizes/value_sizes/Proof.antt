@@ -12,11 +12,12 @@ use Rattle.steps.proofs.sizes.value_sizes.Statement.{statement}
 use Rattle.steps.proofs.sizes.value_sizes.Tie as tie
 
 abbrev Inv-loop : tie.InvT-loop
-Inv-loop s arities at k sizes₀ i₀ v₀ sizes i v =
-    (v ≤ k) × (length sizes ≡ length sizes₀) × ((vs : List Term) (e : ℕ) (h : many (term s arities) k at ≡ got vs e) → Sized s arities k at vs e h v i sizes)
+Inv-loop file arities at k sizes₀ i₀ v₀ sizes i v =
+    (v ≤ k) × (length sizes ≡ length sizes₀) × ((vs : List Term) (e : ℕ) (h : many (term file arities) k at ≡ got vs e) → Sized file arities k at vs e h v i
+    sizes)
 
 abbrev μ-loop : tie.MeasureT-loop
-μ-loop s arities at k sizes₀ i₀ v₀ sizes i v =
+μ-loop file arities at k sizes₀ i₀ v₀ sizes i v =
     k - v
 
 loop-holds : tie.Need-loop-holds Inv-loop μ-loop

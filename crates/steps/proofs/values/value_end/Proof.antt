@@ -20,13 +20,13 @@ returns c =
     let c3 = c .before .before .before in
     let c6 = c3 .before .before .before in
     ap (behindPart (c6 .args .at)) (sym (c .before .e .given .1) ∙ c3 .term-end .ensures) ∙ behind-part (c6 .args .at)
-    (term (now (c6 .args .s)) (now (c6 .args .arities)) (c6 .args .at))
+    (term (now (c6 .args .file)) (now (c6 .args .arities)) (c6 .args .at))
 
 returns-2 : tie.Need-returns-2
 returns-2 c =
     let c5 = c .before .before .before .before .before in
     ap (behindPart (c5 .args .at)) (sym (c .enum-told .given .1) ∙ c .before .before .term-end .ensures) ∙ behind-part (c5 .args .at)
-    (term (now (c5 .args .s)) (now (c5 .args .arities)) (c5 .args .at))
+    (term (now (c5 .args .file)) (now (c5 .args .arities)) (c5 .args .at))
 
 pub value-end-spec : {M : Type 1} → statement M
 value-end-spec = tie.close (tie.spec term-end-requires enum-known-e enum-told returns returns-2)

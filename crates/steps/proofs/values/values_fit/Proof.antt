@@ -13,11 +13,11 @@ use Rattle.steps.proofs.values.values_fit.Statement.{statement}
 use Rattle.steps.proofs.values.values_fit.Tie as tie
 
 abbrev Inv-loop : tie.InvT-loop
-Inv-loop s arities at src place k i₀ v₀ i v =
-    (v ≤ k) × ((u : Rule) (vs : List Term) (e : ℕ) (h : RuleHere arities s src place at u vs e) → Left h v i)
+Inv-loop file arities at src place k i₀ v₀ i v =
+    (v ≤ k) × ((u : Rule) (vs : List Term) (e : ℕ) (h : RuleHere arities file src place at u vs e) → Left h v i)
 
 abbrev μ-loop : tie.MeasureT-loop
-μ-loop s arities at src place k i₀ v₀ i v =
+μ-loop file arities at src place k i₀ v₀ i v =
     k - v
 
 loop-holds : tie.Need-loop-holds Inv-loop μ-loop

@@ -28,12 +28,12 @@ each-small : (θ : ℕ → Term) (ts : Terms) → symbolss (subs θ ts) ≤ most
 each-small θ nil h = tt
 each-small θ (t & ts) h = (omega arith, each-small θ ts (omega arith))
 
-module _ (slots vals starts src : List ℕ) (at k n o : ℕ) (θ : ℕ → Term) where
-  module _ (t : Term) (us : Terms) (J : Job slots vals starts src at k n o θ (t & us)) where
+module _ (arities vals starts src : List ℕ) (at k n o : ℕ) (θ : ℕ → Term) where
+  module _ (t : Term) (us : Terms) (J : Job arities vals starts src at k n o θ (t & us)) where
     there-one : drop at src ≡ encode t ++ (encodes us ++ J .rest)
     there-one = J .there ∙ append-assoc (encode t) (encodes us) (J .rest)
 
-    pub here-one : Here slots src at (at + length (encode t)) t
+    pub here-one : Here arities src at (at + length (encode t)) t
     here-one = record { formed = J .formed .0; range = J .range .0; stands = stands-at src at (encode t) _ there-one }
 
     pub inside-source : at + length (encode t) ≤ length src
@@ -44,7 +44,7 @@ module _ (slots vals starts src : List ℕ) (at k n o : ℕ) (θ : ℕ → Term)
 
     pub next-job :
         (at′ n′ o′ : ℕ) → at′ ≡ at + length (encode t) → n′ ≡ n → o′ ≤ o + length (encode (sub θ t))
-        → Job slots vals starts src at′ (k - 1) n′ o′ θ us
+        → Job arities vals starts src at′ (k - 1) n′ o′ θ us
     next-job at′ n′ o′ p e l = record {
       table = J .table;
       many = omega (arith, J .many);
@@ -60,8 +60,8 @@ module _ (slots vals starts src : List ℕ) (at k n o : ℕ) (θ : ℕ → Term)
     }
 
   pub args-job :
-      (f : ℕ) (args us : Terms) → Job slots vals starts src at k n o θ (app f args & us) → (at′ k′ n′ o′ : ℕ) → at′ ≡ at + length (groups f)
-      → count args ≡ k′ → n′ ≡ n → o′ ≡ o + length (groups f) → Job slots vals starts src at′ k′ n′ o′ θ args
+      (f : ℕ) (args us : Terms) → Job arities vals starts src at k n o θ (app f args & us) → (at′ k′ n′ o′ : ℕ) → at′ ≡ at + length (groups f)
+      → count args ≡ k′ → n′ ≡ n → o′ ≡ o + length (groups f) → Job arities vals starts src at′ k′ n′ o′ θ args
   args-job f args us J at′ k′ n′ o′ p c e l = record {
     table = J .table;
     many = c;
@@ -78,60 +78,60 @@ module _ (slots vals starts src : List ℕ) (at k n o : ℕ) (θ : ℕ → Term)
 
 -- no term is left
 pub none-done :
-    (slots vals starts src : List ℕ) (at k : ℕ) (inside : Bool) (out : List ℕ) (o : ℕ) → k ≡ 0
-    → Promises₂ (Job slots vals starts src at k (length out) o) (λ (θ : ℕ → Term) (ts : Terms). Out (o + length (encodes (subs θ ts))) at out o out at o
+    (arities vals starts src : List ℕ) (at k : ℕ) (inside : Bool) (out : List ℕ) (o : ℕ) → k ≡ 0
+    → Promises₂ (Job arities vals starts src at k (length out) o) (λ (θ : ℕ → Term) (ts : Terms). Out (o + length (encodes (subs θ ts))) at out o out at o
     (encodes ts) (encodes (mades inside θ ts)))
-none-done slots vals starts src at k inside out o z θ nil J = record { read = omega arith; wrote = wrote-nothing _ o out }
-none-done slots vals starts src at k inside out o z θ (t & us) J = absurd (omega (arith, J .many))
+none-done arities vals starts src at k inside out o z θ nil J = record { read = omega arith; wrote = wrote-nothing _ o out }
+none-done arities vals starts src at k inside out o z θ (t & us) J = absurd (omega (arith, J .many))
 
 -- ── by the first symbol ──
-module _ (slots vals starts src : List ℕ) (at k n o : ℕ) (isLeaf : Bool) (tag number next : ℕ)
-    (F : Promises₂ (Here slots src at) (λ (e : ℕ) (t : Term). FirstAt t at isLeaf tag number next)) (more : k ≢ 0) where
+module _ (arities vals starts src : List ℕ) (at k n o : ℕ) (isLeaf : Bool) (tag number next : ℕ)
+    (F : Promises₂ (Here arities src at) (λ (e : ℕ) (t : Term). FirstAt t at isLeaf tag number next)) (more : k ≢ 0) where
   pub leaf-case :
-      (P : Terms → Type 0) (θ : ℕ → Term) (ts : Terms) → isLeaf ≡ true → Job slots vals starts src at k n o θ ts
+      (P : Terms → Type 0) (θ : ℕ → Term) (ts : Terms) → isLeaf ≡ true → Job arities vals starts src at k n o θ ts
       → ((kd : Kind) (us : Terms) → tag ≡ tagOf kd → next ≡ at + length (encode (leaf kd number))
-      → Job slots vals starts src at k n o θ (leaf kd number & us) → P (leaf kd number & us))
+      → Job arities vals starts src at k n o θ (leaf kd number & us) → P (leaf kd number & us))
       → P ts
   leaf-case P θ nil b J c = absurd (more (sym (J .many)))
   leaf-case P θ (leaf kd m & us) b J c =
-      let f = F _ (leaf kd m) (here-one slots vals starts src at k n o θ (leaf kd m) us J) in
+      let f = F _ (leaf kd m) (here-one arities vals starts src at k n o θ (leaf kd m) us J) in
       let q : m ≡ number = sym (f .number-is) in
       subst (λ (i : ℕ). P (leaf kd i & us)) (sym q)
       (c kd us (f .tag-is) (f .next-is ∙ ap (λ (i : ℕ). at + length (encode (leaf kd i))) q)
-      (subst (λ (i : ℕ). Job slots vals starts src at k n o θ (leaf kd i & us)) q J))
+      (subst (λ (i : ℕ). Job arities vals starts src at k n o θ (leaf kd i & us)) q J))
   leaf-case P θ (app g args & us) b J c =
-      let f = F _ (app g args) (here-one slots vals starts src at k n o θ (app g args) us J) in
+      let f = F _ (app g args) (here-one arities vals starts src at k n o θ (app g args) us J) in
       let q : true ≡ false = sym b ∙ f .leaf-is in
       clash (cc)
 
   pub op-case :
-      (P : Terms → Type 0) (θ : ℕ → Term) (ts : Terms) → isLeaf ≡ false → Job slots vals starts src at k n o θ ts
+      (P : Terms → Type 0) (θ : ℕ → Term) (ts : Terms) → isLeaf ≡ false → Job arities vals starts src at k n o θ ts
       → ((args us : Terms) → count args ≡ number → next ≡ at + length (groups tag)
-      → Job slots vals starts src at k n o θ (app tag args & us) → P (app tag args & us))
+      → Job arities vals starts src at k n o θ (app tag args & us) → P (app tag args & us))
       → P ts
   op-case P θ nil b J c = absurd (more (sym (J .many)))
   op-case P θ (leaf kd m & us) b J c =
-      let f = F _ (leaf kd m) (here-one slots vals starts src at k n o θ (leaf kd m) us J) in
+      let f = F _ (leaf kd m) (here-one arities vals starts src at k n o θ (leaf kd m) us J) in
       let q : false ≡ true = sym b ∙ f .leaf-is in
       clash (cc)
   op-case P θ (app g args & us) b J c =
-      let f = F _ (app g args) (here-one slots vals starts src at k n o θ (app g args) us J) in
+      let f = F _ (app g args) (here-one arities vals starts src at k n o θ (app g args) us J) in
       let q : g ≡ tag = sym (f .tag-is) in
       subst (λ (i : ℕ). P (app i args & us)) (sym q)
       (c args us (sym (f .number-is)) (f .next-is ∙ ap (λ (i : ℕ). at + length (groups i)) q)
-      (subst (λ (i : ℕ). Job slots vals starts src at k n o θ (app i args & us)) q J))
+      (subst (λ (i : ℕ). Job arities vals starts src at k n o θ (app i args & us)) q J))
 
   -- the place moves on, within the source
-  pub ahead : Asks₂ (Job slots vals starts src at k n o) → (at < next) × (at < length src)
+  pub ahead : Asks₂ (Job arities vals starts src at k n o) → (at < next) × (at < length src)
   ahead (θ, nil, J) = absurd (more (sym (J .many)))
   ahead (θ, (leaf kd m & us), J) =
-      let f = F _ (leaf kd m) (here-one slots vals starts src at k n o θ (leaf kd m) us J) in
+      let f = F _ (leaf kd m) (here-one arities vals starts src at k n o θ (leaf kd m) us J) in
       let l = encode-some (leaf kd m) in
-      (omega (arith, f .next-is, l), omega (arith, l, inside-source slots vals starts src at k n o θ (leaf kd m) us J))
+      (omega (arith, f .next-is, l), omega (arith, l, inside-source arities vals starts src at k n o θ (leaf kd m) us J))
   ahead (θ, (app g args & us), J) =
-      let f = F _ (app g args) (here-one slots vals starts src at k n o θ (app g args) us J) in
+      let f = F _ (app g args) (here-one arities vals starts src at k n o θ (app g args) us J) in
       let l = encode-some (app g args) in
-      (omega (arith, f .next-is, groups-some g), omega (arith, l, inside-source slots vals starts src at k n o θ (app g args) us J))
+      (omega (arith, f .next-is, groups-some g), omega (arith, l, inside-source arities vals starts src at k n o θ (app g args) us J))
 
 -- ── a leaf ──
 leaf-made : (inside : Bool) (θ : ℕ → Term) (kd : Kind) (m : ℕ) → made inside θ (leaf kd m) ≡ sub θ (leaf kd m)
@@ -140,50 +140,51 @@ leaf-made inside θ public m = refl
 leaf-made inside θ fresh m = refl
 
 leaf-job :
-    (slots vals starts src : List ℕ) (at k n o tag number : ℕ) (θ : ℕ → Term) (kd : Kind) (us : Terms) → tag ≡ tagOf kd
-    → Job slots vals starts src at k n o θ (leaf kd number & us) → LeafJob slots vals starts n o tag number θ kd
-leaf-job slots vals starts src at k n o tag number θ kd us t J = record {
+    (arities vals starts src : List ℕ) (at k n o tag number : ℕ) (θ : ℕ → Term) (kd : Kind) (us : Terms) → tag ≡ tagOf kd
+    → Job arities vals starts src at k n o θ (leaf kd number & us) → LeafJob arities vals starts n o tag number θ kd
+leaf-job arities vals starts src at k n o tag number θ kd us t J = record {
   kind = t;
   range = J .range .0;
   values = λ v c. J .values v (inl c);
-  room = let r = room-one slots vals starts src at k n o θ (leaf kd number) us J in omega arith;
+  room = let r = room-one arities vals starts src at k n o θ (leaf kd number) us J in omega arith;
   values-short = J .values-short;
 }
 
-module _ (slots vals starts src : List ℕ) (at k : ℕ) (out : List ℕ) (o : ℕ) (isLeaf : Bool) (tag number next : ℕ)
-    (F : Promises₂ (Here slots src at) (λ (e : ℕ) (t : Term). FirstAt t at isLeaf tag number next)) (more : k ≢ 0) (b : isLeaf ≡ true) where
-  pub leaf-asks : Asks₂ (Job slots vals starts src at k (length out) o) → Asks₂ (LeafJob slots vals starts (length out) o tag number)
+module _ (arities vals starts src : List ℕ) (at k : ℕ) (out : List ℕ) (o : ℕ) (isLeaf : Bool) (tag number next : ℕ)
+    (F : Promises₂ (Here arities src at) (λ (e : ℕ) (t : Term). FirstAt t at isLeaf tag number next)) (more : k ≢ 0) (b : isLeaf ≡ true) where
+  pub leaf-asks : Asks₂ (Job arities vals starts src at k (length out) o) → Asks₂ (LeafJob arities vals starts (length out) o tag number)
   leaf-asks (θ, ts, J) =
-      leaf-case slots vals starts src at k (length out) o isLeaf tag number next F more
-      (λ ts. (Asks₂ (LeafJob slots vals starts (length out) o tag number))) θ ts b J
-      (λ kd us t p J. (θ, kd, leaf-job slots vals starts src at k (length out) o tag number θ kd us t J))
+      leaf-case arities vals starts src at k (length out) o isLeaf tag number next F more
+      (λ ts. (Asks₂ (LeafJob arities vals starts (length out) o tag number))) θ ts b J
+      (λ kd us t p J. (θ, kd, leaf-job arities vals starts src at k (length out) o tag number θ kd us t J))
 
-  module _ (out₁ : List ℕ) (p : ℕ) (same : length out₁ ≡ length out) (D : Promises₂ (LeafJob slots vals starts (length out) o tag number)
+  module _ (out₁ : List ℕ) (p : ℕ) (same : length out₁ ≡ length out) (D : Promises₂ (LeafJob arities vals starts (length out) o tag number)
       (λ (θ : ℕ → Term) (k : Kind). Wrote p out o out₁ p (encode (sub θ (leaf k number))))) where
     rest-job :
         (θ : ℕ → Term) (kd : Kind) (us : Terms) → tag ≡ tagOf kd → next ≡ at + length (encode (leaf kd number))
-        → Job slots vals starts src at k (length out) o θ (leaf kd number & us)
-        → Job slots vals starts src next (k - 1) (length out₁) p θ us
+        → Job arities vals starts src at k (length out) o θ (leaf kd number & us)
+        → Job arities vals starts src next (k - 1) (length out₁) p θ us
     rest-job θ kd us t e J =
-        let d = D θ kd (leaf-job slots vals starts src at k (length out) o tag number θ kd us t J) in
-        next-job slots vals starts src at k (length out) o θ (leaf kd number) us J next (length out₁) p e same (omega (arith, d .ends))
+        let d = D θ kd (leaf-job arities vals starts src at k (length out) o tag number θ kd us t J) in
+        next-job arities vals starts src at k (length out) o θ (leaf kd number) us J next (length out₁) p e same (omega (arith, d .ends))
 
-    pub leaf-next : Asks₂ (Job slots vals starts src at k (length out) o) → Asks₂ (Job slots vals starts src next (k - 1) (length out₁) p)
+    pub leaf-next : Asks₂ (Job arities vals starts src at k (length out) o) → Asks₂ (Job arities vals starts src next (k - 1) (length out₁) p)
     leaf-next (θ, ts, J) =
-        leaf-case slots vals starts src at k (length out) o isLeaf tag number next F more
-        (λ ts. (Asks₂ (Job slots vals starts src next (k - 1) (length out₁) p))) θ ts b J
+        leaf-case arities vals starts src at k (length out) o isLeaf tag number next F more
+        (λ ts. (Asks₂ (Job arities vals starts src next (k - 1) (length out₁) p))) θ ts b J
         (λ kd us t e J. (θ, us, rest-job θ kd us t e J))
 
     pub leaf-done :
-        (inside : Bool) (out′ : List ℕ) (at′ o′ : ℕ) → Promises₂ (Job slots vals starts src next (k - 1) (length out₁) p)
+        (inside : Bool) (out′ : List ℕ) (at′ o′ : ℕ) → Promises₂ (Job arities vals starts src next (k - 1) (length out₁) p)
         (λ (θ : ℕ → Term) (ts : Terms). Out (p + length (encodes (subs θ ts))) next out₁ p out′ at′ o′ (encodes ts) (encodes (mades inside θ ts)))
-        → Promises₂ (Job slots vals starts src at k (length out) o) (λ (θ : ℕ → Term) (ts : Terms). Out (o + length (encodes (subs θ ts))) at out o out′ at′ o′
+        → Promises₂ (Job arities vals starts src at k (length out) o) (λ (θ : ℕ → Term) (ts : Terms). Out (o + length (encodes (subs θ ts))) at out o out′ at′
+        o′
         (encodes ts) (encodes (mades inside θ ts)))
     leaf-done inside out′ at′ o′ M θ ts J =
-        leaf-case slots vals starts src at k (length out) o isLeaf tag number next F more
+        leaf-case arities vals starts src at k (length out) o isLeaf tag number next F more
         (λ ts. Out (o + length (encodes (subs θ ts))) at out o out′ at′ o′ (encodes ts) (encodes (mades inside θ ts))) θ ts b J
         (λ kd us t e J.
-        let d = D θ kd (leaf-job slots vals starts src at k (length out) o tag number θ kd us t J) in
+        let d = D θ kd (leaf-job arities vals starts src at k (length out) o tag number θ kd us t J) in
         let m = M θ us (rest-job θ kd us t e J) in
         let w : ℕ = o + length (encodes (subs θ (leaf kd number & us))) in
         let l = length-append (encode (sub θ (leaf kd number))) (encodes (subs θ us)) in

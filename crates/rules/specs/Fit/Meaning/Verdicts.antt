@@ -11,8 +11,8 @@ use Rattle.lists.specs.Choice.{pick, cut, cut-eq, by-size, clash}
 use Rattle.octets.specs.Head.{Bytes}
 use Rattle.number.specs.Reading.{Read, got, fault}
 use Rattle.lists.specs.All.{All}
-use Rattle.term.specs.Arity.{slots}
-use Rattle.protocol.specs.Protocol.{Protocol, noRule, factArities, protocol}
+use Rattle.term.specs.Arity.{tagArities}
+use Rattle.protocol.specs.Protocol.{Protocol, emptyRule, factArities, protocol}
 use Rattle.protocol.specs.Protocol.Limits.{RuleWithin, Within}
 use Rattle.protocol.specs.Protocol.Exact.{protocol-form}
 use Rattle.rules.specs.Fit.{fits, sound, broken, outcome, judged}
@@ -77,15 +77,15 @@ all-nth P d (x ∷ xs) a (suc k) l = all-nth P d xs (a .1) k (omega arith)
 module _ (p : Protocol) (w : Within p) where
   -- the rule of this place is fit, by the test
   abbrev Fine : ℕ → Type 0
-  Fine k = Fit (getD (p .rules) k noRule)
+  Fine k = Fit (getD (p .rules) k emptyRule)
 
-  decided : (k : ℕ) → k < length (p .rules) → (fits (getD (p .rules) k noRule) ≡ true) ↔ Fine k
+  decided : (k : ℕ) → k < length (p .rules) → (fits (getD (p .rules) k emptyRule) ≡ true) ↔ Fine k
   decided k l =
-      fit-exactly (slots (p .functions)) (factArities (p .symbols)) (getD (p .rules) k noRule)
-      (all-nth (RuleWithin (slots (p .functions)) (factArities (p .symbols))) noRule (p .rules) (w .rules) k l)
+      fit-exactly (tagArities (p .functions)) (factArities (p .symbols)) (getD (p .rules) k emptyRule)
+      (all-nth (RuleWithin (tagArities (p .functions)) (factArities (p .symbols))) emptyRule (p .rules) (w .rules) k l)
 
   fine-to : (k : ℕ) → k < length (p .rules) → unfit (p .rules) k ≡ false → Fine k
-  fine-to k l h = decided k l .0 (not-false (fits (getD (p .rules) k noRule)) h)
+  fine-to k l h = decided k l .0 (not-false (fits (getD (p .rules) k emptyRule)) h)
 
   fine-from : (k : ℕ) → k < length (p .rules) → Fine k → unfit (p .rules) k ≡ false
   fine-from k l f = ap not (decided k l .1 f)
@@ -124,7 +124,7 @@ module _ (p : Protocol) (w : Within p) where
       (first-least (unfit (p .rules)) (length (p .rules)) k
       record {
         inside = b .inside;
-        hit = not-from (fits (getD (p .rules) k noRule)) (λ h. b .not-fit (decided k (b .inside) .0 h));
+        hit = not-from (fits (getD (p .rules) k emptyRule)) (λ h. b .not-fit (decided k (b .inside) .0 h));
         before = λ i l. fine-from i (omega (arith, b .inside)) (b .before i l);
       })
       ∙ some-broken (λ h. absurd (omega arith))
@@ -137,10 +137,10 @@ pub record Place (k : ℕ) : Type 0 where
   pub from-one : 0 < k
   pub small : k ≤ 64
 
-module _ (s : List ℕ) (bytes : Bytes s) where
-  place-of : (k : ℕ) (o : Read Protocol) → protocol s ≡ o → judged o ≡ broken k → Place k
+module _ (file : List ℕ) (bytes : Bytes file) where
+  place-of : (k : ℕ) (o : Read Protocol) → protocol file ≡ o → judged o ≡ broken k → Place k
   place-of k (got p e) r h =
-      let w = protocol-form s bytes p e r in
+      let w = protocol-form file bytes p e r in
       let few : length (p .rules) ≤ 64 = w .within .few-rules in
       let l = least-bound (unfit (p .rules)) (length (p .rules)) in
       cut-eq _ _ _ (least (unfit (p .rules)) (length (p .rules))) 0 h
@@ -149,5 +149,5 @@ module _ (s : List ℕ) (bytes : Bytes s) where
       record { from-one = by-size 0 k (λ l. l) (λ l. absurd (z (omega arith))); small = omega arith })
   place-of k fault r h = clash (cc)
 
-  pub broken-place : (k : ℕ) → judged (protocol s) ≡ broken k → Place k
-  broken-place k h = place-of k (protocol s) refl h
+  pub broken-place : (k : ℕ) → judged (protocol file) ≡ broken k → Place k
+  broken-place k h = place-of k (protocol file) refl h
