@@ -4,7 +4,13 @@ use Prim.Native.Nat.{ℕ, _+_, _≤_}
 use Rattle.case_file.specs.declared.Case.{Case}
 use Rattle.case_file.specs.declared.Range.{Range}
 
--- the room for the input
+-- the values of a byte, the bytes of a length, and the room for the input
+abbrev pub byte : ℕ
+byte = 256
+
+abbrev pub lengthBytes : ℕ
+lengthBytes = 2
+
 abbrev pub room : ℕ
 room = 65536
 

@@ -3,16 +3,13 @@
 // that: the arity of each free function, or a protocol file; the length of the bytes; the bytes. A length is two bytes, low byte first.
 ghost use Prim.Native.Nat.{_≤_, _<_, _+_};
 ghost use lib.ListN.{length};
-ghost use Rattle.case_file.specs.Case.{room, Inside, Behind, CaseAt};
+ghost use Rattle.case_file.specs.Case.{byte, lengthBytes, room, Inside, Behind, CaseAt};
 
 // The room for the input.
 pub const ROOM: usize = 65536;
 
 // The kind of a case that is a number.
 pub const NUMBER: u8 = 0;
-
-// The free functions that a protocol may declare.
-pub const MOST_FREE: usize = 16;
 
 // The bytes of a length.
 const LENGTH: usize = 2;
@@ -64,14 +61,14 @@ pub fn show_refusal(number: usize, item: usize) {
 }
 
 fn wide(x: u8) -> usize
-    ensures { λ r. ⌜ r < 256 ⌝ }
+    ensures { λ r. ⌜ r < byte ⌝ }
 {
     x as usize
 }
 
 fn length_at(s: &[u8; ROOM], at: usize) -> usize
-    requires { ⌜ at + 2 ≤ room ⌝ }
-    ensures { λ r. ⌜ r < 65536 ⌝ }
+    requires { ⌜ at + lengthBytes ≤ room ⌝ }
+    ensures { λ r. ⌜ r < room ⌝ }
 {
     wide(s[at]) + BYTE * wide(s[at + 1])
 }

@@ -2,19 +2,19 @@
 ghost use Prim.Native.Nat.{_≤_};
 ghost use lib.ListN.{length};
 ghost use Rattle.case_file.specs.Case.{room};
-use case_file::MOST_FREE;
+ghost use Rattle.term.specs.Tags.{mostFunctions};
 use case_file::part;
 use number::Number;
 use term::Part;
 
 // The tags of leaves and of built-in functions.
-const BUILT_IN: usize = 13;
+const BUILT_IN: usize = term::FIRST_FREE;
 
 // Their arities.
 const ARITIES: [u8; BUILT_IN] = *b"\xff\xff\xff\x00\x02\x02\x01\x02\x01\x01\x02\x01\x02";
 
 // A slot for each tag.
-const SLOTS: usize = BUILT_IN + MOST_FREE;
+const SLOTS: usize = term::TAGS;
 
 fn show_number(s: &[u8]) {
     match number::read_number(s, 0) {
@@ -44,12 +44,12 @@ fn show_term(s: &[u8], arities: &[u8])
 
 // The first of the free functions, those that have a slot.
 fn slotted(free: &[u8]) -> &[u8]
-    ensures { λ r. ⌜ length (now r) ≤ 16 ⌝ }
+    ensures { λ r. ⌜ length (now r) ≤ mostFunctions ⌝ }
 {
-    if free.len() <= MOST_FREE {
+    if free.len() <= term::MOST_FUNCTIONS {
         return free;
     }
-    &free[0..MOST_FREE]
+    &free[0..term::MOST_FUNCTIONS]
 }
 
 // The table of slots for these free functions.

@@ -1,7 +1,7 @@
 // Runs the call canonical form on the cases of standard input and writes a line for each: its number, and the bytes of the canonical form.
-use case_file::MOST_FREE;
 use case_file::part;
 use checker::Written;
+use term::MOST_FUNCTIONS;
 
 // Bytes are written in hexadecimal.
 const BASE: usize = 16;
@@ -33,10 +33,10 @@ fn show_bytes(s: &[u8]) {
 
 // The canonical form of a term under a protocol that declares these free functions and nothing else.
 fn show_form(free: &[u8], term: &[u8]) {
-    if MOST_FREE < free.len() {
+    if MOST_FUNCTIONS < free.len() {
         return;
     }
-    let mut protocol = [0u8; COUNTS + MOST_FREE];
+    let mut protocol = [0u8; COUNTS + MOST_FUNCTIONS];
     protocol[0] = free.len() as u8;
     octets::copy_into(&mut protocol, 1, free);
     let mut output = [0u8; OUTPUT];

@@ -11,11 +11,20 @@ ghost use Rattle.term.specs.Arity.{tagArities};
 ghost use Rattle.protocol.specs.Protocol.{encodeRule};
 ghost use Rattle.protocol.specs.Index.{Entries};
 ghost use Rattle.rules.specs.Numbered.{fixed, applies, ruleRoom, firstApply};
-ghost use Rattle.rules.specs.Numbered.Bytes.{variableBytes, premiseBytes};
+ghost use Rattle.rules.specs.Numbered.Bytes.{variableBytes, premiseBytes, premiseRoom};
 ghost use Rattle.rules.specs.Numbered.Writing.{Put};
 ghost use Rattle.rules.specs.Numbered.Found.{Applies, placeFound, Finds};
 ghost use Rattle.rules.specs.Numbered.Part.{Fits, partOf};
 use protocol::figures;
+
+// The rules 0 to 4 by what they do; the last learns a fresh name.
+const MAKES_FRESH: usize = 0;
+
+const HEARS: usize = 1;
+
+const INJECTS: usize = 2;
+
+const NAMES: usize = 3;
 
 // The rules 0 to 4; "Rule t+2 applies the function of tag t": the built-in functions', then the free functions'; "a protocol rule r (from 0) is 31+r".
 const LAST_FIXED: usize = 4;
@@ -50,14 +59,14 @@ fn put_fixed(out: &mut [u8], n: usize) -> usize
     ensures { λ e. ⌜ Put (now (out .entry)) 0 (now (out .exit)) e (encodeRule (fixed n)) ⌝ }
 {
     match n {
-        0 => octets::copy_into(out, 0, b"\x01\x01\x00\x00\x01\x00\x00\x00"),
-        1 => octets::copy_into(out, 0, b"\x01\x00\x01\x02\x00\x00\x00\x01\x03\x00\x00"),
-        2 => octets::copy_into(
+        MAKES_FRESH => octets::copy_into(out, 0, b"\x01\x01\x00\x00\x01\x00\x00\x00"),
+        HEARS => octets::copy_into(out, 0, b"\x01\x00\x01\x02\x00\x00\x00\x01\x03\x00\x00"),
+        INJECTS => octets::copy_into(
             out,
             0,
             b"\x01\x00\x01\x03\x00\x00\x01\x03\x00\x00\x01\x01\x00\x00",
         ),
-        3 => octets::copy_into(out, 0, b"\x01\x02\x00\x00\x01\x03\x00\x00"),
+        NAMES => octets::copy_into(out, 0, b"\x01\x02\x00\x00\x01\x03\x00\x00"),
         _ => octets::copy_into(out, 0, b"\x01\x01\x01\x00\x00\x00\x00\x01\x03\x00\x00"),
     }
 }
@@ -80,7 +89,7 @@ fn put_variables(out: &mut [u8], at: usize, lead: &[u8], k: u8) -> usize
 
 // The sorts of k message variables, and the premises K of each.
 fn put_premises(out: &mut [u8], k: u8) -> usize
-    requires { ⌜ 2 + 4 * k ≤ length (now out) ⌝ }
+    requires { ⌜ premiseRoom k ≤ length (now out) ⌝ }
     ensures { λ e. ⌜ Put (now (out .entry)) 0 (now (out .exit)) e (premiseBytes k) ⌝ }
 {
     let end = 1 + k as usize;

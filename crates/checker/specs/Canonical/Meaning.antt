@@ -25,7 +25,7 @@ use Rattle.checker.specs.Canonical.Cases.{work-short, protocol-over, ter
 use Rattle.checker.specs.Canonical.Files.{Encodes, taken, forms}
 
 module _ (protocol term output : List ℕ) (work : ℕ) where
-  pub record Written (n : ℕ) : Type 0 where
+  pub record FormWritten (n : ℕ) : Type 0 where
     -- the term that the files hold
     pub held : Term
     pub files : Encodes protocol term held
@@ -45,7 +45,7 @@ module _ (protocol term output : List ℕ) (work : ℕ) where
   never n m k e f = absurd (refused-passed m k n (sym f ∙ e))
 
   module _ (bytes : Bytes term) (n : ℕ) (e : Outcome ≡ passed n) where
-    of-term : (t : Term) → termOf protocol term ≡ passed t → roomRuling (length output) t ≡ passed n → Written n
+    of-term : (t : Term) → termOf protocol term ≡ passed t → roomRuling (length output) t ≡ passed n → FormWritten n
     of-term t i r =
         let f = taken protocol term bytes t i in
         let ar = arity (tagArities (f .is .functions)) in
@@ -64,11 +64,11 @@ module _ (protocol term output : List ℕ) (work : ℕ) where
           left = sym (output-written protocol term output (encode (canon t)) work n e (forms protocol term bytes t i));
         })
 
-    of-ruling : (r : Ruling Term) → termOf protocol term ≡ r → andThen r (roomRuling (length output)) ≡ passed n → Written n
+    of-ruling : (r : Ruling Term) → termOf protocol term ≡ r → andThen r (roomRuling (length output)) ≡ passed n → FormWritten n
     of-ruling (passed t) i q = of-term t i q
     of-ruling (refused m k) i q = absurd (refused-passed m k n q)
 
-    pub written-meaning : Written n
+    pub written-meaning : FormWritten n
     written-meaning =
         by-size work workNeed
         (λ l. never n 1 0 e (work-short protocol term (length output) work l))

@@ -75,7 +75,11 @@ module _ (code : Term → List ℕ) (lead : List ℕ) (each : (v : ℕ) → v < 
   variables-bytes i zero h = refl
   variables-bytes i (suc n) h = ap₂ _++_ (each i (omega arith)) (variables-bytes (suc i) n (omega arith))
 
-pub premise-length : (k : ℕ) → length (premiseBytes k) ≡ 2 + 4 * k
+-- as many bytes as k sorts and k premises take, with their counts
+abbrev pub premiseRoom : ℕ → ℕ
+premiseRoom k = 2 + 4 * k
+
+pub premise-length : (k : ℕ) → length (premiseBytes k) ≡ premiseRoom k
 premise-length k = simp (length-append, length-replicate, variable-bytes-length) (omega arith)
 
 flat-known : (ts : List Term) → flat encodeFact (map known ts) ≡ flat (λ t. encodeFact (known t)) ts
