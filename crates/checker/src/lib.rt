@@ -1,14 +1,17 @@
 // The exported calls.
 ghost use mathlib.Core.Path.{_≡_};
-ghost use Prim.Native.Nat.{_≤_};
+ghost use Prim.Native.Nat.{_≤_, ℕ};
 ghost use lib.ListN.{length};
+ghost use mathlib.Core.List.{List};
+ghost use Rattle.term.specs.Term.{Term};
+ghost use Rattle.lists.specs.Asks.{Asks, Asks₂, Promises, Promises₂};
 ghost use Rattle.octets.specs.Limits.{longest};
 ghost use Rattle.rewriting.specs.Table.{refused};
-ghost use Rattle.checker.specs.Answer.{written, packed};
+ghost use Rattle.checker.specs.Answer.{written, packed, workNeed};
 ghost use Rattle.checker.specs.Files.{termRuling};
 ghost use Rattle.checker.specs.Files.Answers.{fileOf};
 ghost use Rattle.checker.specs.Canonical.{canonicalOutcome, canonicalOutput, canonicalWork};
-ghost use Rattle.checker.specs.Canonical.Contracts.{Forms, FormedAs, Unders, UnderAs, InsideAs};
+ghost use Rattle.checker.specs.Canonical.Contracts.{Form, Formed, Under, Judges, Inside};
 use protocol::figures;
 use rules::fit::FitVerdict;
 use term::Walk;
@@ -95,8 +98,8 @@ fn refused(number: u32, item: u32) -> Written
 
 // Writes the canonical form of the term file's term to the start of the output.
 fn write_form(term: &[u8], arities: &[u8], output: &mut [u8]) -> Written
-    requires { ⌜ Forms (now arities) (now term) ⌝ }
-    ensures { λ r. ⌜ FormedAs (now (arities .entry)) (now (term .entry)) (now (output .entry)) (now (output .exit)) r ⌝ }
+    requires { ⌜ Asks₂ (Form (now arities) (now term)) ⌝ }
+    ensures { λ r. ⌜ Promises₂ (Form (now (arities .entry)) (now (term .entry))) (λ (free : List ℕ) (t : Term). Formed t (now (output .entry)) (now (output .exit)) r) ⌝ }
 {
     let mut form = [0u8; term::TERM_ROOM];
     let n = canonical::canonical_term(&mut form, term, 0, arities);
@@ -109,8 +112,8 @@ fn write_form(term: &[u8], arities: &[u8], output: &mut [u8]) -> Written
 
 // The term file under the table of a fit protocol: refused, or its canonical form is written.
 fn under_protocol(term: &[u8], arities: &[u8], output: &mut [u8]) -> Written
-    requires { ⌜ Unders (now arities) (now term) ⌝ }
-    ensures { λ r. ⌜ UnderAs (now (arities .entry)) (now (term .entry)) (now (output .entry)) (now (output .exit)) r ⌝ }
+    requires { ⌜ Asks (Under (now arities) (now term)) ⌝ }
+    ensures { λ r. ⌜ Promises (Under (now (arities .entry)) (now (term .entry))) (λ (free : List ℕ). Judges (termRuling (now (arities .entry)) (now (term .entry))) (now (output .entry)) (now (output .exit)) r) ⌝ }
 {
     match term_file(term, arities) {
         TermFile::Small => write_form(term, arities, output),
@@ -121,7 +124,7 @@ fn under_protocol(term: &[u8], arities: &[u8], output: &mut [u8]) -> Written
 
 // The files, where the work area is long enough.
 fn canonical_inside(protocol: &[u8], term: &[u8], output: &mut [u8]) -> Written
-    ensures { λ r. ⌜ InsideAs (now (protocol .entry)) (now (term .entry)) (now (output .entry)) (now (output .exit)) r ⌝ }
+    ensures { λ r. ⌜ Promises (λ (work : ℕ). workNeed ≤ work) (Inside (now (protocol .entry)) (now (term .entry)) (now (output .entry)) (now (output .exit)) r) ⌝ }
 {
     if PROTOCOL_LIMIT < protocol.len() {
         return refused(FILE_LONG, PROTOCOL_ITEM);

@@ -8,7 +8,7 @@ use Rattle.term.specs.Term.{Term}
 use Rattle.term.specs.Arity.{tagArities}
 use Rattle.rewriting.specs.Table.{Ruling, passed, andThen}
 use Rattle.checker.specs.declared.Written.{Written}
-use Rattle.checker.specs.Answer.{workNeed, written, outputAfter}
+use Rattle.checker.specs.Answer.{written, outputAfter}
 use Rattle.checker.specs.Files.{termLimit, termRuling}
 use Rattle.checker.specs.Canonical.{roomRuling, formOf, canonicalOutcome, canonicalOutput}
 
@@ -19,16 +19,10 @@ pub record Form (arities term free : List ℕ) (t : Term) : Type 0 where
   pub bytes : Bytes term
   pub short : length term ≤ termLimit
 
-abbrev pub Forms : List ℕ → List ℕ → Type 0
-Forms arities term = (free : List ℕ) × (t : Term) × Form arities term free t
-
 -- its canonical form is written, or the output is short
 pub record Formed (t : Term) (output output′ : List ℕ) (r : Written) : Type 0 where
   pub answer : written r ≡ roomRuling (length output) t
   pub left : output′ ≡ outputAfter (roomRuling (length output) t) (formOf (passed t)) output
-
-abbrev pub FormedAs : List ℕ → List ℕ → List ℕ → List ℕ → Written → Type 0
-FormedAs arities term output output′ r = (free : List ℕ) (t : Term) → Form arities term free t → Formed t output output′ r
 
 -- ── under the table of a fit protocol ──
 pub record Under (arities term free : List ℕ) : Type 0 where
@@ -36,21 +30,12 @@ pub record Under (arities term free : List ℕ) : Type 0 where
   pub bytes : Bytes term
   pub short : length term ≤ termLimit
 
-abbrev pub Unders : List ℕ → List ℕ → Type 0
-Unders arities term = (free : List ℕ) × Under arities term free
-
 -- the term is refused, or its canonical form is written, or the output is short
 pub record Judges (ruling : Ruling Term) (output output′ : List ℕ) (r : Written) : Type 0 where
   pub answer : written r ≡ andThen ruling (roomRuling (length output))
   pub left : output′ ≡ outputAfter (andThen ruling (roomRuling (length output))) (formOf ruling) output
 
-abbrev pub UnderAs : List ℕ → List ℕ → List ℕ → List ℕ → Written → Type 0
-UnderAs arities term output output′ r = (free : List ℕ) → Under arities term free → Judges (termRuling arities term) output output′ r
-
 -- ── the call, with any work area that is long enough ──
 pub record Inside (protocol term output output′ : List ℕ) (r : Written) (work : ℕ) : Type 0 where
   pub answer : written r ≡ canonicalOutcome protocol term (length output) work
   pub left : output′ ≡ canonicalOutput protocol term output work
-
-abbrev pub InsideAs : List ℕ → List ℕ → List ℕ → List ℕ → Written → Type 0
-InsideAs protocol term output output′ r = (work : ℕ) → workNeed ≤ work → Inside protocol term output output′ r work

@@ -7,6 +7,7 @@ use mathlib.Core.Path.{_≡_, refl, ap, ap₂, sym, _∙_, subst}
 use native.Mathlib.Omega.{arith}
 use lib.ListN.{length, replicate}
 use borrow.Author.Tests.{ne-eqb}
+use Rattle.lists.specs.Asks.{Promises}
 use Rattle.term.specs.Sizes.{mostSymbols}
 use Rattle.lists.specs.Choice.{pick, by-size, clash}
 use Rattle.number.specs.Reading.{Read, got, fault}
@@ -24,7 +25,7 @@ use Rattle.checker.specs.Passing.{less-yes, less-no}
 use Rattle.checker.specs.Files.{protocolLimit, termLimit, protocolItem, termItem, layout, fitRuling, protocolRuling, termFile, sizeRuling, termRuling}
 use Rattle.checker.specs.Files.Answers.{fileOf}
 use Rattle.checker.specs.Canonical.{termOf, need, roomRuling, formOf, canonicalOutcome, canonicalOutput, canonicalWork}
-use Rattle.checker.specs.Canonical.Contracts.{Form, Formed, Under, Judges, InsideAs}
+use Rattle.checker.specs.Canonical.Contracts.{Form, Formed, Under, Judges, Inside}
 use Rattle.checker.specs.Canonical.Cases.{sized, output-kept}
 
 -- ── the ruling of a term file is one of three ──
@@ -99,14 +100,14 @@ judges-formed r t output output′ w e f = record {
 module _ (protocol term output : List ℕ) (w : Written) where
   pub inside-refused :
       (n k : ℕ) → ((work : ℕ) → workNeed ≤ work → canonicalOutcome protocol term (length output) work ≡ refused n k)
-      → written w ≡ refused n k → InsideAs protocol term output output w
+      → written w ≡ refused n k → Promises (λ (work : ℕ). workNeed ≤ work) (Inside protocol term output output w)
   inside-refused n k h q work l =
       record { answer = q ∙ sym (h work l); left = output-kept protocol term output work n k (h work l) }
 
   pub inside-judged :
       (p : length protocol ≤ protocolLimit) (t : length term ≤ termLimit) (q : Protocol) (output′ : List ℕ)
       → protocolRuling protocol ≡ passed q → Judges (termRuling (tagArities (q .functions)) term) output output′ w
-      → InsideAs protocol term output output′ w
+      → Promises (λ (work : ℕ). workNeed ≤ work) (Inside protocol term output output′ w)
   unfolding canonicalOutput
   inside-judged p t q output′ fit j work l =
       let under : termOf protocol term ≡ termRuling (tagArities (q .functions)) term =
