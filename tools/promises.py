@@ -13,7 +13,14 @@ import sys
 top = os.path.dirname(os.path.dirname(os.path.abspath(__file__)))
 
 
+missing_files = set()
+
+
 def read(path):
+    """The text of a file; of a file that is missing an empty one, and that is a fault."""
+    if not os.path.exists(os.path.join(top, path)):
+        missing_files.add(path)
+        return ""
     return open(os.path.join(top, path), encoding="utf8").read()
 
 
@@ -230,12 +237,11 @@ def main():
             faults.append(f"line {number}: neither open nor a citation: {answer}")
         for path, name in cites(line):
             cited += 1
-            if not os.path.exists(os.path.join(top, path)):
-                faults.append(f"line {number}: no file {path}")
-            elif not defined(name, read(path)):
+            if not defined(name, read(path)):
                 faults.append(f"line {number}: {path} does not define {name}")
     belief = Believed(text)
     faults += belief.faults()
+    faults += [f"no file {path}" for path in sorted(missing_files)]
     print(f"promises: {rows} rows, {opened} open, {cited} names cited, {belief.lines()} lines to believe, {len(faults)} faults")
     for fault in faults:
         print("  ", fault)
