@@ -18,7 +18,7 @@ missing_files = set()
 
 def read(path):
     """The text of a file; of a file that is missing an empty one, and that is a fault."""
-    if not os.path.exists(os.path.join(top, path)):
+    if not os.path.isfile(os.path.join(top, path)):
         missing_files.add(path)
         return ""
     return open(os.path.join(top, path), encoding="utf8").read()
