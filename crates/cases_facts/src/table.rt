@@ -19,7 +19,7 @@ const MOST_ARGUMENTS: usize = 256;
 // The lists of facts of a node: premises, actions, conclusions.
 const LISTS: usize = protocol::figures::LISTS;
 
-// The places of the first n facts.
+// The first n facts, each by its node, list and number.
 pub struct Facts {
     pub places: [FactId; MOST_FACTS],
     pub n: usize,
@@ -50,7 +50,7 @@ fn with_fact(
     }
 }
 
-// And those of list w of the node at a place.
+// And those of one list of the node at a place.
 fn with_list(
     before: Facts,
     file: &[u8],

@@ -15,7 +15,7 @@ ghost use Rattle.steps.specs.Index.{IndexOf, Given};
 ghost use Rattle.steps.specs.Values.Filled.{ArityTable};
 use number::Number;
 
-// How many facts list w of the rule at a place has.
+// How many facts a list of the rule at a place has.
 fn rule_count(src: &[u8], arities: &[u8], ars: &[u8], place: usize, list: usize) -> usize
     requires { ⌜ (length (now src) ≤ longest) × (list < listCount) ⌝ }
     ensures { λ r. ⌜ Bytes (now (src .entry)) × ((u : Rule) → Here (rule (now (src .entry)) (now (arities .entry)) (now (ars .entry))) u place → r ≡ length (listOf list u)) ⌝ }

@@ -30,7 +30,7 @@ pub struct WrittenFact {
     pub end: usize,
 }
 
-// Fact i of list w of the rule at a place of src, with the k values from a place of file on filled in.
+// Fact i of a list of the rule at a place of src, with the k values from a place of file on filled in.
 fn rule_fact(
     out: &mut [u8],
     o: usize,
@@ -60,7 +60,7 @@ fn rule_fact(
     }
 }
 
-// Fact i of list w of a node whose rule number was read.
+// Fact i of a list of a node whose rule number was read.
 fn fact_from(
     out: &mut [u8],
     o: usize,

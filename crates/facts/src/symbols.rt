@@ -16,7 +16,7 @@ ghost use Rattle.facts.specs.Calls.{HasFact, WholeFact, factAt};
 use crate::nodes::FactId;
 use number::Number;
 
-// The symbol of fact i of list w of the rule at a place.
+// The symbol of fact i of a list of the rule at a place.
 fn rule_symbol(src: &[u8], arities: &[u8], ars: &[u8], place: usize, list: usize, i: usize) -> usize
     requires { ⌜ length (now src) ≤ longest ⌝ }
     ensures { λ r. ⌜ Bytes (now (src .entry)) × ((u : Rule) → Here (rule (now (src .entry)) (now (arities .entry)) (now (ars .entry))) u place → i < length (listOf list u) → r ≡ getD (listOf list u) i noFact .symbol) ⌝ }

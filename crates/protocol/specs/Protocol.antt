@@ -57,7 +57,7 @@ own-of a l = record { arity = a; flag = l }
 abbrev pub protocol-of : List ℕ → List Own → List Rule → Protocol
 protocol-of fs os rs = record { functions = fs; symbols = os; rules = rs }
 
--- the list of number list: 0 premises, 1 actions, 2 conclusions
+-- the list of a number: 0 premises, 1 actions, 2 conclusions
 abbrev pub listOf : ℕ → Rule → List Fact
 listOf list r = getD (r .lists) list []
 

@@ -62,7 +62,7 @@ pub fn sort_of(file: &[u8], at: usize, v: u32) -> usize
     }
 }
 
-// The place of list w of the rule at a place: 0 premises, 1 actions, 2 conclusions.
+// The place of a list of the rule at a place: 0 premises, 1 actions, 2 conclusions.
 pub fn list_at(file: &[u8], arities: &[u8], ars: &[u8], at: usize, list: usize) -> usize
     requires { ⌜ length (now file) ≤ longest ⌝ }
     ensures { λ r. ⌜ r ≡ listPlace (now (file .entry)) (now (arities .entry)) (now (ars .entry)) at list ⌝ }

@@ -41,7 +41,7 @@ fn hit_of(r: Seen) -> bool
     }
 }
 
-// Whether a fact of list w of the rule at a place meets the test.
+// Whether a fact of one list of the rule at a place meets the test.
 fn list_asks(
     file: &[u8],
     arities: &[u8],

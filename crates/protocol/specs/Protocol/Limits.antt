@@ -12,7 +12,7 @@ use Rattle.term.specs.Term.{Term, symbols, Formed, InRange}
 use Rattle.term.specs.Arity.{arity, tagArities}
 use Rattle.protocol.specs.Protocol.{Fact, Rule, Own, Protocol, factArities, declared}
 
--- under the arities of functions (slots) and of fact symbols (ars)
+-- under the arities of functions, a slot for each tag (arities), and of fact symbols (ars)
 module _ (arities : List ℕ) where
   -- "a rule's term has at most 64 symbols", each a declared function's, its numbers as a file can hold them
   pub record TermWithin (t : Term) : Type 0 where

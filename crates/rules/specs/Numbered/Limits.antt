@@ -191,7 +191,7 @@ module _ (arities : List ℕ) where
             (pick b x y)
         by-test b {x} {y} p q = elim b [ true ↦ p | false ↦ q ]
 
-    -- of anyBy arity that leaves no more premises than a list may have
+    -- of any arity that leaves no more premises than a list may have
     pub applies-within : (t k : ℕ) → arity arities t ≡ some k → t < 256 → k ≤ 8 → RuleWithin arities (factArities os) (applies t k)
     applies-within t k h l m =
         record {
