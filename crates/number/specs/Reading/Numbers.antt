@@ -95,7 +95,7 @@ in-back (suc k) n at file rest small e =
 pub read-back : (file : List ℕ) (at n : ℕ) (rest : List ℕ) → n < numberLimit → drop at file ≡ groups n ++ rest → readNumber file at ≡ got n
     (at + length (groups n))
 unfolding readNumber numberLimit
-read-back file at n rest small e = in-back 2 n at file rest small e
+read-back file at n rest small e = in-back (mostGroups - 1) n at file rest small e
 
 -- reading where a number was written
 pub read-written :
