@@ -39,7 +39,7 @@ const FIRST_FREE: usize = term::FIRST_FREE + TAG_SHIFT;
 
 const LAST_FREE: usize = FIRST_OWN - 1;
 
-const FIRST_OWN: usize = term::TAGS + TAG_SHIFT;
+pub const FIRST_OWN: usize = term::TAGS + TAG_SHIFT;
 
 const MOST_ARITY: u8 = figures::MOST_ARITY as u8;
 

@@ -1,0 +1,62 @@
+use borrow.Author.Needs.{needs}
+use Rattle.prepared.specs.Filling.Numbers.{rows-none, rows-more}
+use Rattle.prepared.specs.Filling.{Source, Rows}
+use Rattle.prepared.specs.Sections.{ruleCount}
+use lib.ListN.{length}
+use native.Mathlib.Omega.{arith}
+use Prim.Native.Nat.{ℕ, _-_, _≤_}
+use mathlib.Core.Path.{_≡_, subst}
+use denote.Ref.{now}
+use Rattle.prepared.proofs.filling.enter_rules.Statement.{statement}
+use Rattle.prepared.proofs.filling.enter_rules.Tie as tie
+
+abbrev Inv-loop : tie.InvT-loop
+Inv-loop p₀ arities places nr n₀ p n =
+    (n ≤ ruleCount) × (length p ≡ length p₀) × ((f : Source arities places nr) → Rows f p₀ p n)
+
+abbrev μ-loop : tie.MeasureT-loop
+μ-loop p₀ arities places nr n₀ p n =
+    ruleCount - n
+
+loop-holds : tie.Need-loop-holds Inv-loop μ-loop
+loop-holds c =
+    (search needs, search needs, λ f. rows-none f _)
+
+enter-rule-requires : tie.Need-enter-rule-requires Inv-loop μ-loop
+enter-rule-requires c κs = search needs
+
+add-n : tie.Need-add-n Inv-loop μ-loop
+add-n c = search needs
+
+loop-less : tie.Need-loop-less Inv-loop μ-loop
+loop-less c = search needs
+
+loop-again : tie.Need-loop-again Inv-loop μ-loop
+loop-again c = (
+  search needs,
+  omega (arith, c .before .before .enter-rule .kept),
+  λ f. rows-more f _ _ _ _ (omega arith)
+      (c .before .before .before .before .before .loop .inv .2 f) (c .before .before .enter-rule .ensures f),
+)
+
+same-length : tie.Need-same-length Inv-loop μ-loop
+same-length c = search needs
+
+returns : tie.Need-returns Inv-loop μ-loop
+returns c =
+    λ f. let e : c .before .loop .n ≡ ruleCount = omega arith in subst (λ (m : ℕ). Rows f (now (c .before .before .before .before .before .args .p))
+    (c .before .loop .p) m) e (c .before .loop .inv .2 f)
+
+pub enter-rules-spec : {M : Type 1} → statement M
+enter-rules-spec =
+    tie.close
+    (tie.spec
+    Inv-loop
+    μ-loop
+    loop-holds
+    enter-rule-requires
+    add-n
+    loop-less
+    loop-again
+    same-length
+    returns)

@@ -1,0 +1,160 @@
+-- One rule number after another.
+use Prim.Native.Nat.{ℕ, _+_, _*_, _/_, _%_, _-_, _≤_, _<_}
+use mathlib.Core.List.{List, []}
+use mathlib.Core.Option.{none}
+use mathlib.Core.Path.{_≡_, refl, ap, ap₂, sym, _∙_, subst}
+use native.Mathlib.Omega.{arith}
+use lib.ListN.{length, getD, take, set, length-set}
+use lib.Seq.{getD-set-same, getD-set-other, length-take-le}
+use Rattle.lists.specs.Choice.{by-size}
+use Rattle.octets.specs.Splice.{splice}
+use Rattle.octets.specs.Splice.Laws.{length-splice, splice-before}
+use Rattle.protocol.specs.Protocol.{Protocol, encodeRule}
+use Rattle.protocol.specs.Protocol.Exact.{rule-exact, rule-inside, few-arities}
+use Rattle.rules.specs.Numbered.{ruleOf}
+use Rattle.rules.specs.Numbered.Found.{WrittenAs, PlacedAs, Finds, placeFound, place-found, place-none, finds-own}
+use Rattle.rules.specs.declared.numbered.FoundRule.{FoundRule}
+use Rattle.rules.specs.declared.numbered.FoundRule.the-variants as fd
+use Rattle.rules.specs.Numbered.{ruleRoom}
+use Rattle.prepared.specs.Sections.{builtinCount, ruleCount, fileAt, cellAt, builtinAt, preparedLength, placeBase, placeLimit}
+use Rattle.prepared.specs.Prepared.{placeAt}
+use Rattle.prepared.specs.Filling.{Source, placed, Row, written, in-file, missing, Kept, Enters, Rows}
+use Rattle.prepared.specs.Filling.Lists.{splice-lies, lies-kept}
+
+-- ── a place written ──
+module _ (p : List ℕ) (n v : ℕ) where
+  place-other : (i : ℕ) → (i ≡ cellAt n → ⊥) → (i ≡ cellAt n + 1 → ⊥) → getD (placed p n v) i 0 ≡ getD p i 0
+  place-other i h k =
+      getD-set-other (set p (cellAt n) (v / placeBase)) (cellAt n + 1) i (v % placeBase) 0 k
+      ∙ getD-set-other p (cellAt n) i (v / placeBase) 0 h
+
+  module _ (small : n < ruleCount) (long : length p ≡ preparedLength) where
+    high-byte : getD (placed p n v) (cellAt n) 0 ≡ v / placeBase
+    high-byte =
+        getD-set-other (set p (cellAt n) (v / placeBase)) (cellAt n + 1) (cellAt n) (v % placeBase) 0 (λ e. omega arith)
+        ∙ getD-set-same p (cellAt n) (v / placeBase) 0 (omega arith)
+
+    low-byte : getD (placed p n v) (cellAt n + 1) 0 ≡ v % placeBase
+    low-byte =
+        getD-set-same (set p (cellAt n) (v / placeBase)) (cellAt n + 1) (v % placeBase) 0
+        (omega (arith, length-set p (cellAt n) (v / placeBase)))
+
+    pub place-read : placeAt (placed p n v) n ≡ v
+    place-read = ap₂ (λ (a b : ℕ). a * placeBase + b) high-byte low-byte ∙ omega arith
+
+    place-kept : Kept p (placed p n v) n
+    place-kept = record {
+      low = λ i h. place-other i (λ e. omega arith) (λ e. omega arith);
+      high = λ i h k. place-other i (λ e. omega arith) (λ e. omega arith);
+    }
+
+-- ── rows stay ──
+module _ {arities places : List ℕ} {nr : ℕ} (f : Source arities places nr) where
+  pub row-kept :
+      (p p′ : List ℕ) (m : ℕ) → getD p′ (cellAt m) 0 ≡ getD p (cellAt m) 0 → getD p′ (cellAt m + 1) 0 ≡ getD p (cellAt m + 1) 0
+      → ((j : ℕ) → m < builtinCount → j < ruleRoom → getD p′ (builtinAt m + j) 0 ≡ getD p (builtinAt m + j) 0) → Row f p m → Row f p′ m
+  row-kept p p′ m a b c (written u is small e few l) =
+      written u is small (ap₂ (λ (x y : ℕ). x * placeBase + y) a b ∙ e) few
+      (lies-kept p (builtinAt m) (encodeRule u) p′ (λ j h. c j small (omega arith)) l)
+  row-kept p p′ m a b c (in-file u k d is e inside s) = in-file u k d is (ap₂ (λ (x y : ℕ). x * placeBase + y) a b ∙ e) inside s
+  row-kept p p′ m a b c (missing is e) = missing is (ap₂ (λ (x y : ℕ). x * placeBase + y) a b ∙ e)
+
+  pub rows-none : (p : List ℕ) → Rows f p p 0
+  rows-none p = record { each = λ m h. absurd (omega arith); before = λ i h. refl }
+
+  pub rows-more : (p p₁ p₂ : List ℕ) (n : ℕ) → n < ruleCount → Rows f p p₁ n → Enters f p₁ p₂ n → Rows f p p₂ (n + 1)
+  rows-more p p₁ p₂ n small r e = record {
+    each = λ m h.
+        by-size m n
+        (λ l. row-kept p₁ p₂ m (e .kept .low (cellAt m) (omega arith)) (e .kept .low (cellAt m + 1) (omega arith))
+        (λ j _ k. e .kept .high (builtinAt m + j) (omega arith) (omega arith)) (r .each m l))
+        (λ l. let z : n ≡ m = omega arith in subst (Row f p₂) z (e .row));
+    before = λ i h. e .kept .low i (omega arith) ∙ r .before i h;
+  }
+
+  -- ── what was found ──
+  module _ (n : ℕ) (small : n < ruleCount) where
+    few : length (take (f .ns) (f .ars)) ≤ 36
+    few = omega (arith, ap length (f .entries .tabled), few-arities (f .entries .is .symbols) (f .entries .within .few-symbols))
+
+    abbrev pub InFile : ℕ → Type 0
+    InFile k = PlacedAs (f .entries .is) (f .file) arities (take (f .ns) (f .ars)) n k
+
+    pub in-file-small : (k : ℕ) → InFile k → k ≤ length (f .file)
+    in-file-small k w =
+        let (a, b) = rule-inside (f .file) (f .bytes) arities (take (f .ns) (f .ars)) (omega (arith, few)) (w .its) k (w .here .next) (w .here .reads) in
+        omega (arith, a, b)
+
+    pub place-small : (k : ℕ) → InFile k → fileAt + k < placeLimit
+    place-small k w = omega (arith, in-file-small k w, f .short)
+
+    module _ (p : List ℕ) (long : length p ≡ preparedLength) (p′ : List ℕ) where
+      pub enters-own : (k : ℕ) → InFile k → p′ ≡ placed p n (fileAt + k) → Enters f p p′ n
+      enters-own k w h =
+          let s = rule-exact (f .file) (f .bytes) arities (take (f .ns) (f .ars)) (omega (arith, few)) .form (w .its) k (w .here .next) (w .here .reads) in
+          subst (λ (l : List ℕ). Enters f p l n) (sym h)
+          record {
+            row = in-file (w .its) k (w .here .next) (w .is) (place-read p n (fileAt + k) small long) (in-file-small k w) (s .1);
+            kept = place-kept p n (fileAt + k) small long;
+          }
+
+      pub enters-none : ruleOf (f .entries .is) n ≡ none → p′ ≡ placed p n 0 → Enters f p p′ n
+      enters-none is h =
+          subst (λ (l : List ℕ). Enters f p l n) (sym h)
+          record { row = missing is (place-read p n 0 small long); kept = place-kept p n 0 small long }
+
+      pub enters-written :
+          (len : ℕ) (out : List ℕ) → n < builtinCount → length out ≡ ruleRoom → (w : WrittenAs (f .entries .is) n len out)
+          → p′ ≡ placed (splice p (builtinAt n) (take len out)) n (builtinAt n) → Enters f p p′ n
+      enters-written len out low room w h =
+          let q : List ℕ = encodeRule (w .its) in
+          let b : take len out ≡ q = w .holds .bytes in
+          let l : length q ≤ ruleRoom = omega (arith, ap length b, w .holds .short, length-take-le len out (w .holds .short)) in
+          let p₁ : List ℕ = splice p (builtinAt n) q in
+          let n₁ : length p₁ ≡ preparedLength = length-splice p (builtinAt n) q (omega arith) ∙ long in
+          let z : p′ ≡ placed p₁ n (builtinAt n) = h ∙ ap (λ (r : List ℕ). placed (splice p (builtinAt n) r) n (builtinAt n)) b in
+          let k = place-kept p₁ n (builtinAt n) small n₁ in
+          subst (λ (r : List ℕ). Enters f p r n) (sym z)
+          record {
+            row = written (w .its) (w .is) low (place-read p₁ n (builtinAt n) small n₁) l
+                (lies-kept p₁ (builtinAt n) q (placed p₁ n (builtinAt n))
+                (λ j m. place-other p₁ n (builtinAt n) (builtinAt n + j) (λ e. omega arith) (λ e. omega arith))
+                (splice-lies p (builtinAt n) q (omega arith)));
+            kept = record {
+              low = λ i m. k .low i m ∙ splice-before p (builtinAt n) q (omega arith) 0 i (omega arith);
+              high = λ i m j. k .high i m j ∙ splice-before p (builtinAt n) q (omega arith) 0 i j;
+            };
+          }
+
+    -- the code's cases
+    abbrev pub FoundAs : FoundRule → List ℕ → Type 0
+    FoundAs r out = Finds (f .entries .is) (f .file) arities (take (f .ns) (f .ars)) n r out
+
+    module _ (r : FoundRule) (out : List ℕ) (x : FoundAs r out) where
+      pub as-written : {len : ℕ} → r ≡ fd.Written len → WrittenAs (f .entries .is) n len out
+      as-written e = subst (λ (q : FoundRule). FoundAs q out) e x
+
+      pub as-placed : {k : ℕ} → r ≡ fd.At k → InFile k
+      as-placed e = subst (λ (q : FoundRule). FoundAs q out) e x
+
+      pub as-none : r ≡ fd.Nothing → ruleOf (f .entries .is) n ≡ none
+      as-none e = subst (λ (q : FoundRule). FoundAs q out) e x
+
+    module _ (own : builtinCount ≤ n) where
+      own-found : FoundAs (placeFound places nr (n - 31)) []
+      own-found =
+          finds-own (f .entries .is) n (f .file) arities (take (f .ns) (f .ars)) [] places nr (f .entries .placed) own
+          (placeFound places nr (n - 31)) refl
+
+      pub own-placed : n - 31 < nr → InFile (getD places (n - 31) 0)
+      own-placed l = as-placed (placeFound places nr (n - 31)) [] own-found (place-found places nr (n - 31) l)
+
+      pub own-none : nr ≤ n - 31 → ruleOf (f .entries .is) n ≡ none
+      own-none l = as-none (placeFound places nr (n - 31)) [] own-found (place-none places nr (n - 31) l)
+
+pub small : {n : ℕ} → n < builtinCount → n < ruleCount
+small h = omega arith
+
+pub written-few :
+    {P : Protocol} {n len : ℕ} {out : List ℕ} → WrittenAs P n len out → length out ≡ ruleRoom → length (take len out) ≤ ruleRoom
+written-few {P} {n} {len} {out} w h = omega (arith, length-take-le len out (w .holds .short), w .holds .short)

@@ -1,0 +1,64 @@
+-- What code finds for a rule number in a prepared protocol: the place of its rule, or that there is none.
+use Prim.Native.Nat.{ℕ, zero, suc, _-_, _≤_, _<_}
+use mathlib.Core.List.{List, [], _∷_}
+use mathlib.Core.Option.{Option, some, none, Option·some-injective, Option·none-ne-some}
+use mathlib.Core.Path.{_≡_, refl, sym, _∙_, subst}
+use native.Mathlib.Omega.{arith}
+use lib.ListN.{length, getElem?}
+use Rattle.protocol.specs.Protocol.{Rule, Protocol}
+use Rattle.protocol.specs.Protocol.Limits.{Within}
+use Rattle.rules.specs.Numbered.{ruleOf}
+use Rattle.rules.specs.Numbered.Found.{of-own}
+use Rattle.prepared.specs.declared.finding.Found.{Found}
+use Rattle.prepared.specs.declared.finding.Found.the-variants as fd
+use Rattle.prepared.specs.Sections.{ruleCount}
+use Rattle.prepared.specs.Prepared.{placeAt, RuleAt, Entry, Prepared}
+
+pub record RuleFound (p : List ℕ) (P : Protocol) (n place : ℕ) : Type 0 where
+  pub its : Rule
+  pub is : ruleOf P n ≡ some its
+  pub here : RuleAt p its place
+
+abbrev pub Finds : List ℕ → Protocol → ℕ → Found → Type 0
+Finds p P n (fd.At place) = RuleFound p P n place
+Finds p P n fd.Nothing = ruleOf P n ≡ none
+
+-- ── no rule has a number that the table has not ──
+nth-past : {A : Type 0} (xs : List A) (k : ℕ) → length xs ≤ k → getElem? xs k ≡ none
+nth-past [] k h = refl
+nth-past (x ∷ xs) zero h = absurd (omega arith)
+nth-past (x ∷ xs) (suc k) h = nth-past xs k (omega arith)
+
+pub rule-past : (P : Protocol) → Within P → (n : ℕ) → ruleCount ≤ n → ruleOf P n ≡ none
+rule-past P w n h = of-own P n (omega arith) ∙ nth-past (P .rules) (n - 31) (omega (arith, w .few-rules))
+
+-- ── the answers ──
+module _ (p : List ℕ) (P : Protocol) (f : Prepared p P) (n : ℕ) (small : n < ruleCount) where
+  by-entry : {C : Option Rule → Type 0} → ((o : Option Rule) → ruleOf P n ≡ o → Entry p n o → C o) → C (ruleOf P n)
+  by-entry k = k (ruleOf P n) refl (f .rules n small)
+
+  pub found-none : (v : ℕ) → v ≡ placeAt p n → v ≡ 0 → ruleOf P n ≡ none
+  found-none v h z = by-entry {C = λ o. o ≡ none} go
+    where
+      go : (o : Option Rule) → ruleOf P n ≡ o → Entry p n o → o ≡ none
+      go (some u) is e = absurd (omega (arith, e .there))
+      go none is e = refl
+
+  pub found-some : (v : ℕ) → v ≡ placeAt p n → (v ≡ 0 → ⊥) → RuleFound p P n v
+  found-some v h z = go (ruleOf P n) refl (f .rules n small)
+    where
+      go : (o : Option Rule) → ruleOf P n ≡ o → Entry p n o → RuleFound p P n v
+      go (some u) is e = record { its = u; is = is; here = subst (RuleAt p u) (sym h) (e .here) }
+      go none is e = absurd (z (h ∙ e))
+
+-- what was found is the rule of the number
+pub found-here : (p : List ℕ) (P : Protocol) (n place : ℕ) → RuleFound p P n place → (u : Rule) → ruleOf P n ≡ some u → RuleAt p u place
+found-here p P n place f u is = subst (λ (v : Rule). RuleAt p v place) (Option·some-injective (f .its) u (sym (f .is) ∙ is)) (f .here)
+
+-- the code's two cases
+module _ (p : List ℕ) (P : Protocol) (n : ℕ) {r : Found} (u : Rule) (is : ruleOf P n ≡ some u) where
+  pub at-here : (place : ℕ) → r ≡ fd.At place → Finds p P n r → RuleAt p u place
+  at-here place e f = found-here p P n place (subst (Finds p P n) e f) u is
+
+  pub no-rule : {C : Type 0} → r ≡ fd.Nothing → Finds p P n r → C
+  no-rule e f = absurd (Option·none-ne-some u (sym (subst (Finds p P n) e f) ∙ is))

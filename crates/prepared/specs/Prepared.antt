@@ -1,0 +1,59 @@
+-- What a prepared protocol says of its protocol.
+use Prim.Native.Nat.{ℕ, _+_, _*_, _<_}
+use mathlib.Core.List.{List, map}
+use mathlib.Core.Option.{Option, some, none}
+use mathlib.Core.Path.{_≡_}
+use lib.ListN.{length, getD, take, drop}
+use lib.Dec.{eqb}
+use Rattle.lists.specs.Choice.{pick}
+use Rattle.term.specs.Arity.{tagArities, padded}
+use Rattle.protocol.specs.Protocol.{Rule, Own, Protocol, factArities, factFlags, rule}
+use Rattle.protocol.specs.Protocol.Limits.{Within}
+use Rattle.protocol.specs.Places.{Here}
+use Rattle.rules.specs.Numbered.{ruleOf}
+use Rattle.protocol.specs.Figures.{symbolCount}
+use Rattle.prepared.specs.Sections.{slotCount, ruleCount, aritiesAt, linearsAt, cellAt, preparedLength, placeBase}
+-- its laws
+pub mod Laws
+
+-- ── the sections ──
+abbrev pub slotsOf : List ℕ → List ℕ
+slotsOf p = take slotCount p
+
+abbrev pub aritiesOf : List ℕ → List ℕ
+aritiesOf p = take symbolCount (drop aritiesAt p)
+
+abbrev pub linearsOf : List ℕ → List ℕ
+linearsOf p = take symbolCount (drop linearsAt p)
+
+-- 1 for a linear symbol's flag, 0 for a persistent one's
+abbrev pub linear : ℕ → ℕ
+linear flag = pick (eqb flag 0) 1 0
+
+abbrev pub linears : List Own → List ℕ
+linears os = map linear (factFlags os)
+
+-- the place of rule number n, high byte first; 0 where there is none
+abbrev pub placeAt : List ℕ → ℕ → ℕ
+placeAt p n = getD p (cellAt n) 0 * placeBase + getD p (cellAt n + 1) 0
+
+-- ── what it says ──
+-- the rule stands at a place of p, under the arities that p has
+abbrev pub RuleAt : List ℕ → Rule → ℕ → Type 0
+RuleAt p u place = Here (rule p (slotsOf p) (aritiesOf p)) u place
+
+pub record Some (p : List ℕ) (u : Rule) (place : ℕ) : Type 0 where
+  pub here : RuleAt p u place
+  pub there : 0 < place
+
+abbrev pub Entry : List ℕ → ℕ → Option Rule → Type 0
+Entry p n (some u) = Some p u (placeAt p n)
+Entry p n none = placeAt p n ≡ 0
+
+pub record Prepared (p : List ℕ) (P : Protocol) : Type 0 where
+  pub within : Within P
+  pub long : length p ≡ preparedLength
+  pub slotted : slotsOf p ≡ tagArities (P .functions)
+  pub tabled : aritiesOf p ≡ padded symbolCount (factArities (P .symbols))
+  pub flagged : linearsOf p ≡ padded symbolCount (linears (P .symbols))
+  pub rules : (n : ℕ) → n < ruleCount → Entry p n (ruleOf P n)

@@ -1,0 +1,59 @@
+-- The laws of a prepared protocol: the sections' lengths, and what a fact symbol's entries are.
+use Prim.Native.Nat.{ℕ, zero, suc, _+_, _≤_, _<_}
+use mathlib.Core.List.{List, [], _∷_}
+use mathlib.Core.Path.{_≡_, refl, ap, sym, _∙_}
+use native.Mathlib.Omega.{arith}
+use lib.ListN.{length, getD, take, drop, length-drop, length-map, length-append}
+use lib.Seq.{getD-drop, getD-take, length-take-le}
+use Rattle.term.specs.Tags.{tagCount, mostFunctions}
+use Rattle.term.specs.Arity.{padded, tagArities, builtin}
+use Rattle.protocol.specs.Protocol.{Own, Protocol, factArities, factFlags}
+use Rattle.protocol.specs.Figures.{symbolCount}
+use Rattle.prepared.specs.Sections.{slotCount, aritiesAt, linearsAt, preparedLength}
+use Rattle.prepared.specs.Prepared.{slotsOf, aritiesOf, linears, Prepared}
+
+-- ── a list with 255 behind it ──
+pub length-padded : (n : ℕ) (l : List ℕ) → length (padded n l) ≡ n
+length-padded zero l = refl
+length-padded (suc n) [] = ap suc (length-padded n [])
+length-padded (suc n) (a ∷ l) = ap suc (length-padded n l)
+
+pub tag-arities-length : (free : List ℕ) → length (tagArities free) ≡ tagCount
+unfolding tagArities
+tag-arities-length free = length-append builtin (padded mostFunctions free) ∙ omega (arith, length-padded mostFunctions free)
+
+pub padded-in : (n : ℕ) (l : List ℕ) (j : ℕ) → length l ≤ n → j < length l → getD (padded n l) j 0 ≡ getD l j 0
+padded-in zero l j h k = absurd (omega arith)
+padded-in (suc n) [] j h k = absurd (omega arith)
+padded-in (suc n) (a ∷ l) zero h k = refl
+padded-in (suc n) (a ∷ l) (suc j) h k = padded-in n l j (omega arith) (omega arith)
+
+-- ── the parts that are lent ──
+module _ (p : List ℕ) (long : length p ≡ preparedLength) where
+  pub slots-length : length (slotsOf p) ≡ slotCount
+  slots-length = length-take-le slotCount p (omega arith)
+
+  pub arities-length : length (aritiesOf p) ≡ symbolCount
+  arities-length = length-take-le symbolCount (drop aritiesAt p) (omega (arith, length-drop aritiesAt p))
+
+-- ── what the entries of a fact symbol are ──
+part-at : (p : List ℕ) (at n i : ℕ) → i < n → getD (take n (drop at p)) i 0 ≡ getD p (at + i) 0
+part-at p at n i h = getD-take n (drop at p) i 0 h ∙ getD-drop at p i 0
+
+module _ (p : List ℕ) (P : Protocol) (f : Prepared p P) (y : ℕ) (known : y < length (factArities (P .symbols))) where
+  few : length (factArities (P .symbols)) ≤ symbolCount
+  few = omega (arith, length-map (P .symbols) (λ (o : Own). o .arity), f .within .few-symbols)
+
+  pub arity-at : getD p (aritiesAt + y) 0 ≡ getD (factArities (P .symbols)) y 0
+  arity-at =
+      sym (part-at p aritiesAt symbolCount y (omega (arith, few)))
+      ∙ ap (λ (l : List ℕ). getD l y 0) (f .tabled)
+      ∙ padded-in symbolCount (factArities (P .symbols)) y few known
+
+  pub linear-at : getD p (linearsAt + y) 0 ≡ getD (linears (P .symbols)) y 0
+  linear-at =
+      let n : length (linears (P .symbols)) ≡ length (factArities (P .symbols)) =
+      length-map (factFlags (P .symbols)) _ ∙ omega (arith, length-map (P .symbols) (λ (o : Own). o .flag), length-map (P .symbols) (λ (o : Own). o .arity)) in
+      sym (part-at p linearsAt symbolCount y (omega (arith, few)))
+      ∙ ap (λ (l : List ℕ). getD l y 0) (f .flagged)
+      ∙ padded-in symbolCount (linears (P .symbols)) y (omega (arith, few)) (omega arith)

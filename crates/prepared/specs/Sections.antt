@@ -1,0 +1,86 @@
+-- The sections of a prepared protocol, one behind the other: their lengths, their starts, and that they are apart.
+use Prim.Native.Nat.{ℕ, _+_, _*_, _≤_, _<_}
+use native.Mathlib.Omega.{arith}
+use Rattle.term.specs.Tags.{tagCount}
+use Rattle.protocol.specs.Figures.{symbolCount, mostRules}
+use Rattle.rules.specs.Numbered.{ruleRoom, firstOwnRule}
+
+-- ── how many ──
+-- tags; fact symbols, the four built-in ones among them; rule numbers; of these the ones below the protocol's own
+abbrev pub slotCount : ℕ
+slotCount = tagCount
+
+abbrev pub ruleCount : ℕ
+ruleCount = firstOwnRule + mostRules
+
+abbrev pub builtinCount : ℕ
+builtinCount = firstOwnRule
+
+-- "Protocol (4,096 bytes)"
+abbrev pub fileLimit : ℕ
+fileLimit = 4096
+
+-- a place takes two bytes, the high one first
+abbrev pub placeBytes : ℕ
+placeBytes = 2
+
+abbrev pub placeBase : ℕ
+placeBase = 256
+
+abbrev pub placeLimit : ℕ
+placeLimit = placeBase * placeBase
+
+-- ── the starts ──
+-- the arity of each tag stands first; then the arity of each fact symbol, 1 where it is linear, the place of each rule number in two
+-- bytes, the bytes of the built-in rules and apply-rules, the file's bytes
+abbrev pub aritiesAt : ℕ
+aritiesAt = slotCount
+
+abbrev pub linearsAt : ℕ
+linearsAt = aritiesAt + symbolCount
+
+abbrev pub placesAt : ℕ
+placesAt = linearsAt + symbolCount
+
+abbrev pub rulesAt : ℕ
+rulesAt = placesAt + placeBytes * ruleCount
+
+abbrev pub fileAt : ℕ
+fileAt = rulesAt + ruleRoom * builtinCount
+
+abbrev pub preparedLength : ℕ
+preparedLength = fileAt + fileLimit
+
+-- the two bytes of rule number n
+abbrev pub cellAt : ℕ → ℕ
+cellAt n = placesAt + placeBytes * n
+
+-- the bytes of the built-in rule n
+abbrev pub builtinAt : ℕ → ℕ
+builtinAt n = rulesAt + ruleRoom * n
+
+-- ── each starts where the one before ends ──
+pub record Apart : Type 0 where
+  pub slots-end : slotCount ≤ aritiesAt
+  pub arities-end : aritiesAt + symbolCount ≤ linearsAt
+  pub linears-end : linearsAt + symbolCount ≤ placesAt
+  pub places-end : cellAt ruleCount ≤ rulesAt
+  pub rules-end : builtinAt builtinCount ≤ fileAt
+  pub file-end : fileAt + fileLimit ≤ preparedLength
+
+pub apart : Apart
+apart = record {
+  slots-end = omega arith;
+  arities-end = omega arith;
+  linears-end = omega arith;
+  places-end = omega arith;
+  rules-end = omega arith;
+  file-end = omega arith;
+}
+
+-- a rule number's two bytes and a built-in rule's bytes lie in their sections
+pub cell-inside : (n : ℕ) → n < ruleCount → (placesAt ≤ cellAt n) × (cellAt n + 2 ≤ rulesAt)
+cell-inside n h = (omega arith, omega arith)
+
+pub builtin-inside : (n : ℕ) → n < builtinCount → (rulesAt ≤ builtinAt n) × (builtinAt n + ruleRoom ≤ fileAt)
+builtin-inside n h = (omega arith, omega arith)

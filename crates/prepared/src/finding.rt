@@ -1,0 +1,84 @@
+// The rule of a number in a prepared protocol.
+ghost use mathlib.Core.Path.{_≡_};
+ghost use Prim.Native.Nat.{_<_};
+ghost use lib.ListN.{length};
+ghost use Rattle.lists.specs.Asks.{Asks, Promises};
+ghost use Rattle.number.specs.Reading.{below};
+ghost use Rattle.protocol.specs.Protocol.{Protocol};
+ghost use Rattle.protocol.specs.Places.{valueOf, listPlace, factPlace};
+ghost use Rattle.prepared.specs.Sections.{ruleCount, preparedLength, placeBase};
+ghost use Rattle.prepared.specs.Prepared.{slotsOf, aritiesOf, placeAt, Prepared};
+ghost use Rattle.prepared.specs.Finding.{Finds};
+use crate::sections;
+
+// A place of the prepared protocol, or no rule.
+pub enum Found {
+    At(usize),
+    Nothing,
+}
+
+fn wide(x: u8) -> usize
+    ensures { λ r. ⌜ (r ≡ x) × (r < placeBase) ⌝ }
+{
+    x as usize
+}
+
+// The place in the table; 0 for none.
+fn place_of(p: &[u8], number: usize) -> usize
+    requires { ⌜ (number < ruleCount) × (length (now p) ≡ preparedLength) ⌝ }
+    ensures { λ r. ⌜ r ≡ placeAt (now (p .entry)) number ⌝ }
+{
+    let at = sections::PLACES + sections::PLACE_BYTES * number;
+    wide(p[at]) * sections::PLACE_BASE + wide(p[at + 1])
+}
+
+// The place of the rule of a number.
+pub fn rule_place(p: &[u8], number: usize) -> Found
+    requires { ⌜ Asks (Prepared (now p)) ⌝ }
+    ensures { λ r. ⌜ Promises (Prepared (now (p .entry))) (λ (P : Protocol). Finds (now (p .entry)) P number r) ⌝ }
+{
+    if sections::RULE_COUNT <= number {
+        return Found::Nothing;
+    }
+    let place = place_of(p, number);
+    if place == 0 {
+        return Found::Nothing;
+    }
+    Found::At(place)
+}
+
+// The place of a list of the rule at a place: 0 premises, 1 actions, 2 conclusions.
+pub fn list_at(p: &[u8], place: usize, list: usize) -> usize
+    requires { ⌜ length (now p) ≡ preparedLength ⌝ }
+    ensures { λ r. ⌜ r ≡ listPlace (now (p .entry)) (slotsOf (now (p .entry))) (aritiesOf (now (p .entry))) place list ⌝ }
+{
+    protocol::places::list_at(
+        p,
+        &p[..sections::ARITIES],
+        &p[sections::ARITIES..sections::LINEARS],
+        place,
+        list,
+    )
+}
+
+// The place of fact i of the list at a place.
+pub fn fact_at(p: &[u8], list: usize, i: usize) -> usize
+    requires { ⌜ length (now p) ≡ preparedLength ⌝ }
+    ensures { λ r. ⌜ r ≡ factPlace (now (p .entry)) (slotsOf (now (p .entry))) (aritiesOf (now (p .entry))) list i ⌝ }
+{
+    protocol::places::fact_at(
+        p,
+        &p[..sections::ARITIES],
+        &p[sections::ARITIES..sections::LINEARS],
+        list,
+        i,
+    )
+}
+
+// The symbol of the fact at a place.
+pub fn symbol_of(p: &[u8], fact: usize) -> usize
+    requires { ⌜ length (now p) ≡ preparedLength ⌝ }
+    ensures { λ r. ⌜ r ≡ valueOf (below (now (p .entry)) (length (aritiesOf (now (p .entry)))) fact) ⌝ }
+{
+    protocol::places::symbol_of(p, &p[sections::ARITIES..sections::LINEARS], fact)
+}
