@@ -11,6 +11,8 @@ use Rattle.steps.specs.Facts.{factsOf, madeName, sameFact, isLinear}
 use Rattle.steps.specs.Facts.Laws.{fact-refl, fact-sym, fact-trans, fact-linear}
 -- the theorems of crate rewriting at these facts
 pub mod Theorems
+-- an accepted graph by the ten equations
+pub mod Equations
 
 -- the facts of a protocol
 abbrev pub protocolFacts : Protocol → Facts

@@ -1,0 +1,96 @@
+-- An accepted graph by the equations: the two facts of an edge are of one symbol, and the ten equations make their arguments equal. For nodes
+-- within the limits this is what the test of facts says, so that nobody has to believe canonical forms.
+use Prim.Native.Nat.{ℕ, zero, suc, _≤_, _<_}
+use mathlib.Core.List.{List, [], _∷_, map}
+use mathlib.Core.Bool.{true}
+use mathlib.Core.Logic.{_↔_}
+use mathlib.Core.Option.{Option, some, none, Option·none-ne-some, Option·some-injective}
+use mathlib.Core.Path.{_≡_, refl, sym, _∙_, ap, subst}
+use Rattle.lists.specs.Lists.{_∈_, nth}
+use Rattle.lists.specs.All.{All}
+use Rattle.lists.specs.All.Laws.{all-nth}
+use Rattle.rewriting.specs.Graph as graph
+use Rattle.rewriting.specs.Graph.{Place, Edge, Joins, into, outOf, inNode, premiseAt, conclusionAt}
+use Rattle.term.specs.Arity.{arity, tagArities}
+use Rattle.protocol.specs.Figures.{premiseList, conclusionList}
+use Rattle.protocol.specs.Protocol.{Fact, Protocol}
+use Rattle.protocol.specs.Protocol.Limits.{Within}
+use Rattle.steps.specs.Nodes.{Node, NodeWithin}
+use Rattle.steps.specs.Facts.{factsOf, SameFact, sameFact, isLinear}
+use Rattle.steps.specs.Facts.Formed.{FactFormed, facts-formed, formed-decides}
+use Rattle.steps.specs.Runs.{protocolFacts, rewritten, rewrittens, Accepted, NamesOnce}
+
+-- ── the element of a number of a mapped list ──
+module _ {A B : Type 0} (g : A → B) where
+  pub map-nth : (xs : List A) (k : ℕ) (y : B) → nth (map g xs) k ≡ some y → (x : A) × (nth xs k ≡ some x) × (g x ≡ y)
+  map-nth xs zero y h = absurd (Option·none-ne-some y h)
+  map-nth [] (suc k) y h = absurd (Option·none-ne-some y h)
+  map-nth (x ∷ xs) (suc zero) y h = (x, refl, Option·some-injective (g x) y h)
+  map-nth (x ∷ xs) (suc (suc k)) y h = map-nth xs (suc k) y h
+
+module _ (p : Protocol) (xs : List Node) where
+  -- "each edge from an earlier node, its two facts equal"
+  pub record JoinsSame (e : Edge) : Type 0 where
+    pub from : Fact
+    pub to : Fact
+    pub has-source : conclusionAt (rewrittens p xs) (e .source) ≡ some from
+    pub has-target : premiseAt (rewrittens p xs) (e .target) ≡ some to
+    pub earlier : e .source .node < e .target .node
+    pub facts-same : SameFact (arity (tagArities (p .functions))) from to
+
+  -- "An accepted graph has: each edge from an earlier node, its two facts equal; just one edge into each premise; at most one out of each
+  -- linear conclusion; no name made twice."
+  pub record AcceptedSame (edges : List Edge) : Type 0 where
+    pub joins : (e : Edge) → e ∈ edges → JoinsSame e
+    pub one-into : (a : Place) (f : Fact) → premiseAt (rewrittens p xs) a ≡ some f → into a edges ≡ 1
+    pub one-out : (a : Place) (f : Fact) → conclusionAt (rewrittens p xs) a ≡ some f → isLinear p f ≡ true → outOf a edges ≤ 1
+    pub names-once : NamesOnce p xs
+
+-- ── the two say the same ──
+module _ (p : Protocol) (fit : Within p) (xs : List Node) (within : All (NodeWithin p) xs) where
+  -- a fact at a place is well formed
+  at-formed :
+      (facts : graph.Node Fact → List Fact) (list : ℕ) → ((x : Node) → facts (rewritten p x) ≡ factsOf p list x) → (a : Place) (f : Fact)
+      → graph.factAt facts (rewrittens p xs) a ≡ some f → FactFormed p f
+  at-formed facts list same a f h = go (nth (rewrittens p xs) (a .node)) refl h
+    where
+      go : (o : Option (graph.Node Fact)) → nth (rewrittens p xs) (a .node) ≡ o → inNode facts (a .index) o ≡ some f → FactFormed p f
+      go none e q = absurd (Option·none-ne-some f q)
+      go (some y) e q =
+          let (x, i, j) = map-nth (rewritten p) xs (a .node) y e in
+          let k : nth (factsOf p list x) (a .index) ≡ some f = ap (λ (l : List Fact). nth l (a .index)) (sym (same x) ∙ ap facts j) ∙ q in
+          all-nth (FactFormed p) (factsOf p list x) (facts-formed p fit x (all-nth (NodeWithin p) xs within (a .node) x i) list) (a .index) f k
+
+  source-formed : (a : Place) (f : Fact) → conclusionAt (rewrittens p xs) a ≡ some f → FactFormed p f
+  source-formed = at-formed (λ y. y .conclusions) conclusionList (λ x. refl)
+
+  target-formed : (a : Place) (f : Fact) → premiseAt (rewrittens p xs) a ≡ some f → FactFormed p f
+  target-formed = at-formed (λ y. y .premises) premiseList (λ x. refl)
+
+  joins-same : (e : Edge) → Joins (protocolFacts p) (rewrittens p xs) e → JoinsSame p xs e
+  joins-same e j = record {
+    from = j .from;
+    to = j .to;
+    has-source = j .has-source;
+    has-target = j .has-target;
+    earlier = j .earlier;
+    facts-same = formed-decides p fit (j .from) (j .to) (source-formed (e .source) (j .from) (j .has-source))
+        (target-formed (e .target) (j .to) (j .has-target)) .0 (j .facts-same);
+  }
+
+  same-joins : (e : Edge) → JoinsSame p xs e → Joins (protocolFacts p) (rewrittens p xs) e
+  same-joins e j = record {
+    from = j .from;
+    to = j .to;
+    has-source = j .has-source;
+    has-target = j .has-target;
+    earlier = j .earlier;
+    facts-same = formed-decides p fit (j .from) (j .to) (source-formed (e .source) (j .from) (j .has-source))
+        (target-formed (e .target) (j .to) (j .has-target)) .1 (j .facts-same);
+  }
+
+  pub accepted-exactly : (edges : List Edge) → Accepted p xs edges ↔ AcceptedSame p xs edges
+  accepted-exactly edges = (
+    λ g. record { joins = λ e m. joins-same e (g .joins e m); one-into = g .one-into; one-out = g .one-out; names-once = g .names-once },
+    λ g. record { joins = λ e m. same-joins e (g .joins e m); one-into = g .one-into; one-out = g .one-out; names-once = g .names-once },
+  )
