@@ -10,6 +10,8 @@ pub mod Values
 pub mod Runs
 -- the ruling of a list of nodes: 3 and 6, then 7, 8 and 9
 pub mod Causes
+-- a step list that is well formed: 2, 3, 6, 7 and 8 are absent from it
+pub mod WellFormed
 -- ── for the code ──
 -- the names that nodes make
 pub mod Names
