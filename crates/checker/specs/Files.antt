@@ -25,6 +25,8 @@ pub mod Terms
 pub mod Verdict
 -- what the code answers of them
 pub mod Answers
+-- a fit protocol file, and that the rows say it
+pub mod Fit
 
 -- "Protocol (4,096 bytes)", "Term (1,024 bytes)"
 abbrev pub protocolLimit : ℕ

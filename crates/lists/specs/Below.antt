@@ -1,12 +1,12 @@
 -- A test of the numbers below a bound.
-use Prim.Native.Nat.{ℕ, zero, suc, _+_, _<_}
+use Prim.Native.Nat.{ℕ, zero, suc, _+_, _≤_, _<_}
 use mathlib.Core.Bool.{Bool, true, false, _&&_, and-eq-true-iff}
 use mathlib.Core.Path.{_≡_, refl, ap, ap₂, _∙_, subst}
 use native.Mathlib.Omega.{arith}
 use native.Mathlib.Numerals.{add-one}
 use lib.Dec.{eqb}
 use borrow.Author.Tests.{ne-eqb}
-use Rattle.lists.specs.Choice.{pick, by-size}
+use Rattle.lists.specs.Choice.{pick, cut, cut-eq, by-size}
 use Rattle.lists.specs.Tests.{and-false}
 
 -- q holds of every number below n
@@ -76,3 +76,49 @@ module _ (q : ℕ → Bool) where
   unfolding allBelow
   below-from zero f = refl
   below-from (suc n) f = ap₂ _&&_ (below-from n (λ v l. f v (omega arith))) (f n (omega arith))
+
+-- ── the least, exactly ──
+module _ (q : ℕ → Bool) where
+  -- k is the first of n of which q holds
+  pub record First (n k : ℕ) : Type 0 where
+    pub inside : k < n
+    pub hit : q k ≡ true
+    pub before : (i : ℕ) → i < k → q i ≡ false
+
+  pub least-zero : (n : ℕ) → least q n ≡ 0 → (i : ℕ) → i < n → q i ≡ false
+  unfolding least
+  least-zero zero h i l = absurd (omega arith)
+  least-zero (suc n) h i l =
+      cut-eq _ _ _ (least q n) 0 h
+      (λ z h. cut _ _ _ (q n) h
+      (λ t h. absurd (omega arith))
+      (λ t h. by-size i n (least-zero n z i) (λ k. let e : n ≡ i = omega arith in subst (λ (j : ℕ). q j ≡ false) e t)))
+      (λ z h. absurd (z h))
+
+  pub least-some : (n k : ℕ) → least q n ≡ suc k → First n k
+  unfolding least
+  least-some zero k h = absurd (omega arith)
+  least-some (suc n) k h =
+      cut-eq _ _ _ (least q n) 0 h
+      (λ z h. cut _ _ _ (q n) h
+      (λ t h. let e : n ≡ k = omega arith in
+      record { inside = omega arith; hit = subst (λ (j : ℕ). q j ≡ true) e t; before = λ i l. least-zero n z i (omega arith) })
+      (λ t h. absurd (omega arith)))
+      (λ z h. let f = least-some n k h in record { inside = omega (arith, f .inside); hit = f .hit; before = f .before })
+
+  pub none-least : (n : ℕ) → ((i : ℕ) → i < n → q i ≡ false) → least q n ≡ 0
+  unfolding least
+  none-least zero f = refl
+  none-least (suc n) f =
+      ap (λ (m : ℕ). pick (eqb m 0) (pick (q n) (suc n) 0) m) (none-least n (λ i l. f i (omega arith)))
+      ∙ ap (λ (b : Bool). pick b (suc n) 0) (f n (omega arith))
+
+  pub first-least : (n k : ℕ) → First n k → least q n ≡ suc k
+  first-least n k f = least-hit q n k (none-least k (f .before)) (f .hit) (f .inside) ∙ omega arith
+
+  pub least-bound : (n : ℕ) → least q n ≤ n
+  least-bound n = within (least q n) refl
+    where
+      within : (m : ℕ) → least q n ≡ m → m ≤ n
+      within zero h = omega arith
+      within (suc k) h = omega (arith, least-some n k h .inside)

@@ -16,7 +16,7 @@ use Rattle.protocol.specs.Protocol.{Rule, Protocol, emptyRule, protocol}
 use Rattle.rules.specs.Fit.{fits, leastUnfit, sound, broken, malformed, judged}
 use Rattle.lists.specs.Tests.{not-split}
 use Rattle.rules.specs.Fit.Laws.{unfit}
-use Rattle.rules.specs.Fit.Meaning.Verdicts.{First, least-zero, least-some}
+use Rattle.lists.specs.Below.{First, least-zero, least-some}
 use Rattle.checker.specs.Files.{protocolItem, layout, fitRuling, protocolRuling}
 
 -- ── a pass finds one thing ──

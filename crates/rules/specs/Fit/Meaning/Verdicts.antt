@@ -1,79 +1,27 @@
 -- What a verdict says: every rule is fit, or the rule of that place is the first that is not.
-use Prim.Native.Nat.{ℕ, zero, suc, _≤_, _<_}
-use mathlib.Core.List.{List, [], _∷_}
-use mathlib.Core.Bool.{Bool, true, false, not}
+use Prim.Native.Nat.{ℕ, suc, _≤_, _<_}
+use mathlib.Core.List.{List}
+use mathlib.Core.Bool.{true, false, not}
 use mathlib.Core.Logic.{_↔_}
-use mathlib.Core.Path.{_≡_, refl, ap, _∙_, subst}
+use mathlib.Core.Path.{_≡_, refl, ap, _∙_}
 use native.Mathlib.Omega.{arith}
 use lib.ListN.{length, getD}
-use lib.Dec.{eqb}
-use Rattle.lists.specs.Choice.{pick, cut, cut-eq, by-size, clash}
+use Rattle.lists.specs.All.Laws.{all-inside}
+use Rattle.lists.specs.Choice.{cut-eq, by-size, clash}
 use Rattle.octets.specs.Head.{Bytes}
 use Rattle.number.specs.Reading.{Read, got, fault}
-use Rattle.lists.specs.All.{All}
 use Rattle.term.specs.Arity.{tagArities}
 use Rattle.protocol.specs.Protocol.{Protocol, emptyRule, factArities, protocol}
 use Rattle.protocol.specs.Protocol.Limits.{RuleWithin, Within}
 use Rattle.protocol.specs.Protocol.Exact.{protocol-form}
 use Rattle.rules.specs.Fit.{fits, sound, broken, outcome, judged}
-use Rattle.lists.specs.Below.{least, least-hit}
+use Rattle.lists.specs.Below.{least, least-zero, least-some, none-least, first-least, least-bound}
 use Rattle.rules.specs.Fit.Laws.{unfit, some-broken}
 use Rattle.lists.specs.Tests.{not-false, not-from}
 use Rattle.rules.specs.Fit.Meaning.{Fit}
 use Rattle.rules.specs.Fit.Meaning.Laws.{fit-exactly}
 
--- ── the least of several ──
-module _ (q : ℕ → Bool) where
-  -- k is the first of n of which q holds
-  pub record First (n k : ℕ) : Type 0 where
-    pub inside : k < n
-    pub hit : q k ≡ true
-    pub before : (i : ℕ) → i < k → q i ≡ false
-
-  pub least-zero : (n : ℕ) → least q n ≡ 0 → (i : ℕ) → i < n → q i ≡ false
-  unfolding least
-  least-zero zero h i l = absurd (omega arith)
-  least-zero (suc n) h i l =
-      cut-eq _ _ _ (least q n) 0 h
-      (λ z h. cut _ _ _ (q n) h
-      (λ t h. absurd (omega arith))
-      (λ t h. by-size i n (least-zero n z i) (λ k. let e : n ≡ i = omega arith in subst (λ (j : ℕ). q j ≡ false) e t)))
-      (λ z h. absurd (z h))
-
-  pub least-some : (n k : ℕ) → least q n ≡ suc k → First n k
-  unfolding least
-  least-some zero k h = absurd (omega arith)
-  least-some (suc n) k h =
-      cut-eq _ _ _ (least q n) 0 h
-      (λ z h. cut _ _ _ (q n) h
-      (λ t h. let e : n ≡ k = omega arith in
-      record { inside = omega arith; hit = subst (λ (j : ℕ). q j ≡ true) e t; before = λ i l. least-zero n z i (omega arith) })
-      (λ t h. absurd (omega arith)))
-      (λ z h. let f = least-some n k h in record { inside = omega (arith, f .inside); hit = f .hit; before = f .before })
-
-  none-least : (n : ℕ) → ((i : ℕ) → i < n → q i ≡ false) → least q n ≡ 0
-  unfolding least
-  none-least zero f = refl
-  none-least (suc n) f =
-      ap (λ (m : ℕ). pick (eqb m 0) (pick (q n) (suc n) 0) m) (none-least n (λ i l. f i (omega arith)))
-      ∙ ap (λ (b : Bool). pick b (suc n) 0) (f n (omega arith))
-
-  first-least : (n k : ℕ) → First n k → least q n ≡ suc k
-  first-least n k f = least-hit q n k (none-least k (f .before)) (f .hit) (f .inside) ∙ omega arith
-
-  least-bound : (n : ℕ) → least q n ≤ n
-  least-bound n = within (least q n) refl
-    where
-      within : (m : ℕ) → least q n ≡ m → m ≤ n
-      within zero h = omega arith
-      within (suc k) h = omega (arith, least-some n k h .inside)
-
 -- ── the rules of a protocol within the limits ──
-all-nth : {A : Type 0} (P : A → Type 0) (d : A) (xs : List A) → All P xs → (k : ℕ) → k < length xs → P (getD xs k d)
-all-nth P d [] a k l = absurd (omega arith)
-all-nth P d (x ∷ xs) a zero l = a .0
-all-nth P d (x ∷ xs) a (suc k) l = all-nth P d xs (a .1) k (omega arith)
-
 module _ (p : Protocol) (w : Within p) where
   -- the rule of this place is fit, by the test
   abbrev Fine : ℕ → Type 0
@@ -82,7 +30,7 @@ module _ (p : Protocol) (w : Within p) where
   decided : (k : ℕ) → k < length (p .rules) → (fits (getD (p .rules) k emptyRule) ≡ true) ↔ Fine k
   decided k l =
       fit-exactly (tagArities (p .functions)) (factArities (p .symbols)) (getD (p .rules) k emptyRule)
-      (all-nth (RuleWithin (tagArities (p .functions)) (factArities (p .symbols))) emptyRule (p .rules) (w .rules) k l)
+      (all-inside (RuleWithin (tagArities (p .functions)) (factArities (p .symbols))) emptyRule (p .rules) (w .rules) k l)
 
   fine-to : (k : ℕ) → k < length (p .rules) → unfit (p .rules) k ≡ false → Fine k
   fine-to k l h = decided k l .0 (not-false (fits (getD (p .rules) k emptyRule)) h)

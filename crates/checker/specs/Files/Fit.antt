@@ -1,0 +1,93 @@
+-- "A protocol .. is fit when causes 2 to 5 are absent from it": of a protocol file these are 2, 3 and 4.
+use Prim.Native.Nat.{ℕ, _≤_, _<_}
+use mathlib.Core.List.{List, _∷_, _++_}
+use mathlib.Core.Bool.{true}
+use mathlib.Core.Logic.{_↔_}
+use mathlib.Core.Path.{_≡_, refl, ap, subst, _∙_}
+use native.Mathlib.Omega.{arith}
+use lib.ListN.{length}
+use Rattle.lists.specs.Choice.{clash, by-size}
+use Rattle.lists.specs.Tests.{by-bool, true-false}
+use Rattle.lists.specs.All.{All}
+use Rattle.lists.specs.All.Laws.{all-both, all-nth, nth-all}
+use Rattle.octets.specs.Head.{Bytes}
+use Rattle.number.specs.Reading.{Read, got, fault}
+use Rattle.rewriting.specs.Table.{Row, fixedRow, Absent, rowsAfter}
+use Rattle.term.specs.Arity.{tagArities}
+use Rattle.protocol.specs.Protocol.{Rule, Protocol, factArities, protocol}
+use Rattle.protocol.specs.Protocol.Limits.{RuleWithin, Within}
+use Rattle.protocol.specs.Protocol.Exact.{protocol-exact, protocol-form}
+use Rattle.rules.specs.Fit.{fits}
+use Rattle.rules.specs.Fit.Meaning.{Fit}
+use Rattle.rules.specs.Fit.Meaning.Laws.{fit-exactly}
+use Rattle.checker.specs.Files.{protocolLimit, protocolItem, layout, layoutRows, fitRows, protocolRows}
+
+-- the file holds the protocol p, which keeps to the limits and to P1 to P4
+pub record FitFile (file : List ℕ) (p : Protocol) : Type 0 where
+  pub short : length file ≤ protocolLimit
+  pub reads : protocol file ≡ got p (length file)
+  pub each : All Fit (p .rules)
+
+-- 2, 3 and 4
+abbrev pub fitFileRows : List ℕ → List Row
+fitFileRows file = fixedRow 2 protocolItem (protocolLimit < length file) ∷ protocolRows file
+
+-- ── the rows say just this ──
+-- 4 is absent just where P1 to P4 hold of every rule
+module _ (p : Protocol) (within : Within p) where
+  abbrev Limits : Rule → Type 0
+  Limits = RuleWithin (tagArities (p .functions)) (factArities (p .symbols))
+
+  decided : (r : Rule) → Limits r → (fits r ≡ true) ↔ Fit r
+  decided r w = fit-exactly (tagArities (p .functions)) (factArities (p .symbols)) r w
+
+  fit-absent : All Fit (p .rules) → Absent (fitRows p)
+  fit-absent all = (
+    (λ k h.
+        let both = all-nth (λ r. Fit r × Limits r) (p .rules) (all-both Fit Limits (p .rules) all (within .rules)) k (h .which) (h .stands) in
+        true-false (fits (h .which)) (decided (h .which) (both .1) .1 (both .0)) (h .is-false)),
+    tt,
+  )
+
+  absent-fit : Absent (fitRows p) → All Fit (p .rules)
+  absent-fit a =
+      nth-all Fit (p .rules) (λ k r e.
+      by-bool (fits r)
+      (λ t. decided r (all-nth Limits (p .rules) (within .rules) k r e) .0 t)
+      (λ f. absurd (a .0 k (record { which = r; stands = e; is-false = f }))))
+
+-- 3 and 4, by what was read
+abbrev Clear : Read Protocol → Type 0
+Clear r = Absent (layoutRows protocolItem r ++ rowsAfter (layout protocolItem r) fitRows)
+
+read-clear : (r : Read Protocol) (p : Protocol) (e : ℕ) → r ≡ got p e → Absent (fitRows p) → Clear r
+read-clear (got q d) p e h a =
+    let i : p ≡ q = cc in
+    ((λ k z. let y = z .1 in clash (cc)), subst (λ (x : Protocol). Absent (fitRows x)) i a)
+read-clear fault p e h a = clash (cc)
+
+clear-read : (r : Read Protocol) → Clear r → (p : Protocol) × (e : ℕ) × (r ≡ got p e) × Absent (fitRows p)
+clear-read (got p e) a = (p, e, refl, a .1)
+clear-read fault a = absurd (a .0 protocolItem (refl, refl))
+
+-- 2, 3 and 4 are absent from a file just where it holds a fit protocol
+pub fit-file-exactly : (file : List ℕ) → Bytes file → ((p : Protocol) × FitFile file p) ↔ Absent (fitFileRows file)
+fit-file-exactly file bytes = (there, back)
+  where
+    there : (p : Protocol) × FitFile file p → Absent (fitFileRows file)
+    there (p, f) = (
+      (λ k h. omega (arith, h .1, f .short)),
+      read-clear (protocol file) p (length file) (f .reads) (fit-absent p (protocol-exact file bytes p .0 (f .reads) .0) (f .each)),
+    )
+
+    back : Absent (fitFileRows file) → (p : Protocol) × FitFile file p
+    back a =
+        let (p, e, h, c) = clear-read (protocol file) (a .1) in
+        let g = protocol-form file bytes p e h in (
+          p,
+          record {
+            short = by-size protocolLimit (length file) (λ l. absurd (a .0 protocolItem (refl, l))) (λ l. l);
+            reads = h ∙ ap (got p) (g .whole);
+            each = absent-fit p (g .within) c;
+          },
+        )
