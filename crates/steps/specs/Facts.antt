@@ -21,6 +21,8 @@ use Rattle.steps.specs.Nodes.{Node}
 pub mod Laws
 -- the facts of a node within the limits are well formed, and its terms without variables
 pub mod Formed
+-- how many a node has, and which symbols are linear
+pub mod Counts
 
 -- ── the facts of a node ──
 -- the value of variable v; one without a value stays
