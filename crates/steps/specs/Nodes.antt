@@ -109,9 +109,9 @@ module _ (p : Protocol) where
         (plainly (node at) (λ x e. onward (nodesFrom (suc k) n e) (λ xs f. read (x ∷ xs) f)))
 
     -- the count, 512 at most, and the nodes from 1 on
-    unfoldable pub nodes : ℕ → Reading (List Node)
-    nodes at = plainly (below file (suc mostNodes) at) (λ n e. nodesFrom 1 n e)
+    unfoldable pub nodeList : ℕ → Reading (List Node)
+    nodeList at = plainly (below file (suc mostNodes) at) (λ n e. nodesFrom 1 n e)
 
     -- a step list: the nodes, and nothing behind them
     unfoldable pub steps : Reading (List Node)
-    steps = allOf file (nodes 0)
+    steps = allOf file (nodeList 0)

@@ -79,17 +79,17 @@ fn enter_names(
     arities: &[u8],
     rules: &[usize],
     nr: usize,
-    places: &[usize],
+    nodes: &[usize],
     n: usize,
     names: &mut [usize],
 )
-    requires { ⌜ (n ≤ length (now places)) × (n ≤ length (now names)) ⌝ }
+    requires { ⌜ (n ≤ length (now nodes)) × (n ≤ length (now names)) ⌝ }
     ensures kept { λ r. ⌜ length (now (names .exit)) ≡ length (now (names .entry)) ⌝ }
-    ensures told { λ r. ⌜ ((p : Protocol) (xs : List Node) → IndexOf (now (protocol .entry)) (now (arities .entry)) (now (rules .entry)) nr p → Placed (node p (now (file .entry))) noNode (now (places .entry)) xs n → Entered (now (names .exit)) xs n) ⌝ }
+    ensures told { λ r. ⌜ ((p : Protocol) (xs : List Node) → IndexOf (now (protocol .entry)) (now (arities .entry)) (now (rules .entry)) nr p → Placed (node p (now (file .entry))) noNode (now (nodes .entry)) xs n → Entered (now (names .exit)) xs n) ⌝ }
 {
     let mut j: usize = 0;
     while j < n {
-        names[j] = entry_of(made_at(file, protocol, arities, rules, nr, places[j]));
+        names[j] = entry_of(made_at(file, protocol, arities, rules, nr, nodes[j]));
         j += 1;
     }
 }
@@ -142,13 +142,13 @@ pub fn name_pass(
     arities: &[u8],
     rules: &[usize],
     nr: usize,
-    places: &[usize],
+    nodes: &[usize],
     n: usize,
 ) -> usize
-    requires { ⌜ (n ≤ mostNodes) × (n ≤ length (now places)) ⌝ }
-    ensures { λ r. ⌜ ((p : Protocol) (xs : List Node) → IndexOf (now (protocol .entry)) (now (arities .entry)) (now (rules .entry)) nr p → Placed (node p (now (file .entry))) noNode (now (places .entry)) xs n → asFound r ≡ firstNameTwice (rewrittens p xs)) ⌝ }
+    requires { ⌜ (n ≤ mostNodes) × (n ≤ length (now nodes)) ⌝ }
+    ensures { λ r. ⌜ ((p : Protocol) (xs : List Node) → IndexOf (now (protocol .entry)) (now (arities .entry)) (now (rules .entry)) nr p → Placed (node p (now (file .entry))) noNode (now (nodes .entry)) xs n → asFound r ≡ firstNameTwice (rewrittens p xs)) ⌝ }
 {
     let mut names = [0usize; crate::nodes::MOST_NODES];
-    enter_names(file, protocol, arities, rules, nr, places, n, &mut names);
+    enter_names(file, protocol, arities, rules, nr, nodes, n, &mut names);
     least_again(&names, n)
 }

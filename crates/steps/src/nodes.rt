@@ -10,7 +10,7 @@ ghost use Rattle.protocol.specs.Protocol.{Protocol};
 ghost use Rattle.protocol.specs.Protocol.Walks.{sortsAt};
 ghost use Rattle.protocol.specs.Places.{valueOf};
 ghost use Rattle.rules.specs.Numbered.{ruleOf};
-ghost use Rattle.steps.specs.Nodes.{nodesFrom, nodes, steps, mostNodes};
+ghost use Rattle.steps.specs.Nodes.{nodesFrom, nodeList, steps, mostNodes};
 ghost use Rattle.steps.specs.Index.{IndexOf, Given};
 ghost use Rattle.steps.specs.Nodes.Code.{variablesOf, termsEnd, nodeFrom, nodeEnd, Told};
 use number::Number;
@@ -125,18 +125,18 @@ fn nodes_from(
     nr: usize,
     at: usize,
     n: usize,
-    places: &mut [usize],
+    nodes: &mut [usize],
 ) -> Nodes
-    requires { ⌜ (length (now file) ≤ longest) × (n ≤ mostNodes) × (mostNodes ≤ length (now places)) × Given (now protocol) (now arities) (now rules) nr ⌝ }
-    ensures kept { λ r. ⌜ length (now (places .exit)) ≡ length (now (places .entry)) ⌝ }
-    ensures told { λ r. ⌜ ((p : Protocol) → IndexOf (now (protocol .entry)) (now (arities .entry)) (now (rules .entry)) nr p → Told (nodesFrom p (now (file .entry)) 1 n at) p (now (file .entry)) (now (places .exit)) r) ⌝ }
+    requires { ⌜ (length (now file) ≤ longest) × (n ≤ mostNodes) × (mostNodes ≤ length (now nodes)) × Given (now protocol) (now arities) (now rules) nr ⌝ }
+    ensures kept { λ r. ⌜ length (now (nodes .exit)) ≡ length (now (nodes .entry)) ⌝ }
+    ensures told { λ r. ⌜ ((p : Protocol) → IndexOf (now (protocol .entry)) (now (arities .entry)) (now (rules .entry)) nr p → Told (nodesFrom p (now (file .entry)) 1 n at) p (now (file .entry)) (now (nodes .exit)) r) ⌝ }
 {
     let mut i = at;
     let mut j: usize = 0;
     while j < n {
         match node_end(file, protocol, arities, rules, nr, i) {
             NodeEnd::End(e) => {
-                places[j] = i;
+                nodes[j] = i;
                 i = e;
                 j += 1;
             }
@@ -159,23 +159,14 @@ pub fn read_nodes(
     arities: &[u8],
     rules: &[usize],
     nr: usize,
-    places: &mut [usize],
+    nodes: &mut [usize],
 ) -> Nodes
-    requires { ⌜ (length (now file) ≤ longest) × (mostNodes ≤ length (now places)) × Given (now protocol) (now arities) (now rules) nr ⌝ }
-    ensures kept { λ r. ⌜ length (now (places .exit)) ≡ length (now (places .entry)) ⌝ }
-    ensures told { λ r. ⌜ ((p : Protocol) → IndexOf (now (protocol .entry)) (now (arities .entry)) (now (rules .entry)) nr p → Told (nodes p (now (file .entry)) at) p (now (file .entry)) (now (places .exit)) r) ⌝ }
+    requires { ⌜ (length (now file) ≤ longest) × (mostNodes ≤ length (now nodes)) × Given (now protocol) (now arities) (now rules) nr ⌝ }
+    ensures kept { λ r. ⌜ length (now (nodes .exit)) ≡ length (now (nodes .entry)) ⌝ }
+    ensures told { λ r. ⌜ ((p : Protocol) → IndexOf (now (protocol .entry)) (now (arities .entry)) (now (rules .entry)) nr p → Told (nodeList p (now (file .entry)) at) p (now (file .entry)) (now (nodes .exit)) r) ⌝ }
 {
     match number::below(file, at, NODE_LIMIT) {
-        Number::Value(n, e) => nodes_from(
-            file,
-            protocol,
-            arities,
-            rules,
-            nr,
-            e,
-            n as usize,
-            places,
-        ),
+        Number::Value(n, e) => nodes_from(file, protocol, arities, rules, nr, e, n as usize, nodes),
         Number::Fault => Nodes::Broken,
     }
 }
@@ -187,13 +178,13 @@ pub fn read_steps(
     arities: &[u8],
     rules: &[usize],
     nr: usize,
-    places: &mut [usize],
+    nodes: &mut [usize],
 ) -> Nodes
-    requires { ⌜ (length (now file) ≤ longest) × (mostNodes ≤ length (now places)) × Given (now protocol) (now arities) (now rules) nr ⌝ }
-    ensures kept { λ r. ⌜ length (now (places .exit)) ≡ length (now (places .entry)) ⌝ }
-    ensures told { λ r. ⌜ ((p : Protocol) → IndexOf (now (protocol .entry)) (now (arities .entry)) (now (rules .entry)) nr p → Told (steps p (now (file .entry))) p (now (file .entry)) (now (places .exit)) r) ⌝ }
+    requires { ⌜ (length (now file) ≤ longest) × (mostNodes ≤ length (now nodes)) × Given (now protocol) (now arities) (now rules) nr ⌝ }
+    ensures kept { λ r. ⌜ length (now (nodes .exit)) ≡ length (now (nodes .entry)) ⌝ }
+    ensures told { λ r. ⌜ ((p : Protocol) → IndexOf (now (protocol .entry)) (now (arities .entry)) (now (rules .entry)) nr p → Told (steps p (now (file .entry))) p (now (file .entry)) (now (nodes .exit)) r) ⌝ }
 {
-    match read_nodes(file, 0, protocol, arities, rules, nr, places) {
+    match read_nodes(file, 0, protocol, arities, rules, nr, nodes) {
         Nodes::End(n, e) => {
             if e == file.len() {
                 return Nodes::End(n, e);

@@ -34,21 +34,21 @@ pub fn rule_nodes(
     ars: &[u8],
     rules: &[usize],
     nr: usize,
-    places: &[usize],
+    nodes: &[usize],
     n: usize,
 ) -> NodesRuling
-    requires { ⌜ (length (now file) ≤ longest) × (n ≤ mostNodes) × (n ≤ length (now places)) × Given (now protocol) (now arities) (now rules) nr × SomeNodes (now protocol) (now arities) (now rules) nr (now file) (now places) n × ArityTable (now protocol) (now arities) (now rules) nr (now ars) ⌝ }
-    ensures { λ r. ⌜ ((p : Protocol) (xs : List Node) → IndexOf (now (protocol .entry)) (now (arities .entry)) (now (rules .entry)) nr p → Placed (node p (now (file .entry))) noNode (now (places .entry)) xs n → rulingOf r ≡ counted (nodeRuling p xs)) ⌝ }
+    requires { ⌜ (length (now file) ≤ longest) × (n ≤ mostNodes) × (n ≤ length (now nodes)) × Given (now protocol) (now arities) (now rules) nr × SomeNodes (now protocol) (now arities) (now rules) nr (now file) (now nodes) n × ArityTable (now protocol) (now arities) (now rules) nr (now ars) ⌝ }
+    ensures { λ r. ⌜ ((p : Protocol) (xs : List Node) → IndexOf (now (protocol .entry)) (now (arities .entry)) (now (rules .entry)) nr p → Placed (node p (now (file .entry))) noNode (now (nodes .entry)) xs n → rulingOf r ≡ counted (nodeRuling p xs)) ⌝ }
 {
-    let wrong = values::value_pass(file, protocol, arities, rules, nr, places, n);
+    let wrong = values::value_pass(file, protocol, arities, rules, nr, nodes, n);
     if wrong != 0 {
         return NodesRuling::Refused(rewriting::VALUE_WRONG, wrong);
     }
-    let large = size_pass::size_pass(file, protocol, arities, ars, rules, nr, places, n);
+    let large = size_pass::size_pass(file, protocol, arities, ars, rules, nr, nodes, n);
     if large != 0 {
         return NodesRuling::Refused(rewriting::TERM_LONG, large);
     }
-    let twice = names::name_pass(file, protocol, arities, rules, nr, places, n);
+    let twice = names::name_pass(file, protocol, arities, rules, nr, nodes, n);
     if twice != 0 {
         return NodesRuling::Refused(rewriting::NAME_TWICE, twice);
     }
@@ -63,15 +63,15 @@ pub fn rule_steps(
     ars: &[u8],
     rules: &[usize],
     nr: usize,
-    places: &mut [usize],
+    nodes: &mut [usize],
 ) -> NodesRuling
-    requires { ⌜ (length (now file) ≤ longest) × (mostNodes ≤ length (now places)) × Given (now protocol) (now arities) (now rules) nr × ArityTable (now protocol) (now arities) (now rules) nr (now ars) ⌝ }
-    ensures kept { λ r. ⌜ length (now (places .exit)) ≡ length (now (places .entry)) ⌝ }
+    requires { ⌜ (length (now file) ≤ longest) × (mostNodes ≤ length (now nodes)) × Given (now protocol) (now arities) (now rules) nr × ArityTable (now protocol) (now arities) (now rules) nr (now ars) ⌝ }
+    ensures kept { λ r. ⌜ length (now (nodes .exit)) ≡ length (now (nodes .entry)) ⌝ }
     ensures ruled { λ r. ⌜ ((p : Protocol) → IndexOf (now (protocol .entry)) (now (arities .entry)) (now (rules .entry)) nr p → rulingOf r ≡ counted (listRuling p stepsItem (steps p (now (file .entry))))) ⌝ }
-    ensures good { λ r. ⌜ ((p : Protocol) → IndexOf (now (protocol .entry)) (now (arities .entry)) (now (rules .entry)) nr p → WhereGood p (now (file .entry)) (now (places .exit)) r) ⌝ }
+    ensures good { λ r. ⌜ ((p : Protocol) → IndexOf (now (protocol .entry)) (now (arities .entry)) (now (rules .entry)) nr p → WhereGood p (now (file .entry)) (now (nodes .exit)) r) ⌝ }
 {
-    match nodes::read_steps(file, protocol, arities, rules, nr, places) {
-        Nodes::End(n, _) => rule_nodes(file, protocol, arities, ars, rules, nr, places, n),
+    match nodes::read_steps(file, protocol, arities, rules, nr, nodes) {
+        Nodes::End(n, _) => rule_nodes(file, protocol, arities, ars, rules, nr, nodes, n),
         Nodes::Broken => NodesRuling::Refused(rewriting::LAYOUT, rewriting::STEPS_ITEM),
         Nodes::NoRule(k) => NodesRuling::Refused(rewriting::NO_SUCH_RULE, k),
     }

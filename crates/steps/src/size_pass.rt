@@ -85,15 +85,15 @@ pub fn size_pass(
     ars: &[u8],
     rules: &[usize],
     nr: usize,
-    places: &[usize],
+    nodes: &[usize],
     n: usize,
 ) -> usize
-    requires { ⌜ (length (now file) ≤ longest) × (n ≤ mostNodes) × (n ≤ length (now places)) × Given (now protocol) (now arities) (now rules) nr × SomeNodes (now protocol) (now arities) (now rules) nr (now file) (now places) n × ArityTable (now protocol) (now arities) (now rules) nr (now ars) ⌝ }
-    ensures { λ r. ⌜ ((p : Protocol) (xs : List Node) → IndexOf (now (protocol .entry)) (now (arities .entry)) (now (rules .entry)) nr p → Placed (node p (now (file .entry))) noNode (now (places .entry)) xs n → asFound r ≡ firstBad (λ (k : ℕ) (x : Node). nodeTermsOk p x) 1 xs) ⌝ }
+    requires { ⌜ (length (now file) ≤ longest) × (n ≤ mostNodes) × (n ≤ length (now nodes)) × Given (now protocol) (now arities) (now rules) nr × SomeNodes (now protocol) (now arities) (now rules) nr (now file) (now nodes) n × ArityTable (now protocol) (now arities) (now rules) nr (now ars) ⌝ }
+    ensures { λ r. ⌜ ((p : Protocol) (xs : List Node) → IndexOf (now (protocol .entry)) (now (arities .entry)) (now (rules .entry)) nr p → Placed (node p (now (file .entry))) noNode (now (nodes .entry)) xs n → asFound r ≡ firstBad (λ (k : ℕ) (x : Node). nodeTermsOk p x) 1 xs) ⌝ }
 {
     let mut j: usize = 0;
     while j < n {
-        if node_terms(file, protocol, arities, ars, rules, nr, places[j]) {
+        if node_terms(file, protocol, arities, ars, rules, nr, nodes[j]) {
             j += 1;
         } else {
             return j + 1;

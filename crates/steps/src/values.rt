@@ -167,15 +167,15 @@ pub fn value_pass(
     arities: &[u8],
     rules: &[usize],
     nr: usize,
-    places: &[usize],
+    nodes: &[usize],
     n: usize,
 ) -> usize
-    requires { ⌜ (length (now file) ≤ longest) × (n ≤ mostNodes) × (n ≤ length (now places)) × Given (now protocol) (now arities) (now rules) nr × SomeNodes (now protocol) (now arities) (now rules) nr (now file) (now places) n ⌝ }
-    ensures { λ r. ⌜ ((p : Protocol) (xs : List Node) → IndexOf (now (protocol .entry)) (now (arities .entry)) (now (rules .entry)) nr p → Placed (node p (now (file .entry))) noNode (now (places .entry)) xs n → asFound r ≡ firstBad (λ (k : ℕ) (x : Node). nodeValuesOk p x) 1 xs) ⌝ }
+    requires { ⌜ (length (now file) ≤ longest) × (n ≤ mostNodes) × (n ≤ length (now nodes)) × Given (now protocol) (now arities) (now rules) nr × SomeNodes (now protocol) (now arities) (now rules) nr (now file) (now nodes) n ⌝ }
+    ensures { λ r. ⌜ ((p : Protocol) (xs : List Node) → IndexOf (now (protocol .entry)) (now (arities .entry)) (now (rules .entry)) nr p → Placed (node p (now (file .entry))) noNode (now (nodes .entry)) xs n → asFound r ≡ firstBad (λ (k : ℕ) (x : Node). nodeValuesOk p x) 1 xs) ⌝ }
 {
     let mut j: usize = 0;
     while j < n {
-        if node_values(file, protocol, arities, rules, nr, places[j]) {
+        if node_values(file, protocol, arities, rules, nr, nodes[j]) {
             j += 1;
         } else {
             return j + 1;

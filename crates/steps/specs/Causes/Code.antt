@@ -76,21 +76,21 @@ module _ (p : Protocol) (xs : List Node) where
             ap {B = Ruling ℕ} passed (sym l) ∙ ap (λ (o : Option ℕ). Passes none none o) (sym (found-none k h) ∙ names) ∙ second
 
 -- ── the whole list, as it was read ──
-module _ (p : Protocol) (file places : List ℕ) (r : Nodes) (told : Told (steps p file) p file places r) where
+module _ (p : Protocol) (file nodes : List ℕ) (r : Nodes) (told : Told (steps p file) p file nodes r) where
   abbrev Whole : Ruling ℕ
   Whole = counted (listRuling p stepsItem (steps p file))
 
   pub list-broken : r ≡ all.Broken → refused 3 stepsItem ≡ Whole
   list-broken h =
-      ap (λ (q : Reading (List Node)). counted (listRuling p stepsItem q)) (sym (subst (Told (steps p file) p file places) h told))
+      ap (λ (q : Reading (List Node)). counted (listRuling p stepsItem q)) (sym (subst (Told (steps p file) p file nodes) h told))
 
   pub list-unknown : {k : ℕ} → r ≡ all.NoRule k → refused 6 k ≡ Whole
   list-unknown h =
-      ap (λ (q : Reading (List Node)). counted (listRuling p stepsItem q)) (sym (subst (Told (steps p file) p file places) h told))
+      ap (λ (q : Reading (List Node)). counted (listRuling p stepsItem q)) (sym (subst (Told (steps p file) p file nodes) h told))
 
   module _ {n e : ℕ} (h : r ≡ all.End n e) where
-    pub list-read : NodesAre (steps p file) p file places n e
-    list-read = subst (Told (steps p file) p file places) h told
+    pub list-read : NodesAre (steps p file) p file nodes n e
+    list-read = subst (Told (steps p file) p file nodes) h told
 
     pub list-few : Bytes file → n ≤ mostNodes
     list-few bytes =
@@ -99,15 +99,15 @@ module _ (p : Protocol) (file places : List ℕ) (r : Nodes) (told : Told (steps
         subst (λ k. k ≤ mostNodes) (t .placed .count) f
 
     pub list-nodes :
-        (j : NodesRuling) → ((xs : List Node) → Placed (node p file) noNode places xs n → rulingOf j ≡ counted (nodeRuling p xs)) → rulingOf j ≡ Whole
+        (j : NodesRuling) → ((xs : List Node) → Placed (node p file) noNode nodes xs n → rulingOf j ≡ counted (nodeRuling p xs)) → rulingOf j ≡ Whole
     list-nodes j k =
         let t = list-read in
         k (t .items) (t .placed) ∙ ap (λ (q : Reading (List Node)). counted (listRuling p stepsItem q)) (sym (t .there))
 
 -- the nodes that were read are nodes of some protocol with this index
 pub list-some :
-    {protocol table rules : List ℕ} {nr : ℕ} {p : Protocol} (i : IndexOf protocol table rules nr p) (file places : List ℕ) (r : Nodes)
-    → Told (steps p file) p file places r → {n e : ℕ} → r ≡ all.End n e → SomeNodes protocol table rules nr file places n
-list-some {p = p} i file places r told h =
-    let t = list-read p file places r told h in
+    {protocol arities rules : List ℕ} {nr : ℕ} {p : Protocol} (i : IndexOf protocol arities rules nr p) (file nodes : List ℕ) (r : Nodes)
+    → Told (steps p file) p file nodes r → {n e : ℕ} → r ≡ all.End n e → SomeNodes protocol arities rules nr file nodes n
+list-some {p = p} i file nodes r told h =
+    let t = list-read p file nodes r told h in
     record { of = p; index = i; their = t .items; placed = t .placed }

@@ -19,16 +19,16 @@ use Rattle.steps.specs.declared.ruling.NodesRuling.{NodesRuling}
 use Rattle.steps.specs.declared.ruling.NodesRuling.the-variants as jd
 
 -- a step list that is good: its n nodes at their places
-pub record GoodSteps (p : Protocol) (file places : List ℕ) (n : ℕ) : Type 0 where
+pub record GoodSteps (p : Protocol) (file nodes : List ℕ) (n : ℕ) : Type 0 where
   pub items : List Node
   pub there : steps p file ≡ read items (length file)
-  pub placed : Placed (node p file) noNode places items n
+  pub placed : Placed (node p file) noNode nodes items n
   pub few : n ≤ mostNodes
   pub passing : Passing p items
 
 abbrev pub WhereGood : Protocol → List ℕ → List ℕ → NodesRuling → Type 0
-WhereGood p file places (jd.Good n) = GoodSteps p file places n
-WhereGood p file places (jd.Refused m k) = Unit {0}
+WhereGood p file nodes (jd.Good n) = GoodSteps p file nodes n
+WhereGood p file nodes (jd.Refused m k) = Unit {0}
 
 -- ── laws ──
 count-of : (q : Ruling (List Node)) (n : ℕ) → passed n ≡ counted q → (xs : List Node) × (q ≡ passed xs) × (n ≡ length xs)
@@ -45,16 +45,16 @@ good-passing p xs within n h =
     (l ∙ ap length (g .0), subst (Passing p) (g .0) (g .1))
 
 pub where-good :
-    (p : Protocol) (file places : List ℕ) → Bytes file → (n e : ℕ) (t : NodesAre (steps p file) p file places n e) (j : NodesRuling)
-    → rulingOf j ≡ counted (nodeRuling p (t .items)) → WhereGood p file places j
-where-good p file places bytes n e t (jd.Good m) h =
+    (p : Protocol) (file nodes : List ℕ) → Bytes file → (n e : ℕ) (t : NodesAre (steps p file) p file nodes n e) (j : NodesRuling)
+    → rulingOf j ≡ counted (nodeRuling p (t .items)) → WhereGood p file nodes j
+where-good p file nodes bytes n e t (jd.Good m) h =
     let f = steps-form p file bytes (t .items) e (t .there) in
     let g = good-passing p (t .items) (f .0 .each) m h in
     record {
       items = t .items;
       there = t .there ∙ ap (read (t .items)) (f .2);
-      placed = subst (Placed (node p file) noNode places (t .items)) (sym (t .placed .count) ∙ sym (g .0)) (t .placed);
+      placed = subst (Placed (node p file) noNode nodes (t .items)) (sym (t .placed .count) ∙ sym (g .0)) (t .placed);
       few = subst (λ (k : ℕ). k ≤ mostNodes) (sym (g .0)) (f .0 .few);
       passing = g .1;
     }
-where-good p file places bytes n e t (jd.Refused m k) h = tt
+where-good p file nodes bytes n e t (jd.Refused m k) h = tt

@@ -14,24 +14,24 @@ use Rattle.rules.specs.declared.fit.FitVerdict.the-variants as jd
 use Rattle.steps.specs.Index.{Given}
 use Rattle.steps.specs.Values.Filled.{ArityTable, index-arities}
 
-module _ (file arities ars flags places : List ℕ) (r : FitVerdict) (ns nr : ℕ) (is : r ≡ jd.Sound ns nr) (index : Indexes file r arities ars flags places)
+module _ (file arities ars flags rules : List ℕ) (r : FitVerdict) (ns nr : ℕ) (is : r ≡ jd.Sound ns nr) (index : Indexes file r arities ars flags rules)
   where
-    entries : Entries file ns nr arities ars flags places
-    entries = subst (λ (q : FitVerdict). Indexes file q arities ars flags places) is index
+    entries : Entries file ns nr arities ars flags rules
+    entries = subst (λ (q : FitVerdict). Indexes file q arities ars flags rules) is index
 
     pub sound-few : ns ≤ symbolCount
     sound-few = entries .few-symbols
 
-    pub sound-given : length file ≤ longest → length arities ≡ tagCount → mostRules ≤ length places → Given file arities places nr
+    pub sound-given : length file ≤ longest → length arities ≡ tagCount → mostRules ≤ length rules → Given file arities rules nr
     sound-given short full many =
         let few = entries .few-rules in
         record {
           protocol = entries .is;
           index = record { ns = ns; ars = ars; flags = flags; entries = entries; same = refl };
           slots-many = full;
-          places-many = omega arith;
+          rules-many = omega arith;
           short = short;
         }
 
-    pub sound-arities : ArityTable file arities places nr (take ns ars)
+    pub sound-arities : ArityTable file arities rules nr (take ns ars)
     sound-arities = index-arities entries

@@ -62,10 +62,10 @@ pub zero-sorts : (p : Protocol) (n : ℕ) → n ≡ 0 → (u : Rule) × (ruleOf 
 unfolding fixed
 zero-sorts p n h = (fixed n, of-fixed p n (omega arith), ap (λ (k : ℕ). fixed k .sorts) h)
 
-module _ {protocol table rules : List ℕ} {nr : ℕ} {p : Protocol} (i : IndexOf protocol table rules nr p) (file : List ℕ) (bytes : Bytes file) (r d : ℕ)
+module _ {protocol arities rules : List ℕ} {nr : ℕ} {p : Protocol} (i : IndexOf protocol arities rules nr p) (file : List ℕ) (bytes : Bytes file) (r d : ℕ)
     (x : Node)
     (e : ℕ) (from : NodeFrom p file r d x e) where
-  pub zero-name : r ≡ 0 → (m : Made) → NumberIs (symbolAt file table d) m → MadeIs (facts.madeName x) m
+  pub zero-name : r ≡ 0 → (m : Made) → NumberIs (symbolAt file arities d) m → MadeIs (facts.madeName x) m
   unfolding many
   zero-name z m h =
       let (u, a, b) = zero-sorts p r z in

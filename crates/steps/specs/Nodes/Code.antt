@@ -39,7 +39,7 @@ use Rattle.steps.specs.declared.nodes.NodeEnd.the-variants as end
 use Rattle.steps.specs.declared.nodes.Nodes.{Nodes}
 use Rattle.steps.specs.declared.nodes.Nodes.the-variants as all
 use Rattle.steps.specs.Nodes.{Node, node-of, mostNodes, Reading, read, broken, no-rule, plainly}
-use Rattle.steps.specs.Nodes.{absent, unknown, values, node, nodesFrom, nodes, allOf, steps}
+use Rattle.steps.specs.Nodes.{absent, unknown, values, node, nodesFrom, nodeList, allOf, steps}
 use Rattle.steps.specs.Nodes.Exact.{many-from}
 use Rattle.steps.specs.Nodes.Unknown.{stops-unknown, stops-broken}
 
@@ -70,15 +70,15 @@ nodeEnd p file at = nodeOf p file (readNumber file at)
 abbrev pub noNode : Node
 noNode = node-of 0 []
 
-pub record NodesAre (r : Reading (List Node)) (p : Protocol) (file places : List ℕ) (n e : ℕ) : Type 0 where
+pub record NodesAre (r : Reading (List Node)) (p : Protocol) (file nodes : List ℕ) (n e : ℕ) : Type 0 where
   pub items : List Node
   pub there : r ≡ read items e
-  pub placed : Placed (node p file) noNode places items n
+  pub placed : Placed (node p file) noNode nodes items n
 
 abbrev pub Told : Reading (List Node) → Protocol → List ℕ → List ℕ → Nodes → Type 0
-Told r p file places (all.End n e) = NodesAre r p file places n e
-Told r p file places all.Broken = r ≡ broken
-Told r p file places (all.NoRule k) = r ≡ no-rule k
+Told r p file nodes (all.End n e) = NodesAre r p file nodes n e
+Told r p file nodes all.Broken = r ≡ broken
+Told r p file nodes (all.NoRule k) = r ≡ no-rule k
 
 -- ── laws ──
 abbrev pub partEnd : Part → NodeEnd
@@ -90,17 +90,17 @@ part-end (got ts e) = refl
 part-end fault = refl
 
 -- a rule that was found, and how many variables it has
-module _ {file arities places : List ℕ} {nr : ℕ} {p : Protocol} (i : IndexOf file arities places nr p) where
+module _ {file arities rules : List ℕ} {nr : ℕ} {p : Protocol} (i : IndexOf file arities rules nr p) where
   pub index-finds :
       (n : ℕ) (r : FoundRule) (out : List ℕ)
-      → ((z : List ℕ) (ns : ℕ) (ars flags : List ℕ) (j : Entries z ns nr arities ars flags places) → Finds (j .is) z arities (take ns ars) n r out)
+      → ((z : List ℕ) (ns : ℕ) (ars flags : List ℕ) (j : Entries z ns nr arities ars flags rules) → Finds (j .is) z arities (take ns ars) n r out)
       → Finds p file arities (take (i .ns) (i .ars)) n r out
   index-finds n r out h =
       subst (λ (q : Protocol). Finds q file arities (take (i .ns) (i .ars)) n r out) (i .same) (h file (i .ns) (i .ars) (i .flags) (i .entries))
 
   -- case by case
   module _ (n : ℕ) (r : FoundRule) (out : List ℕ)
-      (h : (z : List ℕ) (ns : ℕ) (ars flags : List ℕ) (j : Entries z ns nr arities ars flags places) → Finds (j .is) z arities (take ns ars) n r out) where
+      (h : (z : List ℕ) (ns : ℕ) (ars flags : List ℕ) (j : Entries z ns nr arities ars flags rules) → Finds (j .is) z arities (take ns ars) n r out) where
     pub written-at : (len : ℕ) → r ≡ fd.Written len → WrittenAs p n len out
     written-at len e = subst (λ (q : FoundRule). Finds p file arities (take (i .ns) (i .ars)) n q out) e (index-finds n r out h)
 
@@ -227,56 +227,56 @@ module _ (p : Protocol) (file : List ℕ) (at : ℕ) where
 
 -- ── the loop: j nodes were read, each at its place, and it stands at i ──
 module _ (p : Protocol) (file : List ℕ) (at : ℕ) where
-  pub record Passed (j i : ℕ) (places : List ℕ) : Type 0 where
-    pub each : (k : ℕ) → k < j → Came (node p file) at k (getD places k 0)
+  pub record Passed (j i : ℕ) (nodes : List ℕ) : Type 0 where
+    pub each : (k : ℕ) → k < j → Came (node p file) at k (getD nodes k 0)
     pub here : Came (node p file) at j i
 
-  pub passed-none : (places : List ℕ) → Passed 0 at places
-  passed-none places = record { each = λ k l. absurd (omega arith); here = came-none (node p file) at }
+  pub passed-none : (nodes : List ℕ) → Passed 0 at nodes
+  passed-none nodes = record { each = λ k l. absurd (omega arith); here = came-none (node p file) at }
 
-  pub passed-more : (j i e : ℕ) (places : List ℕ) → Passed j i places → nodeEnd p file i ≡ end.End e → j < length places → Passed (j + 1) e (set places j i)
-  passed-more j i e places c h l =
+  pub passed-more : (j i e : ℕ) (nodes : List ℕ) → Passed j i nodes → nodeEnd p file i ≡ end.End e → j < length nodes → Passed (j + 1) e (set nodes j i)
+  passed-more j i e nodes c h l =
       let (x, g) = end-node p file i h in
-      record { each = places-more (node p file) at j i places (c .each) (c .here) l; here = came-more (node p file) at j i e x (c .here) g }
+      record { each = places-more (node p file) at j i nodes (c .each) (c .here) l; here = came-more (node p file) at j i e x (c .here) g }
 
   module _ (n : ℕ) where
-    pub passed-broken : (j i : ℕ) (places : List ℕ) → Passed j i places → nodeEnd p file i ≡ end.Broken → j < n → nodesFrom p file 1 n at ≡ broken
-    passed-broken j i places c h l =
+    pub passed-broken : (j i : ℕ) (nodes : List ℕ) → Passed j i nodes → nodeEnd p file i ≡ end.Broken → j < n → nodesFrom p file 1 n at ≡ broken
+    passed-broken j i nodes c h l =
         let (u, g) = broken-node p file i h in
         stops-broken p file i u g j 1 n at (c .here .items) (c .here .there) l
 
-    pub passed-unknown : (j i : ℕ) (places : List ℕ) → Passed j i places → nodeEnd p file i ≡ end.NoRule → j < n → nodesFrom p file 1 n at ≡ no-rule (j + 1)
-    passed-unknown j i places c h l =
+    pub passed-unknown : (j i : ℕ) (nodes : List ℕ) → Passed j i nodes → nodeEnd p file i ≡ end.NoRule → j < n → nodesFrom p file 1 n at ≡ no-rule (j + 1)
+    passed-unknown j i nodes c h l =
         let k : 1 + j ≡ j + 1 = omega arith in
         stops-unknown p file i (no-node p file i h) j 1 n at (c .here .items) (c .here .there) l ∙ ap no-rule k
 
-    pub passed-all : (j i : ℕ) (places : List ℕ) → Passed j i places → j ≡ n → NodesAre (nodesFrom p file 1 n at) p file places n i
-    passed-all j i places c h =
+    pub passed-all : (j i : ℕ) (nodes : List ℕ) → Passed j i nodes → j ≡ n → NodesAre (nodesFrom p file 1 n at) p file nodes n i
+    passed-all j i nodes c h =
         let there : many (node p file) n at ≡ got (c .here .items) i = ap (λ (k : ℕ). many (node p file) k at) (sym h) ∙ c .here .there in
         record {
           items = c .here .items;
           there = many-from p file 1 n at i (c .here .items) there;
-          placed = places-end (node p file) at noNode n i (c .here .items) places there (λ k l. c .each k (omega arith));
+          placed = places-end (node p file) at noNode n i (c .here .items) nodes there (λ k l. c .each k (omega arith));
         }
 
   -- the count and then the nodes
-  pub nodes-got : {n e : ℕ} → below file (suc mostNodes) at ≡ got n e → nodes p file at ≡ nodesFrom p file 1 n e
-  unfolding nodes
+  pub nodes-got : {n e : ℕ} → below file (suc mostNodes) at ≡ got n e → nodeList p file at ≡ nodesFrom p file 1 n e
+  unfolding nodeList
   nodes-got h = ap (λ (o : Read ℕ). plainly o (λ n e. nodesFrom p file 1 n e)) h
 
-  pub nodes-fault : below file (suc mostNodes) at ≡ fault → nodes p file at ≡ broken
-  unfolding nodes
+  pub nodes-fault : below file (suc mostNodes) at ≡ fault → nodeList p file at ≡ broken
+  unfolding nodeList
   nodes-fault h = ap (λ (o : Read ℕ). plainly o (λ n e. nodesFrom p file 1 n e)) h
 
-pub told-as : (r q : Reading (List Node)) → r ≡ q → (p : Protocol) (file places : List ℕ) (o : Nodes) → Told q p file places o → Told r p file places o
-told-as r q h p file places o t = subst (λ (z : Reading (List Node)). Told z p file places o) (sym h) t
+pub told-as : (r q : Reading (List Node)) → r ≡ q → (p : Protocol) (file nodes : List ℕ) (o : Nodes) → Told q p file nodes o → Told r p file nodes o
+told-as r q h p file nodes o t = subst (λ (z : Reading (List Node)). Told z p file nodes o) (sym h) t
 
 -- ── a whole step list ──
-module _ (p : Protocol) (file places : List ℕ) (r : Nodes) (told : Told (nodes p file 0) p file places r) where
-  pub steps-end : {n e : ℕ} → r ≡ all.End n e → e ≡ length file → NodesAre (steps p file) p file places n e
+module _ (p : Protocol) (file nodes : List ℕ) (r : Nodes) (told : Told (nodeList p file 0) p file nodes r) where
+  pub steps-end : {n e : ℕ} → r ≡ all.End n e → e ≡ length file → NodesAre (steps p file) p file nodes n e
   unfolding steps
   steps-end {n} {e} h q =
-      let t = subst (Told (nodes p file 0) p file places) h told in
+      let t = subst (Told (nodeList p file 0) p file nodes) h told in
       record {
         items = t .items;
         there = ap (allOf file) (t .there) ∙ ap (λ (b : Bool). pick b (read (t .items) e) broken) (eq-eqb e (length file) q);
@@ -286,13 +286,13 @@ module _ (p : Protocol) (file places : List ℕ) (r : Nodes) (told : Told (nodes
   pub steps-leftover : {n e : ℕ} → r ≡ all.End n e → (e ≡ length file → ⊥) → steps p file ≡ broken
   unfolding steps
   steps-leftover {n} {e} h q =
-      let t = subst (Told (nodes p file 0) p file places) h told in
+      let t = subst (Told (nodeList p file 0) p file nodes) h told in
       ap (allOf file) (t .there) ∙ ap (λ (b : Bool). pick b (read (t .items) e) broken) (ne-eqb e (length file) q)
 
   pub steps-broken : r ≡ all.Broken → steps p file ≡ broken
   unfolding steps
-  steps-broken h = ap (allOf file) (subst (Told (nodes p file 0) p file places) h told)
+  steps-broken h = ap (allOf file) (subst (Told (nodeList p file 0) p file nodes) h told)
 
   pub steps-unknown : {k : ℕ} → r ≡ all.NoRule k → steps p file ≡ no-rule k
   unfolding steps
-  steps-unknown h = ap (allOf file) (subst (Told (nodes p file 0) p file places) h told)
+  steps-unknown h = ap (allOf file) (subst (Told (nodeList p file 0) p file nodes) h told)

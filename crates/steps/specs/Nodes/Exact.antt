@@ -24,7 +24,7 @@ use Rattle.term.specs.Reader.Exact.{Good, term-exact}
 use Rattle.protocol.specs.Protocol.{Rule, Protocol}
 use Rattle.rules.specs.Numbered.{ruleOf}
 use Rattle.steps.specs.Nodes.{Node, node-of, mostNodes, encodeNode, encodeNodes, Reading, read, broken, no-rule, onward, plainly}
-use Rattle.steps.specs.Nodes.{allOf, NodeWithin, NodesWithin, values, node, absent, unknown, nodesFrom, nodes, steps}
+use Rattle.steps.specs.Nodes.{allOf, NodeWithin, NodesWithin, values, node, absent, unknown, nodesFrom, nodeList, steps}
 
 -- ── readings in parts ──
 module _ {A B : Type 0} where
@@ -86,8 +86,8 @@ module _ (p : Protocol) (file : List ℕ) where
       ∙ ap (λ (o : Reading (List Node)). onward o (λ xs f. read (x ∷ xs) f)) (many-from (suc k) n d c ys hys)
       ∙ ap₂ read a b))
 
-  pub nodes-counted : (at e : ℕ) (xs : List Node) → (nodes p file at ≡ read xs e) ↔ (counted file mostNodes (node p file) at ≡ got xs e)
-  unfolding nodes counted
+  pub nodes-counted : (at e : ℕ) (xs : List Node) → (nodeList p file at ≡ read xs e) ↔ (counted file mostNodes (node p file) at ≡ got xs e)
+  unfolding nodeList counted
   nodes-counted at e xs = (
     (λ h. cut-plain (below file (suc mostNodes) at) _ h (λ n d hn h. then-got (below file (suc mostNodes) at) _ hn ∙ from-many 1 n d e xs h)),
     (λ h. cut-got (below file (suc mostNodes) at) _ h (λ n d hn h.
@@ -152,12 +152,12 @@ module _ (p : Protocol) (file : List ℕ) where
     -- what is within the limits reads back from its bytes
     pub nodes-back :
         (xs : List Node) (at : ℕ) (rest : List ℕ) → NodesWithin p xs → drop at file ≡ encodeNodes xs ++ rest
-        → nodes p file at ≡ read xs (at + length (encodeNodes xs))
+        → nodeList p file at ≡ read xs (at + length (encodeNodes xs))
     nodes-back xs at rest w there =
         nodes-counted at (at + length (encodeNodes xs)) xs .1 (list-exact .back xs at rest (w .few, w .each) there)
 
     -- what reads is within the limits, and its bytes stand there
-    pub nodes-form : (xs : List Node) (at e : ℕ) → nodes p file at ≡ read xs e → NodesWithin p xs × Stands file at (encodeNodes xs) e
+    pub nodes-form : (xs : List Node) (at e : ℕ) → nodeList p file at ≡ read xs e → NodesWithin p xs × Stands file at (encodeNodes xs) e
     nodes-form xs at e h =
         let f = list-exact .form xs at e (nodes-counted at e xs .0 h) in
         (record { few = f .0 .0; each = f .0 .1 }, f .1)
@@ -166,7 +166,7 @@ module _ (p : Protocol) (file : List ℕ) where
     pub steps-form : (xs : List Node) (e : ℕ) → steps p file ≡ read xs e → NodesWithin p xs × (file ≡ encodeNodes xs) × (e ≡ length file)
     unfolding steps
     steps-form xs e h =
-        cut-read (nodes p file 0) _ h (λ ys d hy h. cut-eq _ _ _ d (length file) h
+        cut-read (nodeList p file 0) _ h (λ ys d hy h. cut-eq _ _ _ d (length file) h
         (λ q h.
         let a : ys ≡ xs = cc in
         let b : d ≡ e = cc in

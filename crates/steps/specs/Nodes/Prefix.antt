@@ -11,7 +11,7 @@ use Rattle.number.specs.Groups.{groups}
 use Rattle.number.specs.Groups.Laws.{groups-some}
 use Rattle.number.specs.Layout.{flat}
 use Rattle.protocol.specs.Protocol.{Protocol}
-use Rattle.steps.specs.Nodes.{Node, encodeNode, encodeNodes, read, nodes}
+use Rattle.steps.specs.Nodes.{Node, encodeNode, encodeNodes, read, nodeList}
 use Rattle.steps.specs.Nodes.Exact.{nodes-back, nodes-form}
 
 -- a list from a place on, cut at a later one
@@ -38,10 +38,10 @@ nodes-some xs = omega (arith, length-append (groups (length xs)) (flat encodeNod
 
 module _ (p : Protocol) (file z : List ℕ) (bytes : Bytes file) (bytes′ : Bytes z) where
   -- the end lies within the file
-  pub nodes-end : (xs : List Node) (at e : ℕ) → nodes p file at ≡ read xs e → e ≤ length file
+  pub nodes-end : (xs : List Node) (at e : ℕ) → nodeList p file at ≡ read xs e → e ≤ length file
   nodes-end xs at e h = stands-within (nodes-form p file bytes xs at e h .1) (nodes-some xs)
 
-  pub nodes-alike : (xs : List Node) (at e : ℕ) → e ≤ length z → take e file ≡ take e z → nodes p file at ≡ read xs e → nodes p z at ≡ read xs e
+  pub nodes-alike : (xs : List Node) (at e : ℕ) → e ≤ length z → take e file ≡ take e z → nodeList p file at ≡ read xs e → nodeList p z at ≡ read xs e
   nodes-alike xs at e l same h =
       let f = nodes-form p file bytes xs at e h in
       let g = stands-alike file z at e (encodeNodes xs) same (nodes-end xs at e h) l (f .1) in

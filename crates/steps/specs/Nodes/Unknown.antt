@@ -12,7 +12,7 @@ use Rattle.number.specs.Reading.Laws.{cut-got}
 use Rattle.number.specs.Reading.Many.{many-cons}
 use Rattle.protocol.specs.Protocol.{Rule, Protocol}
 use Rattle.rules.specs.Numbered.{ruleOf}
-use Rattle.steps.specs.Nodes.{Node, mostNodes, Reading, read, broken, no-rule, onward, plainly, absent, unknown, node, nodesFrom, nodes}
+use Rattle.steps.specs.Nodes.{Node, mostNodes, Reading, read, broken, no-rule, onward, plainly, absent, unknown, node, nodesFrom, nodeList}
 use Rattle.steps.specs.Nodes.Exact.{node-known}
 
 -- ── readings in parts ──
@@ -135,8 +135,8 @@ module _ (p : Protocol) (file : List ℕ) where
       ap (λ (t : Bool). pick t (no-rule b) (plainly (node p file place) (λ x e. onward (nodesFrom p file (suc b) m e) (λ xs f. read (x ∷ xs) f)))) u
       ∙ ap (λ (o : Read Node). plainly o (λ x e. onward (nodesFrom p file (suc b) m e) (λ xs f. read (x ∷ xs) f))) g)
 
-  pub no-rule-exactly : (at k : ℕ) → (nodes p file at ≡ no-rule k) ↔ RuleMissing at k
-  unfolding nodes
+  pub no-rule-exactly : (at k : ℕ) → (nodeList p file at ≡ no-rule k) ↔ RuleMissing at k
+  unfolding nodeList
   no-rule-exactly at k = (
     (λ h. cut-plain-rule (below file (suc mostNodes) at) _ h (λ n d hn h. record { count = n; start = d; counts = hn; there = from-norule 1 n d k h })),
     (λ h.

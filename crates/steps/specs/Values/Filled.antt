@@ -39,11 +39,11 @@ use Rattle.steps.specs.Values.Parts.{noTerm, ruleSmall, rule-weighed}
 use Rattle.steps.specs.Values.Loops.{RuleHere, count-here, NodeFrom, rule-here}
 
 -- ── the sizes of values ──
-module _ (file table : List ℕ) (bytes : Bytes file) where
+module _ (file arities : List ℕ) (bytes : Bytes file) where
   -- a value has no more symbols than the file has bytes
-  term-small : (t : Term) (at e : ℕ) → term file table at ≡ got t e → symbols t ≤ length file
+  term-small : (t : Term) (at e : ℕ) → term file arities at ≡ got t e → symbols t ≤ length file
   term-small t at e h =
-      let f = term-form file table bytes t at e h in
+      let f = term-form file arities bytes t at e h in
       omega (arith, symbols-bytes t, f .1 .ends, stands-within (f .1) (encode-some t))
 
   first-small :
@@ -52,20 +52,20 @@ module _ (file table : List ℕ) (bytes : Bytes file) where
   first-small t ts a k b zero l = a
   first-small t ts a k b (suc j) l = b j (omega arith)
 
-  pub value-small : (k at e : ℕ) (vs : List Term) → many (term file table) k at ≡ got vs e → (j : ℕ) → j < k → symbols (getD vs j noTerm) ≤ length file
+  pub value-small : (k at e : ℕ) (vs : List Term) → many (term file arities) k at ≡ got vs e → (j : ℕ) → j < k → symbols (getD vs j noTerm) ≤ length file
   unfolding many
   value-small zero at e vs h j l = absurd (omega arith)
   value-small (suc k) at e vs h j l =
-      cut-got (term file table at) _ h (λ t d ht h. cut-got (many (term file table) k d) _ h (λ ts c hts h.
+      cut-got (term file arities at) _ h (λ t d ht h. cut-got (many (term file arities) k d) _ h (λ ts c hts h.
       let a : t ∷ ts ≡ vs = cc in
       subst (λ (us : List Term). symbols (getD us j noTerm) ≤ length file) a
       (first-small t ts (term-small t at d ht) k (λ i m. value-small k d c ts hts i m) j l)))
 
 -- ── a table of the first k of them ──
-module _ (file table : List ℕ) (k at : ℕ) (vs : List Term) (e : ℕ) (reads : many (term file table) k at ≡ got vs e) (sizes : List ℕ) (room : k ≤ length sizes)
+module _ (file arities : List ℕ) (k at : ℕ) (vs : List Term) (e : ℕ) (reads : many (term file arities) k at ≡ got vs e) (sizes : List ℕ) (room : k ≤ length sizes)
     (told : (j : ℕ) → j < k → getD sizes j 1 ≡ symbols (getD vs j noTerm)) where
   many-values : length vs ≡ k
-  many-values = many-length (term file table) k at e vs reads
+  many-values = many-length (term file arities) k at e vs reads
 
   outside : (n : ℕ) → k ≤ n → sizeIn (take k sizes) n ≡ 1
   outside n l = List·getD-eq-default (take k sizes) 1 (omega (arith, length-take-le k sizes room))
@@ -79,17 +79,17 @@ module _ (file table : List ℕ) (k at : ℕ) (vs : List Term) (e : ℕ) (reads 
   pub sizes-small : Bytes file → length file ≤ longest → (n : ℕ) → sizeIn (take k sizes) n ≤ longest
   sizes-small bytes short n =
       by-size n k
-      (λ l. omega (arith, getD-take k sizes n 1 l, told n l, value-small file table bytes k at e vs reads n l))
+      (λ l. omega (arith, getD-take k sizes n 1 l, told n l, value-small file arities bytes k at e vs reads n l))
       (λ l. omega (arith, outside n l))
 
 -- ── what is asked ──
 -- the arities of the fact symbols of the protocol of which the tables are the index
 abbrev pub ArityTable : List ℕ → List ℕ → List ℕ → ℕ → List ℕ → Type 0
-ArityTable protocol table rules nr ars = (p : Protocol) → IndexOf protocol table rules nr p → ars ≡ factArities (p .symbols)
+ArityTable protocol arities rules nr ars = (p : Protocol) → IndexOf protocol arities rules nr p → ars ≡ factArities (p .symbols)
 
 -- the index has it
 pub index-arities :
-    {protocol table rules : List ℕ} {ns nr : ℕ} {ars flags : List ℕ} → Entries protocol ns nr table ars flags rules → ArityTable protocol table rules nr
+    {protocol arities rules : List ℕ} {ns nr : ℕ} {ars flags : List ℕ} → Entries protocol ns nr arities ars flags rules → ArityTable protocol arities rules nr
     (take ns ars)
 index-arities {protocol} i p j =
     let h : got (i .is) (length protocol) ≡ got (j .entries .is) (length protocol) = sym (i .reads) ∙ j .entries .reads in
@@ -97,32 +97,32 @@ index-arities {protocol} i p j =
     i .tabled ∙ ap (λ (q : Protocol). factArities (q .symbols)) (a ∙ j .same)
 
 -- a rule at a place of src under these tables, and the values of a node of it at a place of file
-pub record FillsRule (table ars file src : List ℕ) (place at : ℕ) (u : Rule) (vs : List Term) (e : ℕ) : Type 0 where
-  pub is : RuleHere table file src place at u vs e
-  pub here : Here (rule src table ars) u place
+pub record FillsRule (arities ars file src : List ℕ) (place at : ℕ) (u : Rule) (vs : List Term) (e : ℕ) : Type 0 where
+  pub is : RuleHere arities file src place at u vs e
+  pub here : Here (rule src arities ars) u place
 
-pub record SomeFilling (table ars file src : List ℕ) (place at : ℕ) : Type 0 where
+pub record SomeFilling (arities ars file src : List ℕ) (place at : ℕ) : Type 0 where
   pub its : Rule
   pub its-values : List Term
   pub end : ℕ
-  pub fills : FillsRule table ars file src place at its its-values end
+  pub fills : FillsRule arities ars file src place at its its-values end
 
-module _ {table ars file src : List ℕ} {place at : ℕ} {u : Rule} {vs : List Term} {e : ℕ} (h : FillsRule table ars file src place at u vs e) where
+module _ {arities ars file src : List ℕ} {place at : ℕ} {u : Rule} {vs : List Term} {e : ℕ} (h : FillsRule arities ars file src place at u vs e) where
   module _ (k : ℕ) (counted : k ≡ valueOf (sortsAt src place)) where
     pub filling-few : k ≤ mostVariables
     filling-few = omega (arith, counted, count-here (h .is), h .is .few)
 
-    reads : many (term file table) k at ≡ got vs e
-    reads = ap (λ (n : ℕ). many (term file table) n at) (counted ∙ count-here (h .is)) ∙ h .is .reads
+    reads : many (term file arities) k at ≡ got vs e
+    reads = ap (λ (n : ℕ). many (term file arities) n at) (counted ∙ count-here (h .is)) ∙ h .is .reads
 
     -- the code has the sizes of its values
     module _ (sizes : List ℕ) (room : k ≤ length sizes)
-        (told : (vs : List Term) (e : ℕ) → many (term file table) k at ≡ got vs e → (j : ℕ) → j < k → getD sizes j 1 ≡ symbols (getD vs j noTerm)) where
+        (told : (vs : List Term) (e : ℕ) → many (term file arities) k at ≡ got vs e → (j : ℕ) → j < k → getD sizes j 1 ≡ symbols (getD vs j noTerm)) where
       pub filling-small : Bytes file → (n : ℕ) → sizeIn (take k sizes) n ≤ longest
-      filling-small bytes = sizes-small file table k at vs e reads sizes room (told vs e reads) bytes (h .is .short)
+      filling-small bytes = sizes-small file arities k at vs e reads sizes room (told vs e reads) bytes (h .is .short)
 
       pub filling-test : (b : Bool) → b ≡ ruleSmall (sizeIn (take k sizes)) u → b ≡ ruleOk vs u
-      filling-test b g = g ∙ rule-weighed (sizeIn (take k sizes)) vs (sizes-are file table k at vs e reads sizes room (told vs e reads)) u
+      filling-test b g = g ∙ rule-weighed (sizeIn (take k sizes)) vs (sizes-are file arities k at vs e reads sizes room (told vs e reads)) u
 
 -- ── as the code finds its rule: at the start of some bytes ──
 -- these are few
@@ -134,19 +134,19 @@ part-short protocol out (fd.Written len) f short h src e = omega (arith, ap leng
 part-short protocol out (fd.At place) f short h src e = omega (arith, ap length e, length-drop place protocol)
 part-short protocol out fd.Nothing f short h src e = omega (arith, ap length e)
 
-module _ {protocol table rules : List ℕ} {nr : ℕ} {ars : List ℕ} (known : ArityTable protocol table rules nr ars) {p : Protocol}
-    (i : IndexOf protocol table rules nr p)
+module _ {protocol arities rules : List ℕ} {nr : ℕ} {ars : List ℕ} (known : ArityTable protocol arities rules nr ars) {p : Protocol}
+    (i : IndexOf protocol arities rules nr p)
     (number : ℕ) (r : FoundRule) (out : List ℕ)
-    (h : (z : List ℕ) (ns : ℕ) (ar flags : List ℕ) (j : Entries z ns nr table ar flags rules) → Finds (j .is) z table (take ns ar) number r out)
+    (h : (z : List ℕ) (ns : ℕ) (ar flags : List ℕ) (j : Entries z ns nr arities ar flags rules) → Finds (j .is) z arities (take ns ar) number r out)
     (src : List ℕ) (e : src ≡ partOf protocol out r) (bytes : Bytes protocol) (is-bytes : Bytes src) (u : Rule) (is : ruleOf p number ≡ some u) where
-  pub part-known : Here (rule src table ars) u 0
+  pub part-known : Here (rule src arities ars) u 0
   part-known =
-      subst (λ (l : List ℕ). Here (rule src table l) u 0)
+      subst (λ (l : List ℕ). Here (rule src arities l) u 0)
       (i .entries .tabled ∙ ap (λ (q : Protocol). factArities (q .symbols)) (i .same) ∙ sym (known p i))
       (part-rule i number r out h src e bytes is-bytes u is)
 
   pub part-filling :
-      (file : List ℕ) → length file ≤ longest → (at : ℕ) (x : Node) (d : ℕ) → NodeFrom p file number at x d → FillsRule table ars file src 0 at u (x .values) d
+      (file : List ℕ) → length file ≤ longest → (at : ℕ) (x : Node) (d : ℕ) → NodeFrom p file number at x d → FillsRule arities ars file src 0 at u (x .values) d
   part-filling file short at x d from = record { is = rule-here i file short number at x d from u is src ars 0 part-known; here = part-known }
 
 -- the rule's test is the node's

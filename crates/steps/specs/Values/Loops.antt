@@ -46,43 +46,43 @@ behind-part at (got t e) = refl
 behind-part at fault = refl
 
 -- ── a rule at a place of src, and the values of a node of it at a place of file ──
-pub record RuleHere (table file src : List ℕ) (place at : ℕ) (u : Rule) (vs : List Term) (e : ℕ) : Type 0 where
-  pub builtins : Builtins table
+pub record RuleHere (arities file src : List ℕ) (place at : ℕ) (u : Rule) (vs : List Term) (e : ℕ) : Type 0 where
+  pub builtins : Builtins arities
   pub ars : List ℕ
-  pub here : Here (rule src table ars) u place
+  pub here : Here (rule src arities ars) u place
   pub few : length (u .sorts) ≤ mostVariables
-  pub reads : many (term file table) (length (u .sorts)) at ≡ got vs e
+  pub reads : many (term file arities) (length (u .sorts)) at ≡ got vs e
   pub short : length file ≤ longest
 
-pub record SomeRule (table file src : List ℕ) (place at : ℕ) : Type 0 where
+pub record SomeRule (arities file src : List ℕ) (place at : ℕ) : Type 0 where
   pub its : Rule
   pub its-values : List Term
   pub end : ℕ
-  pub is : RuleHere table file src place at its its-values end
+  pub is : RuleHere arities file src place at its its-values end
 
-module _ {table file src : List ℕ} {place at : ℕ} {u : Rule} {vs : List Term} {e : ℕ} (h : RuleHere table file src place at u vs e) where
+module _ {arities file src : List ℕ} {place at : ℕ} {u : Rule} {vs : List Term} {e : ℕ} (h : RuleHere arities file src place at u vs e) where
   pub sort-here : (v : ℕ) → v < length (u .sorts) → valueOf (sortOf src place v) ≡ getD (u .sorts) v 0
-  sort-here v l = sort-law src table (h .ars) place u (rule-layout src table (h .ars) place u (h .here)) v l
+  sort-here v l = sort-law src arities (h .ars) place u (rule-layout src arities (h .ars) place u (h .here)) v l
 
   pub count-here : valueOf (sortsAt src place) ≡ length (u .sorts)
-  count-here = vars-law src table (h .ars) place u (rule-layout src table (h .ars) place u (h .here))
+  count-here = vars-law src arities (h .ars) place u (rule-layout src arities (h .ars) place u (h .here))
 
   -- the loop over the values stands at i, before value v
   pub record Left (v i : ℕ) : Type 0 where
-    pub more : many (term file table) (length (u .sorts) - v) i ≡ got (drop v vs) e
+    pub more : many (term file arities) (length (u .sorts) - v) i ≡ got (drop v vs) e
     pub same : valuesOk (u .sorts) vs ≡ valuesOk (drop v (u .sorts)) (drop v vs)
 
   pub left-all : Left 0 at
   left-all =
       let z : length (u .sorts) - 0 ≡ length (u .sorts) = omega arith in
-      record { more = ap (λ (k : ℕ). many (term file table) k at) z ∙ h .reads; same = refl }
+      record { more = ap (λ (k : ℕ). many (term file arities) k at) z ∙ h .reads; same = refl }
 
   -- value v, which stands there
   pub record Turn (v i : ℕ) : Type 0 where
     pub value : Term
     pub next : ℕ
-    pub is : ValueThere table file i value next
-    pub rest : many (term file table) (length (u .sorts) - (v + 1)) next ≡ got (drop (v + 1) vs) e
+    pub is : ValueThere arities file i value next
+    pub rest : many (term file arities) (length (u .sorts) - (v + 1)) next ≡ got (drop (v + 1) vs) e
     pub test : valuesOk (u .sorts) vs ≡ (valueOk (getD (u .sorts) v 0) value && valuesOk (drop (v + 1) (u .sorts)) (drop (v + 1) vs))
 
   pub turn : (v i : ℕ) → v < length (u .sorts) → Left v i → Turn v i
@@ -90,12 +90,12 @@ module _ {table file src : List ℕ} {place at : ℕ} {u : Rule} {vs : List Term
   turn v i l g = go (length (u .sorts) - v) refl (g .more)
     where
       n : length vs ≡ length (u .sorts)
-      n = many-length (term file table) (length (u .sorts)) at e vs (h .reads)
+      n = many-length (term file arities) (length (u .sorts)) at e vs (h .reads)
 
-      go : (m : ℕ) → length (u .sorts) - v ≡ m → many (term file table) m i ≡ got (drop v vs) e → Turn v i
+      go : (m : ℕ) → length (u .sorts) - v ≡ m → many (term file arities) m i ≡ got (drop v vs) e → Turn v i
       go zero z q = absurd (omega arith)
       go (suc m) z q =
-          cut-got (term file table i) _ q (λ t d ht q. cut-got (many (term file table) m d) _ q (λ ts c hts q.
+          cut-got (term file arities i) _ q (λ t d ht q. cut-got (many (term file arities) m d) _ q (λ ts c hts q.
           let a : t ∷ ts ≡ drop v vs = cc in
           let b : c ≡ e = cc in
           let w : drop v vs ≡ getD vs v t ∷ drop (suc v) vs = drop-cons vs v t (omega (arith, n)) in
@@ -107,7 +107,7 @@ module _ {table file src : List ℕ} {place at : ℕ} {u : Rule} {vs : List Term
             value = t;
             next = d;
             is = record { table = h .builtins; there = ht; short = h .short };
-            rest = ap (λ (j : ℕ). many (term file table) j d) (sym k) ∙ hts ∙ ap₂ got (hts′ ∙ ap (λ (j : ℕ). drop j vs) o) b;
+            rest = ap (λ (j : ℕ). many (term file arities) j d) (sym k) ∙ hts ∙ ap₂ got (hts′ ∙ ap (λ (j : ℕ). drop j vs) o) b;
             test =
                 g .same ∙ ap₂ valuesOk (drop-cons (u .sorts) v 0 l) (sym a)
                 ∙ ap₂ (λ (x : List ℕ) (y : List Term). valueOk (getD (u .sorts) v 0) t && valuesOk x y)
@@ -117,9 +117,9 @@ module _ {table file src : List ℕ} {place at : ℕ} {u : Rule} {vs : List Term
   pub left-bad : (v i : ℕ) (x : Turn v i) → valueOk (getD (u .sorts) v 0) (x .value) ≡ false → false ≡ valuesOk (u .sorts) vs
   left-bad v i x f = sym (x .test ∙ ap (λ (b : Bool). b && valuesOk (drop (v + 1) (u .sorts)) (drop (v + 1) vs)) f)
 
-  pub left-more : (v i : ℕ) (x : Turn v i) → valueOk (getD (u .sorts) v 0) (x .value) ≡ true → Left (v + 1) (behindOf i (term file table i))
+  pub left-more : (v i : ℕ) (x : Turn v i) → valueOk (getD (u .sorts) v 0) (x .value) ≡ true → Left (v + 1) (behindOf i (term file arities i))
   left-more v i x t = record {
-    more = ap (λ (r : Read Term). many (term file table) (length (u .sorts) - (v + 1)) (behindOf i r)) (x .is .there) ∙ x .rest;
+    more = ap (λ (r : Read Term). many (term file arities) (length (u .sorts) - (v + 1)) (behindOf i r)) (x .is .there) ∙ x .rest;
     same = x .test ∙ ap (λ (b : Bool). b && valuesOk (drop (v + 1) (u .sorts)) (drop (v + 1) vs)) t;
   }
 
@@ -127,9 +127,9 @@ module _ {table file src : List ℕ} {place at : ℕ} {u : Rule} {vs : List Term
   left-none v i l g = sym (g .same ∙ ap (λ (x : List ℕ). valuesOk x (drop v vs)) (drop-of-length-le (u .sorts) l))
 
 -- ── a node at a place ──
-pub record SomeNode (protocol table rules : List ℕ) (nr : ℕ) (file : List ℕ) (place : ℕ) : Type 0 where
+pub record SomeNode (protocol arities rules : List ℕ) (nr : ℕ) (file : List ℕ) (place : ℕ) : Type 0 where
   pub of : Protocol
-  pub index : IndexOf protocol table rules nr of
+  pub index : IndexOf protocol arities rules nr of
   pub its : Node
   pub here : Here (node of file) its place
 
@@ -159,15 +159,15 @@ module _ (p : Protocol) (file : List ℕ) where
       clash (cc)
 
 -- the rule of such a node stands at a place of src, and its values behind its number
-pub record SomeFrom (protocol table rules : List ℕ) (nr : ℕ) (file : List ℕ) (number at : ℕ) : Type 0 where
+pub record SomeFrom (protocol arities rules : List ℕ) (nr : ℕ) (file : List ℕ) (number at : ℕ) : Type 0 where
   pub of : Protocol
-  pub index : IndexOf protocol table rules nr of
+  pub index : IndexOf protocol arities rules nr of
   pub its : Node
   pub end : ℕ
   pub is : NodeFrom of file number at its end
   pub short : length file ≤ longest
 
-module _ {protocol table rules : List ℕ} {nr : ℕ} {p : Protocol} (i : IndexOf protocol table rules nr p) (file : List ℕ) (short : length file ≤ longest)
+module _ {protocol arities rules : List ℕ} {nr : ℕ} {p : Protocol} (i : IndexOf protocol arities rules nr p) (file : List ℕ) (short : length file ≤ longest)
     (number at : ℕ) (x : Node) (e : ℕ) (from : NodeFrom p file number at x e) (u : Rule) (is : ruleOf p number ≡ some u) where
   behind-values : many (term file (tagArities (p .functions))) (length (u .sorts)) at ≡ got (x .values) e
   behind-values =
@@ -178,7 +178,7 @@ module _ {protocol table rules : List ℕ} {nr : ℕ} {p : Protocol} (i : IndexO
       let b : c ≡ e = cc in
       hv ∙ ap₂ got (ap (λ (y : Node). y .values) a) b)
 
-  pub rule-here : (src ars : List ℕ) (place : ℕ) → Here (rule src table ars) u place → RuleHere table file src place at u (x .values) e
+  pub rule-here : (src ars : List ℕ) (place : ℕ) → Here (rule src arities ars) u place → RuleHere arities file src place at u (x .values) e
   rule-here src ars place h = record {
     builtins = subst Builtins (sym (index-slots i)) (declared (p .functions));
     ars = ars;

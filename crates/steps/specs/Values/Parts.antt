@@ -58,31 +58,31 @@ abbrev pub noTerm : Term
 noTerm = leaf variable 0
 
 -- ── a fact at a place ──
-pub record SomeFact (table ars file : List ℕ) (place : ℕ) : Type 0 where
+pub record SomeFact (arities ars file : List ℕ) (place : ℕ) : Type 0 where
   pub its : Fact
-  pub here : Here (fact file table ars) its place
+  pub here : Here (fact file arities ars) its place
 
-module _ (file table ars : List ℕ) (bytes : Bytes file) (place : ℕ) (f : Fact) (h : Here (fact file table ars) f place) where
+module _ (file arities ars : List ℕ) (bytes : Bytes file) (place : ℕ) (f : Fact) (h : Here (fact file arities ars) f place) where
   pub symbol-inside : valueOf (below file (length ars) place) < length ars
   symbol-inside =
-      let b = below-inside file (length ars) place bytes (f .symbol) _ (fact-fields file table ars place f h .symbol) in
-      omega (arith, b .small, symbol-law file table ars place f h)
+      let b = below-inside file (length ars) place bytes (f .symbol) _ (fact-fields file arities ars place f h .symbol) in
+      omega (arith, b .small, symbol-law file arities ars place f h)
 
   pub terms-many : (y : ℕ) → y ≡ valueOf (below file (length ars) place) → getD ars y 0 ≡ length (f .terms)
   terms-many y e =
-      ap (λ (k : ℕ). getD ars k 0) (e ∙ symbol-law file table ars place f h) ∙ sym (terms-law file table ars place f h)
+      ap (λ (k : ℕ). getD ars k 0) (e ∙ symbol-law file arities ars place f h) ∙ sym (terms-law file arities ars place f h)
 
-  plain-term : (at e : ℕ) (t : Term) → ruleTerm file table at ≡ got t e → term file table at ≡ got t e
+  plain-term : (at e : ℕ) (t : Term) → ruleTerm file arities at ≡ got t e → term file arities at ≡ got t e
   unfolding ruleTerm
   plain-term at e t q =
-      cut-got (term file table at) _ q (λ u d hu q. cut _ _ _ (ltb (symbols u) 65) q
+      cut-got (term file arities at) _ q (λ u d hu q. cut _ _ _ (ltb (symbols u) 65) q
       (λ z q. let a : u ≡ t = cc in let b : d ≡ e = cc in hu ∙ ap₂ got a b)
       (λ z q. clash (cc)))
 
-  pub term-there : (j i : ℕ) → j < length (f .terms) → i ≡ termPlace file table ars place j → (e : ℕ) × (term file table i ≡ got (getD (f .terms) j noTerm) e)
+  pub term-there : (j i : ℕ) → j < length (f .terms) → i ≡ termPlace file arities ars place j → (e : ℕ) × (term file arities i ≡ got (getD (f .terms) j noTerm) e)
   term-there j i l e =
-      let x = term-law file table ars place f h noTerm j l in
-      (x .next, ap (term file table) e ∙ plain-term (termPlace file table ars place j) (x .next) (getD (f .terms) j noTerm) (x .reads))
+      let x = term-law file arities ars place f h noTerm j l in
+      (x .next, ap (term file arities) e ∙ plain-term (termPlace file arities ars place j) (x .next) (getD (f .terms) j noTerm) (x .reads))
 
 -- ── a list of facts at a place, and a rule ──
 abbrev pub listSmall : (ℕ → ℕ) → List Fact → Bool
@@ -91,36 +91,36 @@ listSmall w fs = allBy (factSmall w) fs
 abbrev pub ruleSmall : (ℕ → ℕ) → Rule → Bool
 ruleSmall w u = allBy (listSmall w) (u .lists)
 
-pub record SomeList (table ars file : List ℕ) (place : ℕ) : Type 0 where
+pub record SomeList (arities ars file : List ℕ) (place : ℕ) : Type 0 where
   pub its : List Fact
-  pub here : Here (facts file table ars) its place
+  pub here : Here (facts file arities ars) its place
 
-pub record RuleAt (table ars file : List ℕ) (place : ℕ) : Type 0 where
+pub record RuleAt (arities ars file : List ℕ) (place : ℕ) : Type 0 where
   pub its : Rule
-  pub here : Here (rule file table ars) its place
+  pub here : Here (rule file arities ars) its place
 
-module _ (file table ars : List ℕ) (place : ℕ) (fs : List Fact) (h : Here (facts file table ars) fs place) where
+module _ (file arities ars : List ℕ) (place : ℕ) (fs : List Fact) (h : Here (facts file arities ars) fs place) where
   pub facts-many : valueOf (below file 9 place) ≡ length fs
-  facts-many = count-law file table ars place fs h
+  facts-many = count-law file arities ars place fs h
 
-  pub fact-there : (i at : ℕ) → i < length fs → at ≡ factPlace file table ars place i → Here (fact file table ars) (getD fs i noFact) at
+  pub fact-there : (i at : ℕ) → i < length fs → at ≡ factPlace file arities ars place i → Here (fact file arities ars) (getD fs i noFact) at
   fact-there i at l e =
-      let x = fact-law file table ars place fs h i l in
-      record { next = x .next; reads = ap (fact file table ars) e ∙ x .reads }
+      let x = fact-law file arities ars place fs h i l in
+      record { next = x .next; reads = ap (fact file arities ars) e ∙ x .reads }
 
-module _ (file table ars : List ℕ) (place : ℕ) (u : Rule) (h : Here (rule file table ars) u place) where
-  laid : Here (layout file table ars) u place
-  laid = rule-layout file table ars place u h
+module _ (file arities ars : List ℕ) (place : ℕ) (u : Rule) (h : Here (rule file arities ars) u place) where
+  laid : Here (layout file arities ars) u place
+  laid = rule-layout file arities ars place u h
 
   pub lists-many : length (u .lists) ≡ 3
   lists-many =
-      let x = rule-parts file table ars place u laid in
-      many-length (facts file table ars) 3 (x .behind) (laid .next) (u .lists) (x .lists)
+      let x = rule-parts file arities ars place u laid in
+      many-length (facts file arities ars) 3 (x .behind) (laid .next) (u .lists) (x .lists)
 
-  pub list-there : (w at : ℕ) → w < 3 → at ≡ listPlace file table ars place w → Here (facts file table ars) (getD (u .lists) w []) at
+  pub list-there : (w at : ℕ) → w < 3 → at ≡ listPlace file arities ars place w → Here (facts file arities ars) (getD (u .lists) w []) at
   list-there w at l e =
-      let x = list-law file table ars place u laid w l in
-      record { next = x .next; reads = ap (facts file table ars) e ∙ x .reads }
+      let x = list-law file arities ars place u laid w l in
+      record { next = x .next; reads = ap (facts file arities ars) e ∙ x .reads }
 
 -- ── with the sizes of the values it is the test of cause 8 ──
 all-same : {A : Type 0} (f g : A → Bool) → ((x : A) → f x ≡ g x) → (xs : List A) → allBy f xs ≡ allBy g xs

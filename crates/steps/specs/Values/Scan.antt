@@ -24,11 +24,11 @@ pub found-is : (k : ℕ) → asFound (k + 1) ≡ some (k + 1)
 found-is k = rw add-one
 
 -- the nodes stand at their places
-pub record SomeNodes (protocol table rules : List ℕ) (nr : ℕ) (file places : List ℕ) (n : ℕ) : Type 0 where
+pub record SomeNodes (protocol arities rules : List ℕ) (nr : ℕ) (file nodes : List ℕ) (n : ℕ) : Type 0 where
   pub of : Protocol
-  pub index : IndexOf protocol table rules nr of
+  pub index : IndexOf protocol arities rules nr of
   pub their : List Node
-  pub placed : Placed (node of file) noNode places their n
+  pub placed : Placed (node of file) noNode nodes their n
 
 module _ {A : Type 0} (ok : A → Bool) (d : A) (xs : List A) where
   -- what is left is what there was

@@ -16,13 +16,13 @@ use Rattle.steps.proofs.names.enter_names.Statement.{statement}
 use Rattle.steps.proofs.names.enter_names.Tie as tie
 
 abbrev Inv-loop : tie.InvT-loop
-Inv-loop file protocol arities rules nr places n names₀ j₀ names j =
-    (j ≤ n) × (length names ≡ length names₀) × ((p : Protocol) (xs : List Node) → IndexOf protocol arities rules nr p → Placed (node p file) noNode places xs n
+Inv-loop file protocol arities rules nr nodes n names₀ j₀ names j =
+    (j ≤ n) × (length names ≡ length names₀) × ((p : Protocol) (xs : List Node) → IndexOf protocol arities rules nr p → Placed (node p file) noNode nodes xs n
     →
     Entered names xs j)
 
 abbrev μ-loop : tie.MeasureT-loop
-μ-loop file protocol arities rules nr places n names₀ j₀ names j =
+μ-loop file protocol arities rules nr nodes n names₀ j₀ names j =
     n - j
 
 loop-holds : tie.Need-loop-holds Inv-loop μ-loop

@@ -10,11 +10,11 @@ use Rattle.steps.proofs.nodes.nodes_from.Statement.{statement}
 use Rattle.steps.proofs.nodes.nodes_from.Tie as tie
 
 abbrev Inv-loop : tie.InvT-loop
-Inv-loop file protocol arities rules nr at n places₀ i₀ j₀ places i j =
-    (j ≤ n) × (length places ≡ length places₀) × ((p : Protocol) → IndexOf protocol arities rules nr p → Passed p file at j i places)
+Inv-loop file protocol arities rules nr at n nodes₀ i₀ j₀ nodes i j =
+    (j ≤ n) × (length nodes ≡ length nodes₀) × ((p : Protocol) → IndexOf protocol arities rules nr p → Passed p file at j i nodes)
 
 abbrev μ-loop : tie.MeasureT-loop
-μ-loop file protocol arities rules nr at n places₀ i₀ j₀ places i j =
+μ-loop file protocol arities rules nr at n nodes₀ i₀ j₀ nodes i j =
     n - j
 
 loop-holds : tie.Need-loop-holds Inv-loop μ-loop
@@ -28,11 +28,11 @@ node-end-requires c κs =
 enum-known-e : tie.Need-enum-known-e Inv-loop μ-loop
 enum-known-e c = search needs
 
-mul-places : tie.Need-mul-places Inv-loop μ-loop
-mul-places c = search needs
+mul-nodes : tie.Need-mul-nodes Inv-loop μ-loop
+mul-nodes c = search needs
 
-slice-write-places : tie.Need-slice-write-places Inv-loop μ-loop
-slice-write-places c = search needs
+slice-write-nodes : tie.Need-slice-write-nodes Inv-loop μ-loop
+slice-write-nodes c = search needs
 
 add-j : tie.Need-add-j Inv-loop μ-loop
 add-j c = search needs
@@ -44,7 +44,7 @@ loop-again : tie.Need-loop-again Inv-loop μ-loop
 loop-again c =
     let c3 = c .before .before .before in
     let c5 = c3 .before .before in
-    let b : c5 .loop .j < length (c5 .loop .places) = omega arith in (
+    let b : c5 .loop .j < length (c5 .loop .nodes) = omega arith in (
       search needs,
       simp length-set (omega arith),
       λ p i. passed-more p _ _ _ _ _ _ (c5 .loop .inv .2 p i)
@@ -101,8 +101,8 @@ nodes-from-spec =
     loop-holds
     node-end-requires
     enum-known-e
-    mul-places
-    slice-write-places
+    mul-nodes
+    slice-write-nodes
     add-j
     loop-less
     loop-again

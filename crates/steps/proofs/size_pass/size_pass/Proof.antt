@@ -15,12 +15,12 @@ use Rattle.steps.proofs.size_pass.size_pass.Statement.{statement}
 use Rattle.steps.proofs.size_pass.size_pass.Tie as tie
 
 abbrev Inv-loop : tie.InvT-loop
-Inv-loop file protocol arities ars rules nr places n j₀ j =
-    (j ≤ n) × ((p : Protocol) (xs : List Node) → IndexOf protocol arities rules nr p → Placed (node p file) noNode places xs n → Rest (nodeTermsOk p) noNode xs
+Inv-loop file protocol arities ars rules nr nodes n j₀ j =
+    (j ≤ n) × ((p : Protocol) (xs : List Node) → IndexOf protocol arities rules nr p → Placed (node p file) noNode nodes xs n → Rest (nodeTermsOk p) noNode xs
     j)
 
 abbrev μ-loop : tie.MeasureT-loop
-μ-loop file protocol arities ars rules nr places n j₀ j =
+μ-loop file protocol arities ars rules nr nodes n j₀ j =
     n - j
 
 loop-holds : tie.Need-loop-holds Inv-loop μ-loop

@@ -15,12 +15,12 @@ use Rattle.steps.proofs.values.value_pass.Statement.{statement}
 use Rattle.steps.proofs.values.value_pass.Tie as tie
 
 abbrev Inv-loop : tie.InvT-loop
-Inv-loop file protocol arities rules nr places n j₀ j =
-    (j ≤ n) × ((p : Protocol) (xs : List Node) → IndexOf protocol arities rules nr p → Placed (node p file) noNode places xs n → Rest (nodeValuesOk p) noNode
+Inv-loop file protocol arities rules nr nodes n j₀ j =
+    (j ≤ n) × ((p : Protocol) (xs : List Node) → IndexOf protocol arities rules nr p → Placed (node p file) noNode nodes xs n → Rest (nodeValuesOk p) noNode
     xs j)
 
 abbrev μ-loop : tie.MeasureT-loop
-μ-loop file protocol arities rules nr places n j₀ j =
+μ-loop file protocol arities rules nr nodes n j₀ j =
     n - j
 
 loop-holds : tie.Need-loop-holds Inv-loop μ-loop
