@@ -23,6 +23,13 @@ module _ {A : Type 0} where
     pub next : ℕ
     pub reads : p place ≡ got x next
 
+  -- of a place, what stands there; and with the place behind it: as contracts ask and promise
+  abbrev pub At : (ℕ → Read A) → ℕ → A → Type 0
+  At p place x = Here p x place
+
+  abbrev pub ReadAs : (ℕ → Read A) → ℕ → A → ℕ → Type 0
+  ReadAs p at x e = p at ≡ got x e
+
 -- the number that was read
 abbrev pub valueOf : Read ℕ → ℕ
 valueOf (got n e) = n

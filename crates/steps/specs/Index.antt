@@ -10,18 +10,13 @@ use Rattle.protocol.specs.Index.{Entries}
 -- that of a fit protocol
 pub mod Sound
 
--- the index is of protocol p
+-- the index is of protocol p, and the tables are as long as the code makes them
 pub record IndexOf (file arities rules : List ℕ) (nr : ℕ) (p : Protocol) : Type 0 where
   pub ns : ℕ
   pub ars : List ℕ
   pub flags : List ℕ
   pub entries : Entries file ns nr arities ars flags rules
   pub same : entries .is ≡ p
-
--- it is of some protocol, and the tables are as long as the code makes them
-pub record Given (file arities rules : List ℕ) (nr : ℕ) : Type 0 where
-  pub protocol : Protocol
-  pub index : IndexOf file arities rules nr protocol
   pub slots-many : length arities ≡ tagCount
   pub rules-many : nr ≤ length rules
   pub short : length file ≤ longest

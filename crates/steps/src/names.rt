@@ -4,15 +4,14 @@ ghost use mathlib.Core.List.{List};
 ghost use Prim.Native.Nat.{ℕ, suc, _≤_, _<_, _+_};
 ghost use lib.ListN.{length, getD, take};
 ghost use Rattle.protocol.specs.Protocol.{Protocol};
-ghost use Rattle.protocol.specs.Index.{Placed};
-ghost use Rattle.protocol.specs.Places.{Here};
+ghost use Rattle.lists.specs.Asks.{Promises₂};
 ghost use Rattle.rewriting.specs.Writer.{firstNameTwice};
-ghost use Rattle.steps.specs.Index.{IndexOf};
-ghost use Rattle.steps.specs.Nodes.{Node, node, mostNodes};
+ghost use Rattle.steps.specs.Nodes.{Node, mostNodes};
 ghost use Rattle.steps.specs.Nodes.Code.{noNode};
 ghost use Rattle.steps.specs.Facts.{madeName};
 ghost use Rattle.steps.specs.Runs.{rewrittens};
-ghost use Rattle.steps.specs.Values.Scan.{asFound};
+ghost use Rattle.steps.specs.Values.Loops.{NodeAt};
+ghost use Rattle.steps.specs.Values.Scan.{asFound, NodesAt};
 ghost use Rattle.steps.specs.Names.{isMade, againIn, MadeIs, entryOf, Entered};
 ghost use Rattle.steps.specs.Names.Code.{NumberIs};
 ghost use Rattle.term.specs.Reader.{symbolAt};
@@ -49,7 +48,7 @@ pub fn made_at(
     nr: usize,
     place: usize,
 ) -> Made
-    ensures { λ r. ⌜ ((p : Protocol) (x : Node) → IndexOf (now (protocol .entry)) (now (arities .entry)) (now (rules .entry)) nr p → Here (node p (now (file .entry))) x place → MadeIs (madeName x) r) ⌝ }
+    ensures { λ r. ⌜ Promises₂ (NodeAt (now (protocol .entry)) (now (arities .entry)) (now (rules .entry)) nr (now (file .entry)) place) (λ (p : Protocol) (x : Node). MadeIs (madeName x) r) ⌝ }
 {
     match number::read_number(file, place) {
         Number::Value(r, e) => {
@@ -85,7 +84,7 @@ fn enter_names(
 )
     requires { ⌜ (n ≤ length (now nodes)) × (n ≤ length (now names)) ⌝ }
     ensures kept { λ r. ⌜ length (now (names .exit)) ≡ length (now (names .entry)) ⌝ }
-    ensures told { λ r. ⌜ ((p : Protocol) (xs : List Node) → IndexOf (now (protocol .entry)) (now (arities .entry)) (now (rules .entry)) nr p → Placed (node p (now (file .entry))) noNode (now (nodes .entry)) xs n → Entered (now (names .exit)) xs n) ⌝ }
+    ensures told { λ r. ⌜ Promises₂ (NodesAt (now (protocol .entry)) (now (arities .entry)) (now (rules .entry)) nr (now (file .entry)) (now (nodes .entry)) n) (λ (p : Protocol) (xs : List Node). Entered (now (names .exit)) xs n) ⌝ }
 {
     let mut j: usize = 0;
     while j < n {
@@ -146,7 +145,7 @@ pub fn name_pass(
     n: usize,
 ) -> usize
     requires { ⌜ (n ≤ mostNodes) × (n ≤ length (now nodes)) ⌝ }
-    ensures { λ r. ⌜ ((p : Protocol) (xs : List Node) → IndexOf (now (protocol .entry)) (now (arities .entry)) (now (rules .entry)) nr p → Placed (node p (now (file .entry))) noNode (now (nodes .entry)) xs n → asFound r ≡ firstNameTwice (rewrittens p xs)) ⌝ }
+    ensures { λ r. ⌜ Promises₂ (NodesAt (now (protocol .entry)) (now (arities .entry)) (now (rules .entry)) nr (now (file .entry)) (now (nodes .entry)) n) (λ (p : Protocol) (xs : List Node). asFound r ≡ firstNameTwice (rewrittens p xs)) ⌝ }
 {
     let mut names = [0usize; crate::nodes::MOST_NODES];
     enter_names(file, protocol, arities, rules, nr, nodes, n, &mut names);

@@ -3,6 +3,7 @@ ghost use mathlib.Core.Path.{_≡_};
 ghost use Prim.Native.Nat.{_≤_, _<_, _+_};
 ghost use lib.ListN.{length};
 ghost use Rattle.octets.specs.Limits.{longest};
+ghost use Rattle.lists.specs.Asks.{Asks, Promises};
 ghost use Rattle.number.specs.Reading.{many};
 ghost use Rattle.term.specs.Reader.{term};
 ghost use Rattle.octets.specs.Head.{Bytes};
@@ -11,7 +12,7 @@ ghost use Rattle.protocol.specs.Protocol.Walks.{sortsAt};
 ghost use Rattle.protocol.specs.Places.{valueOf};
 ghost use Rattle.rules.specs.Numbered.{ruleOf};
 ghost use Rattle.steps.specs.Nodes.{nodesFrom, nodeList, steps, mostNodes};
-ghost use Rattle.steps.specs.Index.{IndexOf, Given};
+ghost use Rattle.steps.specs.Index.{IndexOf};
 ghost use Rattle.steps.specs.Nodes.Code.{variablesOf, termsEnd, nodeFrom, nodeEnd, Told};
 use number::Number;
 use rules::numbered::FoundRule;
@@ -68,8 +69,8 @@ fn rule_variables(
     nr: usize,
     number: usize,
 ) -> Variables
-    requires { ⌜ Given (now protocol) (now arities) (now rules) nr ⌝ }
-    ensures { λ r. ⌜ ((p : Protocol) → IndexOf (now (protocol .entry)) (now (arities .entry)) (now (rules .entry)) nr p → r ≡ variablesOf (ruleOf p number)) ⌝ }
+    requires { ⌜ Asks (IndexOf (now protocol) (now arities) (now rules) nr) ⌝ }
+    ensures { λ r. ⌜ Promises (IndexOf (now (protocol .entry)) (now (arities .entry)) (now (rules .entry)) nr) (λ (p : Protocol). r ≡ variablesOf (ruleOf p number)) ⌝ }
 {
     let mut own = [0u8; rules::numbered::RULE_ROOM];
     match rules::numbered::find_rule(arities, rules, nr, number, &mut own) {
@@ -89,8 +90,8 @@ fn node_from(
     number: usize,
     at: usize,
 ) -> NodeEnd
-    requires { ⌜ (length (now file) ≤ longest) × Given (now protocol) (now arities) (now rules) nr ⌝ }
-    ensures { λ r. ⌜ ((p : Protocol) → IndexOf (now (protocol .entry)) (now (arities .entry)) (now (rules .entry)) nr p → r ≡ nodeFrom p (now (file .entry)) (ruleOf p number) at) ⌝ }
+    requires { ⌜ Asks (IndexOf (now protocol) (now arities) (now rules) nr) × (length (now file) ≤ longest) ⌝ }
+    ensures { λ r. ⌜ Promises (IndexOf (now (protocol .entry)) (now (arities .entry)) (now (rules .entry)) nr) (λ (p : Protocol). r ≡ nodeFrom p (now (file .entry)) (ruleOf p number) at) ⌝ }
 {
     match rule_variables(protocol, arities, rules, nr, number) {
         Variables::Count(k) => values_end(file, arities, at, k),
@@ -107,8 +108,8 @@ fn node_end(
     nr: usize,
     at: usize,
 ) -> NodeEnd
-    requires { ⌜ (length (now file) ≤ longest) × Given (now protocol) (now arities) (now rules) nr ⌝ }
-    ensures { λ r. ⌜ ((p : Protocol) → IndexOf (now (protocol .entry)) (now (arities .entry)) (now (rules .entry)) nr p → r ≡ nodeEnd p (now (file .entry)) at) ⌝ }
+    requires { ⌜ Asks (IndexOf (now protocol) (now arities) (now rules) nr) × (length (now file) ≤ longest) ⌝ }
+    ensures { λ r. ⌜ Promises (IndexOf (now (protocol .entry)) (now (arities .entry)) (now (rules .entry)) nr) (λ (p : Protocol). r ≡ nodeEnd p (now (file .entry)) at) ⌝ }
 {
     match number::read_number(file, at) {
         Number::Value(r, e) => node_from(file, protocol, arities, rules, nr, r as usize, e),
@@ -127,9 +128,9 @@ fn nodes_from(
     n: usize,
     nodes: &mut [usize],
 ) -> Nodes
-    requires { ⌜ (length (now file) ≤ longest) × (n ≤ mostNodes) × (mostNodes ≤ length (now nodes)) × Given (now protocol) (now arities) (now rules) nr ⌝ }
+    requires { ⌜ Asks (IndexOf (now protocol) (now arities) (now rules) nr) × (length (now file) ≤ longest) × (n ≤ mostNodes) × (mostNodes ≤ length (now nodes)) ⌝ }
     ensures kept { λ r. ⌜ length (now (nodes .exit)) ≡ length (now (nodes .entry)) ⌝ }
-    ensures told { λ r. ⌜ ((p : Protocol) → IndexOf (now (protocol .entry)) (now (arities .entry)) (now (rules .entry)) nr p → Told (nodesFrom p (now (file .entry)) 1 n at) p (now (file .entry)) (now (nodes .exit)) r) ⌝ }
+    ensures told { λ r. ⌜ Promises (IndexOf (now (protocol .entry)) (now (arities .entry)) (now (rules .entry)) nr) (λ (p : Protocol). Told (nodesFrom p (now (file .entry)) 1 n at) p (now (file .entry)) (now (nodes .exit)) r) ⌝ }
 {
     let mut i = at;
     let mut j: usize = 0;
@@ -161,9 +162,9 @@ pub fn read_nodes(
     nr: usize,
     nodes: &mut [usize],
 ) -> Nodes
-    requires { ⌜ (length (now file) ≤ longest) × (mostNodes ≤ length (now nodes)) × Given (now protocol) (now arities) (now rules) nr ⌝ }
+    requires { ⌜ Asks (IndexOf (now protocol) (now arities) (now rules) nr) × (length (now file) ≤ longest) × (mostNodes ≤ length (now nodes)) ⌝ }
     ensures kept { λ r. ⌜ length (now (nodes .exit)) ≡ length (now (nodes .entry)) ⌝ }
-    ensures told { λ r. ⌜ ((p : Protocol) → IndexOf (now (protocol .entry)) (now (arities .entry)) (now (rules .entry)) nr p → Told (nodeList p (now (file .entry)) at) p (now (file .entry)) (now (nodes .exit)) r) ⌝ }
+    ensures told { λ r. ⌜ Promises (IndexOf (now (protocol .entry)) (now (arities .entry)) (now (rules .entry)) nr) (λ (p : Protocol). Told (nodeList p (now (file .entry)) at) p (now (file .entry)) (now (nodes .exit)) r) ⌝ }
 {
     match number::below(file, at, NODE_LIMIT) {
         Number::Value(n, e) => nodes_from(file, protocol, arities, rules, nr, e, n as usize, nodes),
@@ -180,9 +181,9 @@ pub fn read_steps(
     nr: usize,
     nodes: &mut [usize],
 ) -> Nodes
-    requires { ⌜ (length (now file) ≤ longest) × (mostNodes ≤ length (now nodes)) × Given (now protocol) (now arities) (now rules) nr ⌝ }
+    requires { ⌜ Asks (IndexOf (now protocol) (now arities) (now rules) nr) × (length (now file) ≤ longest) × (mostNodes ≤ length (now nodes)) ⌝ }
     ensures kept { λ r. ⌜ length (now (nodes .exit)) ≡ length (now (nodes .entry)) ⌝ }
-    ensures told { λ r. ⌜ ((p : Protocol) → IndexOf (now (protocol .entry)) (now (arities .entry)) (now (rules .entry)) nr p → Told (steps p (now (file .entry))) p (now (file .entry)) (now (nodes .exit)) r) ⌝ }
+    ensures told { λ r. ⌜ Promises (IndexOf (now (protocol .entry)) (now (arities .entry)) (now (rules .entry)) nr) (λ (p : Protocol). Told (steps p (now (file .entry))) p (now (file .entry)) (now (nodes .exit)) r) ⌝ }
 {
     match read_nodes(file, 0, protocol, arities, rules, nr, nodes) {
         Nodes::End(n, e) => {

@@ -4,12 +4,11 @@ ghost use mathlib.Core.List.{List};
 ghost use Prim.Native.Nat.{_≤_};
 ghost use lib.ListN.{length};
 ghost use Rattle.octets.specs.Limits.{longest};
+ghost use Rattle.lists.specs.Asks.{Asks, Promises, Asks₂, Promises₂};
 ghost use Rattle.protocol.specs.Protocol.{Protocol};
-ghost use Rattle.protocol.specs.Index.{Placed};
-ghost use Rattle.steps.specs.Nodes.{Node, node, steps, mostNodes};
-ghost use Rattle.steps.specs.Nodes.Code.{noNode};
-ghost use Rattle.steps.specs.Index.{IndexOf, Given};
-ghost use Rattle.steps.specs.Values.Scan.{SomeNodes};
+ghost use Rattle.steps.specs.Nodes.{Node, steps, mostNodes};
+ghost use Rattle.steps.specs.Index.{IndexOf};
+ghost use Rattle.steps.specs.Values.Scan.{NodesAt};
 ghost use Rattle.steps.specs.Values.Filled.{ArityTable};
 ghost use Rattle.steps.specs.Causes.{nodeRuling, listRuling, stepsItem};
 ghost use Rattle.steps.specs.Causes.Code.{rulingOf, counted};
@@ -37,8 +36,8 @@ pub fn rule_nodes(
     nodes: &[usize],
     n: usize,
 ) -> NodesRuling
-    requires { ⌜ (length (now file) ≤ longest) × (n ≤ mostNodes) × (n ≤ length (now nodes)) × Given (now protocol) (now arities) (now rules) nr × SomeNodes (now protocol) (now arities) (now rules) nr (now file) (now nodes) n × ArityTable (now protocol) (now arities) (now rules) nr (now ars) ⌝ }
-    ensures { λ r. ⌜ ((p : Protocol) (xs : List Node) → IndexOf (now (protocol .entry)) (now (arities .entry)) (now (rules .entry)) nr p → Placed (node p (now (file .entry))) noNode (now (nodes .entry)) xs n → rulingOf r ≡ counted (nodeRuling p xs)) ⌝ }
+    requires { ⌜ Asks₂ (NodesAt (now protocol) (now arities) (now rules) nr (now file) (now nodes) n) × ArityTable (now protocol) (now arities) (now rules) nr (now ars) × (n ≤ mostNodes) × (n ≤ length (now nodes)) ⌝ }
+    ensures { λ r. ⌜ Promises₂ (NodesAt (now (protocol .entry)) (now (arities .entry)) (now (rules .entry)) nr (now (file .entry)) (now (nodes .entry)) n) (λ (p : Protocol) (xs : List Node). rulingOf r ≡ counted (nodeRuling p xs)) ⌝ }
 {
     let wrong = values::value_pass(file, protocol, arities, rules, nr, nodes, n);
     if wrong != 0 {
@@ -65,10 +64,10 @@ pub fn rule_steps(
     nr: usize,
     nodes: &mut [usize],
 ) -> NodesRuling
-    requires { ⌜ (length (now file) ≤ longest) × (mostNodes ≤ length (now nodes)) × Given (now protocol) (now arities) (now rules) nr × ArityTable (now protocol) (now arities) (now rules) nr (now ars) ⌝ }
+    requires { ⌜ Asks (IndexOf (now protocol) (now arities) (now rules) nr) × ArityTable (now protocol) (now arities) (now rules) nr (now ars) × (length (now file) ≤ longest) × (mostNodes ≤ length (now nodes)) ⌝ }
     ensures kept { λ r. ⌜ length (now (nodes .exit)) ≡ length (now (nodes .entry)) ⌝ }
-    ensures ruled { λ r. ⌜ ((p : Protocol) → IndexOf (now (protocol .entry)) (now (arities .entry)) (now (rules .entry)) nr p → rulingOf r ≡ counted (listRuling p stepsItem (steps p (now (file .entry))))) ⌝ }
-    ensures good { λ r. ⌜ ((p : Protocol) → IndexOf (now (protocol .entry)) (now (arities .entry)) (now (rules .entry)) nr p → WhereGood p (now (file .entry)) (now (nodes .exit)) r) ⌝ }
+    ensures ruled { λ r. ⌜ Promises (IndexOf (now (protocol .entry)) (now (arities .entry)) (now (rules .entry)) nr) (λ (p : Protocol). rulingOf r ≡ counted (listRuling p stepsItem (steps p (now (file .entry))))) ⌝ }
+    ensures good { λ r. ⌜ Promises (IndexOf (now (protocol .entry)) (now (arities .entry)) (now (rules .entry)) nr) (λ (p : Protocol). WhereGood p (now (file .entry)) (now (nodes .exit)) r) ⌝ }
 {
     match nodes::read_steps(file, protocol, arities, rules, nr, nodes) {
         Nodes::End(n, _) => rule_nodes(file, protocol, arities, ars, rules, nr, nodes, n),

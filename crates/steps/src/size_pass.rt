@@ -7,16 +7,14 @@ ghost use Rattle.octets.specs.Limits.{longest};
 ghost use Rattle.term.specs.Term.{Term};
 ghost use Rattle.protocol.specs.Protocol.{Rule, Protocol};
 ghost use Rattle.protocol.specs.Protocol.Walks.{sortsAt};
-ghost use Rattle.protocol.specs.Places.{valueOf, Here};
-ghost use Rattle.protocol.specs.Index.{Placed};
+ghost use Rattle.protocol.specs.Places.{valueOf};
+ghost use Rattle.lists.specs.Asks.{Asks₂, Promises₂, Asks₃, Promises₃};
 ghost use Rattle.lists.specs.Lists.{firstBad};
-ghost use Rattle.steps.specs.Index.{IndexOf, Given};
-ghost use Rattle.steps.specs.Nodes.{Node, node, mostNodes};
-ghost use Rattle.steps.specs.Nodes.Code.{noNode};
+ghost use Rattle.steps.specs.Nodes.{Node, mostNodes};
 ghost use Rattle.steps.specs.Values.Tests.{ruleOk, nodeTermsOk};
-ghost use Rattle.steps.specs.Values.Loops.{NodeFrom, SomeFrom, SomeNode};
-ghost use Rattle.steps.specs.Values.Scan.{asFound, SomeNodes};
-ghost use Rattle.steps.specs.Values.Filled.{ArityTable, FillsRule, SomeFilling};
+ghost use Rattle.steps.specs.Values.Loops.{FromAt, NodeAt};
+ghost use Rattle.steps.specs.Values.Scan.{asFound, NodesAt};
+ghost use Rattle.steps.specs.Values.Filled.{ArityTable, FillsRule};
 use number::Number;
 
 // Whether the terms of the rule at a place of src are small enough with the k values from a place of file on filled in.
@@ -29,8 +27,8 @@ fn filled_small(
     place: usize,
     k: usize,
 ) -> bool
-    requires { ⌜ (length (now src) ≤ longest) × SomeFilling (now arities) (now ars) (now file) (now src) place at × (k ≡ valueOf (sortsAt (now src) place)) ⌝ }
-    ensures { λ r. ⌜ ((u : Rule) (vs : List Term) (e : ℕ) → FillsRule (now (arities .entry)) (now (ars .entry)) (now (file .entry)) (now (src .entry)) place at u vs e → r ≡ ruleOk vs u) ⌝ }
+    requires { ⌜ Asks₃ (FillsRule (now arities) (now ars) (now file) (now src) place at) × (length (now src) ≤ longest) × (k ≡ valueOf (sortsAt (now src) place)) ⌝ }
+    ensures { λ r. ⌜ Promises₃ (FillsRule (now (arities .entry)) (now (ars .entry)) (now (file .entry)) (now (src .entry)) place at) (λ (u : Rule) (vs : List Term) (e : ℕ). r ≡ ruleOk vs u) ⌝ }
 {
     let mut sizes = [1usize; protocol::figures::MOST_VARIABLES];
     crate::sizes::value_sizes(file, arities, at, k, &mut sizes);
@@ -48,8 +46,8 @@ fn terms_of(
     number: usize,
     at: usize,
 ) -> bool
-    requires { ⌜ Given (now protocol) (now arities) (now rules) nr × SomeFrom (now protocol) (now arities) (now rules) nr (now file) number at × ArityTable (now protocol) (now arities) (now rules) nr (now ars) ⌝ }
-    ensures { λ r. ⌜ ((p : Protocol) (x : Node) (e : ℕ) → IndexOf (now (protocol .entry)) (now (arities .entry)) (now (rules .entry)) nr p → NodeFrom p (now (file .entry)) number at x e → r ≡ nodeTermsOk p x) ⌝ }
+    requires { ⌜ Asks₃ (FromAt (now protocol) (now arities) (now rules) nr (now file) number at) × ArityTable (now protocol) (now arities) (now rules) nr (now ars) ⌝ }
+    ensures { λ r. ⌜ Promises₃ (FromAt (now (protocol .entry)) (now (arities .entry)) (now (rules .entry)) nr (now (file .entry)) number at) (λ (p : Protocol) (x : Node) (e : ℕ). r ≡ nodeTermsOk p x) ⌝ }
 {
     let mut own = [0u8; rules::numbered::RULE_ROOM];
     let found = rules::numbered::find_rule(arities, rules, nr, number, &mut own);
@@ -68,8 +66,8 @@ fn node_terms(
     nr: usize,
     place: usize,
 ) -> bool
-    requires { ⌜ (length (now file) ≤ longest) × Given (now protocol) (now arities) (now rules) nr × SomeNode (now protocol) (now arities) (now rules) nr (now file) place × ArityTable (now protocol) (now arities) (now rules) nr (now ars) ⌝ }
-    ensures { λ r. ⌜ ((p : Protocol) (x : Node) → IndexOf (now (protocol .entry)) (now (arities .entry)) (now (rules .entry)) nr p → Here (node p (now (file .entry))) x place → r ≡ nodeTermsOk p x) ⌝ }
+    requires { ⌜ Asks₂ (NodeAt (now protocol) (now arities) (now rules) nr (now file) place) × ArityTable (now protocol) (now arities) (now rules) nr (now ars) ⌝ }
+    ensures { λ r. ⌜ Promises₂ (NodeAt (now (protocol .entry)) (now (arities .entry)) (now (rules .entry)) nr (now (file .entry)) place) (λ (p : Protocol) (x : Node). r ≡ nodeTermsOk p x) ⌝ }
 {
     match number::read_number(file, place) {
         Number::Value(r, e) => terms_of(file, protocol, arities, ars, rules, nr, r as usize, e),
@@ -88,8 +86,8 @@ pub fn size_pass(
     nodes: &[usize],
     n: usize,
 ) -> usize
-    requires { ⌜ (length (now file) ≤ longest) × (n ≤ mostNodes) × (n ≤ length (now nodes)) × Given (now protocol) (now arities) (now rules) nr × SomeNodes (now protocol) (now arities) (now rules) nr (now file) (now nodes) n × ArityTable (now protocol) (now arities) (now rules) nr (now ars) ⌝ }
-    ensures { λ r. ⌜ ((p : Protocol) (xs : List Node) → IndexOf (now (protocol .entry)) (now (arities .entry)) (now (rules .entry)) nr p → Placed (node p (now (file .entry))) noNode (now (nodes .entry)) xs n → asFound r ≡ firstBad (λ (k : ℕ) (x : Node). nodeTermsOk p x) 1 xs) ⌝ }
+    requires { ⌜ Asks₂ (NodesAt (now protocol) (now arities) (now rules) nr (now file) (now nodes) n) × ArityTable (now protocol) (now arities) (now rules) nr (now ars) × (n ≤ mostNodes) × (n ≤ length (now nodes)) ⌝ }
+    ensures { λ r. ⌜ Promises₂ (NodesAt (now (protocol .entry)) (now (arities .entry)) (now (rules .entry)) nr (now (file .entry)) (now (nodes .entry)) n) (λ (p : Protocol) (xs : List Node). asFound r ≡ firstBad (λ (k : ℕ) (x : Node). nodeTermsOk p x) 1 xs) ⌝ }
 {
     let mut j: usize = 0;
     while j < n {

@@ -6,13 +6,14 @@ ghost use lib.ListN.{length, getD};
 ghost use lib.Dec.{ltb};
 ghost use Rattle.steps.specs.Values.{mostFilledIn};
 ghost use Rattle.octets.specs.Limits.{longest};
-ghost use Rattle.number.specs.Reading.{got, many};
+ghost use Rattle.lists.specs.Asks.{Asks, Promises, Asks₂, Promises₂};
+ghost use Rattle.number.specs.Reading.{many};
 ghost use Rattle.term.specs.Term.{Term, symbols};
 ghost use Rattle.term.specs.Reader.{symbolAt, kindOf, term};
 ghost use Rattle.protocol.specs.Protocol.{Fact, Rule, fact, facts, rule};
-ghost use Rattle.protocol.specs.Places.{Here};
-ghost use Rattle.steps.specs.Values.Parts.{noTerm, factSmall, listSmall, ruleSmall, SomeFact, SomeList, RuleAt};
-ghost use Rattle.steps.specs.Values.Weights.{leafWeight, weigh, weightOf, sizeIn, SomeTerm};
+ghost use Rattle.protocol.specs.Places.{At, ReadAs};
+ghost use Rattle.steps.specs.Values.Parts.{noTerm, factSmall, listSmall, ruleSmall};
+ghost use Rattle.steps.specs.Values.Weights.{leafWeight, weigh, weightOf, sizeIn};
 use term::Part;
 use term::Symbol;
 
@@ -61,8 +62,8 @@ fn one_weight(file: &[u8], arities: &[u8], at: usize, sizes: &[usize]) -> Weight
 
 // Whether the term at a place has 256 symbols at most with values of these sizes filled in.
 pub fn term_small(file: &[u8], arities: &[u8], at: usize, sizes: &[usize]) -> bool
-    requires { ⌜ (length (now file) ≤ longest) × ((v : ℕ) → sizeIn (now sizes) v ≤ longest) × SomeTerm (now arities) (now file) at ⌝ }
-    ensures { λ r. ⌜ ((t : Term) (e : ℕ) → term (now (file .entry)) (now (arities .entry)) at ≡ got t e → r ≡ ltb (weigh (sizeIn (now (sizes .entry))) t) (suc mostFilledIn)) ⌝ }
+    requires { ⌜ Asks₂ (ReadAs (term (now file) (now arities)) at) × (length (now file) ≤ longest) × ((v : ℕ) → sizeIn (now sizes) v ≤ longest) ⌝ }
+    ensures { λ r. ⌜ Promises₂ (ReadAs (term (now (file .entry)) (now (arities .entry))) at) (λ (t : Term) (e : ℕ). r ≡ ltb (weigh (sizeIn (now (sizes .entry))) t) (suc mostFilledIn)) ⌝ }
 {
     let mut i = at;
     let mut pending: usize = 1;
@@ -87,8 +88,8 @@ pub fn term_small(file: &[u8], arities: &[u8], at: usize, sizes: &[usize]) -> bo
 
 // Whether all terms of the fact at a place are small enough.
 pub fn fact_small(file: &[u8], arities: &[u8], ars: &[u8], place: usize, sizes: &[usize]) -> bool
-    requires { ⌜ (length (now file) ≤ longest) × ((v : ℕ) → sizeIn (now sizes) v ≤ longest) × SomeFact (now arities) (now ars) (now file) place ⌝ }
-    ensures { λ r. ⌜ ((f : Fact) → Here (fact (now (file .entry)) (now (arities .entry)) (now (ars .entry))) f place → r ≡ factSmall (sizeIn (now (sizes .entry))) f) ⌝ }
+    requires { ⌜ Asks (At (fact (now file) (now arities) (now ars)) place) × (length (now file) ≤ longest) × ((v : ℕ) → sizeIn (now sizes) v ≤ longest) ⌝ }
+    ensures { λ r. ⌜ Promises (At (fact (now (file .entry)) (now (arities .entry)) (now (ars .entry))) place) (λ (f : Fact). r ≡ factSmall (sizeIn (now (sizes .entry))) f) ⌝ }
 {
     let y = protocol::places::symbol_of(file, ars, place);
     let n = ars[y] as usize;
@@ -106,8 +107,8 @@ pub fn fact_small(file: &[u8], arities: &[u8], ars: &[u8], place: usize, sizes: 
 
 // Whether all facts of the list at a place are.
 pub fn list_small(file: &[u8], arities: &[u8], ars: &[u8], place: usize, sizes: &[usize]) -> bool
-    requires { ⌜ (length (now file) ≤ longest) × ((v : ℕ) → sizeIn (now sizes) v ≤ longest) × SomeList (now arities) (now ars) (now file) place ⌝ }
-    ensures { λ r. ⌜ ((fs : List Fact) → Here (facts (now (file .entry)) (now (arities .entry)) (now (ars .entry))) fs place → r ≡ listSmall (sizeIn (now (sizes .entry))) fs) ⌝ }
+    requires { ⌜ Asks (At (facts (now file) (now arities) (now ars)) place) × (length (now file) ≤ longest) × ((v : ℕ) → sizeIn (now sizes) v ≤ longest) ⌝ }
+    ensures { λ r. ⌜ Promises (At (facts (now (file .entry)) (now (arities .entry)) (now (ars .entry))) place) (λ (fs : List Fact). r ≡ listSmall (sizeIn (now (sizes .entry))) fs) ⌝ }
 {
     let n = protocol::places::count_of(file, place);
     let mut j: usize = 0;
@@ -124,8 +125,8 @@ pub fn list_small(file: &[u8], arities: &[u8], ars: &[u8], place: usize, sizes: 
 
 // Whether all terms of the rule at a place are: premises, actions, conclusions.
 pub fn rule_small(file: &[u8], arities: &[u8], ars: &[u8], place: usize, sizes: &[usize]) -> bool
-    requires { ⌜ (length (now file) ≤ longest) × ((v : ℕ) → sizeIn (now sizes) v ≤ longest) × RuleAt (now arities) (now ars) (now file) place ⌝ }
-    ensures { λ r. ⌜ ((u : Rule) → Here (rule (now (file .entry)) (now (arities .entry)) (now (ars .entry))) u place → r ≡ ruleSmall (sizeIn (now (sizes .entry))) u) ⌝ }
+    requires { ⌜ Asks (At (rule (now file) (now arities) (now ars)) place) × (length (now file) ≤ longest) × ((v : ℕ) → sizeIn (now sizes) v ≤ longest) ⌝ }
+    ensures { λ r. ⌜ Promises (At (rule (now (file .entry)) (now (arities .entry)) (now (ars .entry))) place) (λ (u : Rule). r ≡ ruleSmall (sizeIn (now (sizes .entry))) u) ⌝ }
 {
     let mut j: usize = 0;
     while j < protocol::figures::LISTS {
@@ -143,7 +144,7 @@ pub fn rule_small(file: &[u8], arities: &[u8], ars: &[u8], place: usize, sizes: 
 pub fn value_sizes(file: &[u8], arities: &[u8], at: usize, k: usize, sizes: &mut [usize])
     requires { ⌜ (length (now file) ≤ longest) × (k ≤ length (now sizes)) ⌝ }
     ensures kept { λ r. ⌜ length (now (sizes .exit)) ≡ length (now (sizes .entry)) ⌝ }
-    ensures told { λ r. ⌜ ((vs : List Term) (e : ℕ) → many (term (now (file .entry)) (now (arities .entry))) k at ≡ got vs e → (j : ℕ) → j < k → getD (now (sizes .exit)) j 1 ≡ symbols (getD vs j noTerm)) ⌝ }
+    ensures told { λ r. ⌜ Promises₂ (ReadAs (many (term (now (file .entry)) (now (arities .entry))) k) at) (λ (vs : List Term) (e : ℕ). (j : ℕ) → j < k → getD (now (sizes .exit)) j 1 ≡ symbols (getD vs j noTerm)) ⌝ }
 {
     let mut i = at;
     let mut v: usize = 0;

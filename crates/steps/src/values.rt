@@ -9,16 +9,14 @@ ghost use Rattle.term.specs.Term.{Term};
 ghost use Rattle.term.specs.Reader.{symbolAt, term};
 ghost use Rattle.protocol.specs.Protocol.{Rule, Protocol};
 ghost use Rattle.protocol.specs.Protocol.Walks.{sortsAt};
-ghost use Rattle.protocol.specs.Places.{valueOf, Here};
-ghost use Rattle.protocol.specs.Index.{Placed};
+ghost use Rattle.protocol.specs.Places.{valueOf};
+ghost use Rattle.lists.specs.Asks.{Asks₂, Promises₂, Asks₃, Promises₃};
 ghost use Rattle.lists.specs.Lists.{firstBad};
-ghost use Rattle.steps.specs.Index.{IndexOf, Given};
-ghost use Rattle.steps.specs.Nodes.{Node, node, mostNodes};
-ghost use Rattle.steps.specs.Nodes.Code.{noNode};
+ghost use Rattle.steps.specs.Nodes.{Node, mostNodes};
 ghost use Rattle.steps.specs.Values.Tests.{valueOk, valuesOk, nodeValuesOk};
-ghost use Rattle.steps.specs.Values.Loops.{behindOf, RuleHere, SomeRule, NodeFrom, SomeFrom, SomeNode};
-ghost use Rattle.steps.specs.Values.Scan.{asFound, SomeNodes};
-ghost use Rattle.steps.specs.Values.Code.{NameIs, ofName, ValueThere, SomeValue};
+ghost use Rattle.steps.specs.Values.Loops.{behindOf, RuleHere, FromAt, NodeAt};
+ghost use Rattle.steps.specs.Values.Scan.{asFound, NodesAt};
+ghost use Rattle.steps.specs.Values.Code.{NameIs, ofName, ValueThere};
 use number::Number;
 use protocol::figures;
 use term::Fresh;
@@ -72,8 +70,8 @@ fn of_sort(sort: usize, name: Name) -> bool
 
 // Whether the value at a place has no variable, fits the sort, has 128 symbols at most and is canonical.
 pub fn value_ok(file: &[u8], arities: &[u8], at: usize, sort: usize) -> bool
-    requires { ⌜ SomeValue (now arities) (now file) at ⌝ }
-    ensures { λ r. ⌜ ((t : Term) (e : ℕ) → ValueThere (now (arities .entry)) (now (file .entry)) at t e → r ≡ valueOk sort t) ⌝ }
+    requires { ⌜ Asks₂ (ValueThere (now arities) (now file) at) ⌝ }
+    ensures { λ r. ⌜ Promises₂ (ValueThere (now (arities .entry)) (now (file .entry)) at) (λ (t : Term) (e : ℕ). r ≡ valueOk sort t) ⌝ }
 {
     match term::walk_term(file, arities, at, term::VARIABLE, 0, number::NUMBER_LIMIT) {
         Walk::End(_, n, held) => {
@@ -105,8 +103,8 @@ fn value_end(file: &[u8], arities: &[u8], at: usize) -> usize
 
 // Whether the k values from a place on fit the variables of the rule at a place of src.
 fn values_fit(file: &[u8], arities: &[u8], at: usize, src: &[u8], place: usize, k: usize) -> bool
-    requires { ⌜ SomeRule (now arities) (now file) (now src) place at × (k ≡ valueOf (sortsAt (now src) place)) ⌝ }
-    ensures { λ r. ⌜ ((u : Rule) (vs : List Term) (e : ℕ) → RuleHere (now (arities .entry)) (now (file .entry)) (now (src .entry)) place at u vs e → r ≡ valuesOk (u .sorts) vs) ⌝ }
+    requires { ⌜ Asks₃ (RuleHere (now arities) (now file) (now src) place at) × (k ≡ valueOf (sortsAt (now src) place)) ⌝ }
+    ensures { λ r. ⌜ Promises₃ (RuleHere (now (arities .entry)) (now (file .entry)) (now (src .entry)) place at) (λ (u : Rule) (vs : List Term) (e : ℕ). r ≡ valuesOk (u .sorts) vs) ⌝ }
 {
     let mut i = at;
     let mut v: usize = 0;
@@ -132,8 +130,8 @@ fn values_of(
     number: usize,
     at: usize,
 ) -> bool
-    requires { ⌜ Given (now protocol) (now arities) (now rules) nr × SomeFrom (now protocol) (now arities) (now rules) nr (now file) number at ⌝ }
-    ensures { λ r. ⌜ ((p : Protocol) (x : Node) (e : ℕ) → IndexOf (now (protocol .entry)) (now (arities .entry)) (now (rules .entry)) nr p → NodeFrom p (now (file .entry)) number at x e → r ≡ nodeValuesOk p x) ⌝ }
+    requires { ⌜ Asks₃ (FromAt (now protocol) (now arities) (now rules) nr (now file) number at) ⌝ }
+    ensures { λ r. ⌜ Promises₃ (FromAt (now (protocol .entry)) (now (arities .entry)) (now (rules .entry)) nr (now (file .entry)) number at) (λ (p : Protocol) (x : Node) (e : ℕ). r ≡ nodeValuesOk p x) ⌝ }
 {
     let mut own = [0u8; rules::numbered::RULE_ROOM];
     let found = rules::numbered::find_rule(arities, rules, nr, number, &mut own);
@@ -151,8 +149,8 @@ fn node_values(
     nr: usize,
     place: usize,
 ) -> bool
-    requires { ⌜ (length (now file) ≤ longest) × Given (now protocol) (now arities) (now rules) nr × SomeNode (now protocol) (now arities) (now rules) nr (now file) place ⌝ }
-    ensures { λ r. ⌜ ((p : Protocol) (x : Node) → IndexOf (now (protocol .entry)) (now (arities .entry)) (now (rules .entry)) nr p → Here (node p (now (file .entry))) x place → r ≡ nodeValuesOk p x) ⌝ }
+    requires { ⌜ Asks₂ (NodeAt (now protocol) (now arities) (now rules) nr (now file) place) ⌝ }
+    ensures { λ r. ⌜ Promises₂ (NodeAt (now (protocol .entry)) (now (arities .entry)) (now (rules .entry)) nr (now (file .entry)) place) (λ (p : Protocol) (x : Node). r ≡ nodeValuesOk p x) ⌝ }
 {
     match number::read_number(file, place) {
         Number::Value(r, e) => values_of(file, protocol, arities, rules, nr, r as usize, e),
@@ -170,8 +168,8 @@ pub fn value_pass(
     nodes: &[usize],
     n: usize,
 ) -> usize
-    requires { ⌜ (length (now file) ≤ longest) × (n ≤ mostNodes) × (n ≤ length (now nodes)) × Given (now protocol) (now arities) (now rules) nr × SomeNodes (now protocol) (now arities) (now rules) nr (now file) (now nodes) n ⌝ }
-    ensures { λ r. ⌜ ((p : Protocol) (xs : List Node) → IndexOf (now (protocol .entry)) (now (arities .entry)) (now (rules .entry)) nr p → Placed (node p (now (file .entry))) noNode (now (nodes .entry)) xs n → asFound r ≡ firstBad (λ (k : ℕ) (x : Node). nodeValuesOk p x) 1 xs) ⌝ }
+    requires { ⌜ Asks₂ (NodesAt (now protocol) (now arities) (now rules) nr (now file) (now nodes) n) × (n ≤ mostNodes) × (n ≤ length (now nodes)) ⌝ }
+    ensures { λ r. ⌜ Promises₂ (NodesAt (now (protocol .entry)) (now (arities .entry)) (now (rules .entry)) nr (now (file .entry)) (now (nodes .entry)) n) (λ (p : Protocol) (xs : List Node). asFound r ≡ firstBad (λ (k : ℕ) (x : Node). nodeValuesOk p x) 1 xs) ⌝ }
 {
     let mut j: usize = 0;
     while j < n {

@@ -4,10 +4,12 @@ use mathlib.Core.List.{List}
 use mathlib.Core.Option.{Option, none, some}
 use mathlib.Core.Path.{_≡_, refl, ap, sym, _∙_, subst}
 use lib.ListN.{length}
+use Rattle.lists.specs.Asks.{Asks₂}
 use Rattle.lists.specs.Lists.{firstBad}
 use Rattle.rewriting.specs.Table.{Ruling, passed, refused, orRefuse}
 use Rattle.rewriting.specs.Writer.{firstNameTwice}
 use Rattle.octets.specs.Head.{Bytes}
+use Rattle.octets.specs.Limits.{longest}
 use Rattle.protocol.specs.Protocol.{Protocol}
 use Rattle.protocol.specs.Index.{Placed}
 use Rattle.steps.specs.Nodes.{Node, Reading, node, steps, mostNodes}
@@ -15,7 +17,7 @@ use Rattle.steps.specs.Nodes.Code.{noNode, NodesAre, Told}
 use Rattle.steps.specs.Nodes.Exact.{steps-form}
 use Rattle.steps.specs.Index.{IndexOf}
 use Rattle.steps.specs.Values.Tests.{nodeValuesOk, nodeTermsOk}
-use Rattle.steps.specs.Values.Scan.{asFound, SomeNodes}
+use Rattle.steps.specs.Values.Scan.{asFound, NodesAt}
 use Rattle.steps.specs.Runs.{rewrittens}
 use Rattle.steps.specs.Causes.{stepsItem, nodeRuling, listRuling}
 use Rattle.steps.specs.declared.nodes.Nodes.{Nodes}
@@ -106,8 +108,8 @@ module _ (p : Protocol) (file nodes : List ℕ) (r : Nodes) (told : Told (steps 
 
 -- the nodes that were read are nodes of some protocol with this index
 pub list-some :
-    {protocol arities rules : List ℕ} {nr : ℕ} {p : Protocol} (i : IndexOf protocol arities rules nr p) (file nodes : List ℕ) (r : Nodes)
-    → Told (steps p file) p file nodes r → {n e : ℕ} → r ≡ all.End n e → SomeNodes protocol arities rules nr file nodes n
-list-some {p = p} i file nodes r told h =
+    {protocol arities rules : List ℕ} {nr : ℕ} {p : Protocol} (i : IndexOf protocol arities rules nr p) (file nodes : List ℕ) → length file ≤ longest
+    → (r : Nodes) → Told (steps p file) p file nodes r → {n e : ℕ} → r ≡ all.End n e → Asks₂ (NodesAt protocol arities rules nr file nodes n)
+list-some {p = p} i file nodes short r told h =
     let t = list-read p file nodes r told h in
-    record { of = p; index = i; their = t .items; placed = t .placed }
+    (p, t .items, record { index = i; placed = t .placed; short = short })

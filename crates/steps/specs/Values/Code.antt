@@ -57,11 +57,6 @@ pub record ValueThere (arities file : List ℕ) (at : ℕ) (t : Term) (e : ℕ) 
   pub there : term file arities at ≡ got t e
   pub short : length file ≤ longest
 
-pub record SomeValue (arities file : List ℕ) (at : ℕ) : Type 0 where
-  pub value : Term
-  pub end : ℕ
-  pub is : ValueThere arities file at value end
-
 -- ── a name by its symbol ──
 module _ {y : Symbol} where
   pub tagged : {t n e : ℕ} (k : ℕ) → y ≡ sy.Leaf t n e → t ≡ k → y ≡ sy.Leaf k n e

@@ -10,6 +10,7 @@ use lib.ListN.{length, getD, take, length-drop, List·getD-eq-default}
 use lib.Seq.{getD-take, length-take-le}
 use Rattle.protocol.specs.Figures.{mostVariables}
 use Rattle.octets.specs.Limits.{longest}
+use Rattle.lists.specs.Asks.{Promises}
 use Rattle.lists.specs.Choice.{by-size}
 use Rattle.octets.specs.Head.{Bytes, stands-within}
 use Rattle.number.specs.Reading.{got, many}
@@ -36,7 +37,7 @@ use Rattle.steps.specs.Facts.{valueAt}
 use Rattle.steps.specs.Values.Tests.{ruleOk, ofRule, nodeTermsOk}
 use Rattle.steps.specs.Values.Weights.{sizeIn}
 use Rattle.steps.specs.Values.Parts.{noTerm, ruleSmall, rule-weighed}
-use Rattle.steps.specs.Values.Loops.{RuleHere, count-here, NodeFrom, rule-here}
+use Rattle.steps.specs.Values.Loops.{RuleHere, count-here, NodeFrom, FromAt, rule-here}
 
 -- ── the sizes of values ──
 module _ (file arities : List ℕ) (bytes : Bytes file) where
@@ -85,7 +86,7 @@ module _ (file arities : List ℕ) (k at : ℕ) (vs : List Term) (e : ℕ) (read
 -- ── what is asked ──
 -- the arities of the fact symbols of the protocol of which the tables are the index
 abbrev pub ArityTable : List ℕ → List ℕ → List ℕ → ℕ → List ℕ → Type 0
-ArityTable protocol arities rules nr ars = (p : Protocol) → IndexOf protocol arities rules nr p → ars ≡ factArities (p .symbols)
+ArityTable protocol arities rules nr ars = Promises (IndexOf protocol arities rules nr) (λ (p : Protocol). ars ≡ factArities (p .symbols))
 
 -- the index has it
 pub index-arities :
@@ -100,12 +101,6 @@ index-arities {protocol} i p j =
 pub record FillsRule (arities ars file src : List ℕ) (place at : ℕ) (u : Rule) (vs : List Term) (e : ℕ) : Type 0 where
   pub is : RuleHere arities file src place at u vs e
   pub here : Here (rule src arities ars) u place
-
-pub record SomeFilling (arities ars file src : List ℕ) (place at : ℕ) : Type 0 where
-  pub its : Rule
-  pub its-values : List Term
-  pub end : ℕ
-  pub fills : FillsRule arities ars file src place at its its-values end
 
 module _ {arities ars file src : List ℕ} {place at : ℕ} {u : Rule} {vs : List Term} {e : ℕ} (h : FillsRule arities ars file src place at u vs e) where
   module _ (k : ℕ) (counted : k ≡ valueOf (sortsAt src place)) where
@@ -146,11 +141,12 @@ module _ {protocol arities rules : List ℕ} {nr : ℕ} {ars : List ℕ} (known 
       (part-rule i number r out h src e bytes is-bytes u is)
 
   pub part-filling :
-      (file : List ℕ) → length file ≤ longest → (at : ℕ) (x : Node) (d : ℕ) → NodeFrom p file number at x d → FillsRule arities ars file src 0 at u (x .values) d
-  part-filling file short at x d from = record { is = rule-here i file short number at x d from u is src ars 0 part-known; here = part-known }
+      {file : List ℕ} {at : ℕ} {x : Node} {d : ℕ} → FromAt protocol arities rules nr file number at p x d
+      → FillsRule arities ars file src 0 at u (x .values) d
+  part-filling f = record { is = rule-here f u is src ars 0 part-known; here = part-known }
 
 -- the rule's test is the node's
 pub terms-test :
-    (p : Protocol) (file : List ℕ) (number at : ℕ) (x : Node) (e : ℕ) → NodeFrom p file number at x e → (u : Rule) → ruleOf p number ≡ some u
+    {p : Protocol} {file : List ℕ} {number at : ℕ} {x : Node} {e : ℕ} → NodeFrom p file number at x e → (u : Rule) → ruleOf p number ≡ some u
     → (b : Bool) → b ≡ ruleOk (x .values) u → b ≡ nodeTermsOk p x
-terms-test p file number at x e from u is b h = h ∙ sym (ap (ofRule (ruleOk (x .values))) (ap (ruleOf p) (from .is-number) ∙ is))
+terms-test {p} {x = x} from u is b h = h ∙ sym (ap (ofRule (ruleOk (x .values))) (ap (ruleOf p) (from .is-number) ∙ is))

@@ -54,12 +54,6 @@ pub record RuleHere (arities file src : List ℕ) (place at : ℕ) (u : Rule) (v
   pub reads : many (term file arities) (length (u .sorts)) at ≡ got vs e
   pub short : length file ≤ longest
 
-pub record SomeRule (arities file src : List ℕ) (place at : ℕ) : Type 0 where
-  pub its : Rule
-  pub its-values : List Term
-  pub end : ℕ
-  pub is : RuleHere arities file src place at its its-values end
-
 module _ {arities file src : List ℕ} {place at : ℕ} {u : Rule} {vs : List Term} {e : ℕ} (h : RuleHere arities file src place at u vs e) where
   pub sort-here : (v : ℕ) → v < length (u .sorts) → valueOf (sortOf src place v) ≡ getD (u .sorts) v 0
   sort-here v l = sort-law src arities (h .ars) place u (rule-layout src arities (h .ars) place u (h .here)) v l
@@ -126,12 +120,11 @@ module _ {arities file src : List ℕ} {place at : ℕ} {u : Rule} {vs : List Te
   pub left-none : (v i : ℕ) → length (u .sorts) ≤ v → Left v i → true ≡ valuesOk (u .sorts) vs
   left-none v i l g = sym (g .same ∙ ap (λ (x : List ℕ). valuesOk x (drop v vs)) (drop-of-length-le (u .sorts) l))
 
--- ── a node at a place ──
-pub record SomeNode (protocol arities rules : List ℕ) (nr : ℕ) (file : List ℕ) (place : ℕ) : Type 0 where
-  pub of : Protocol
-  pub index : IndexOf protocol arities rules nr of
-  pub its : Node
-  pub here : Here (node of file) its place
+-- ── a node at a place, under the tables of its protocol ──
+pub record NodeAt (protocol arities rules : List ℕ) (nr : ℕ) (file : List ℕ) (place : ℕ) (p : Protocol) (x : Node) : Type 0 where
+  pub index : IndexOf protocol arities rules nr p
+  pub here : Here (node p file) x place
+  pub short : length file ≤ longest
 
 -- a node whose rule number was read, its values from `at` on
 pub record NodeFrom (p : Protocol) (file : List ℕ) (number at : ℕ) (x : Node) (e : ℕ) : Type 0 where
@@ -158,21 +151,30 @@ module _ (p : Protocol) (file : List ℕ) where
       let q : fault ≡ got x (k .next) = sym (ap (λ (o : Read ℕ). andThen o (λ r e. values p file r (ruleOf p r) e)) h) ∙ k .reads in
       clash (cc)
 
--- the rule of such a node stands at a place of src, and its values behind its number
-pub record SomeFrom (protocol arities rules : List ℕ) (nr : ℕ) (file : List ℕ) (number at : ℕ) : Type 0 where
-  pub of : Protocol
-  pub index : IndexOf protocol arities rules nr of
-  pub its : Node
-  pub end : ℕ
-  pub is : NodeFrom of file number at its end
+-- under the tables of its protocol
+pub record FromAt (protocol arities rules : List ℕ) (nr : ℕ) (file : List ℕ) (number at : ℕ) (p : Protocol) (x : Node) (e : ℕ) : Type 0 where
+  pub index : IndexOf protocol arities rules nr p
+  pub is : NodeFrom p file number at x e
   pub short : length file ≤ longest
 
-module _ {protocol arities rules : List ℕ} {nr : ℕ} {p : Protocol} (i : IndexOf protocol arities rules nr p) (file : List ℕ) (short : length file ≤ longest)
-    (number at : ℕ) (x : Node) (e : ℕ) (from : NodeFrom p file number at x e) (u : Rule) (is : ruleOf p number ≡ some u) where
+module _ {protocol arities rules : List ℕ} {nr : ℕ} {file : List ℕ} {p : Protocol} {x : Node} where
+  pub number-read :
+      {place number at : ℕ} → readNumber file place ≡ got number at → NodeAt protocol arities rules nr file place p x
+      → (e : ℕ) × FromAt protocol arities rules nr file number at p x e
+  number-read {place} {number} {at} h n =
+      let (e, f) = node-from p file place number at x h (n .here) in
+      (e, record { index = n .index; is = f; short = n .short })
+
+  pub number-unread : {C : Type 0} {place : ℕ} → readNumber file place ≡ fault → NodeAt protocol arities rules nr file place p x → C
+  number-unread {C} {place} h n = no-node-from p file place x h (n .here)
+
+-- the rule of such a node stands at a place of src, and its values behind its number
+module _ {protocol arities rules : List ℕ} {nr : ℕ} {file : List ℕ} {number at : ℕ} {p : Protocol} {x : Node} {e : ℕ}
+    (f : FromAt protocol arities rules nr file number at p x e) (u : Rule) (is : ruleOf p number ≡ some u) where
   behind-values : many (term file (tagArities (p .functions))) (length (u .sorts)) at ≡ got (x .values) e
   behind-values =
       cut-got (many (term file (tagArities (p .functions))) (length (u .sorts)) at) _
-      (sym (ap (λ (o : Option Rule). values p file number o at) is) ∙ from .reads)
+      (sym (ap (λ (o : Option Rule). values p file number o at) is) ∙ f .is .reads)
       (λ vs c hv h.
       let a : node-of number vs ≡ x = cc in
       let b : c ≡ e = cc in
@@ -180,22 +182,21 @@ module _ {protocol arities rules : List ℕ} {nr : ℕ} {p : Protocol} (i : Inde
 
   pub rule-here : (src ars : List ℕ) (place : ℕ) → Here (rule src arities ars) u place → RuleHere arities file src place at u (x .values) e
   rule-here src ars place h = record {
-    builtins = subst Builtins (sym (index-slots i)) (declared (p .functions));
+    builtins = subst Builtins (sym (index-slots (f .index))) (declared (p .functions));
     ars = ars;
     here = h;
-    few = rule-within p (index-within i) number u is .laid .few;
-    reads = ap (λ (l : List ℕ). many (term file l) (length (u .sorts)) at) (index-slots i) ∙ behind-values;
-    short = short;
+    few = rule-within p (index-within (f .index)) number u is .laid .few;
+    reads = ap (λ (l : List ℕ). many (term file l) (length (u .sorts)) at) (index-slots (f .index)) ∙ behind-values;
+    short = f .short;
   }
 
   -- its values' test is the node's
   pub values-test : (b : Bool) → b ≡ valuesOk (u .sorts) (x .values) → b ≡ nodeValuesOk p x
-  values-test b h = h ∙ sym (ap (ofRule (λ w. valuesOk (w .sorts) (x .values))) (ap (ruleOf p) (from .is-number) ∙ is))
+  values-test b h = h ∙ sym (ap (ofRule (λ w. valuesOk (w .sorts) (x .values))) (ap (ruleOf p) (f .is .is-number) ∙ is))
 
 -- it has a rule
-pub from-rule :
-    (p : Protocol) (file : List ℕ) (number at : ℕ) (x : Node) (e : ℕ) → NodeFrom p file number at x e → (u : Rule) × (ruleOf p number ≡ some u)
-from-rule p file number at x e from = go (ruleOf p number) refl (from .reads)
+pub from-rule : {p : Protocol} {file : List ℕ} {number at : ℕ} {x : Node} {e : ℕ} → NodeFrom p file number at x e → (u : Rule) × (ruleOf p number ≡ some u)
+from-rule {p} {file} {number} {at} {x} {e} from = go (ruleOf p number) refl (from .reads)
   where
     go : (o : Option Rule) → ruleOf p number ≡ o → values p file number o at ≡ got x e → (u : Rule) × (ruleOf p number ≡ some u)
     go none h q = clash (cc)

@@ -58,10 +58,6 @@ abbrev pub noTerm : Term
 noTerm = leaf variable 0
 
 -- ── a fact at a place ──
-pub record SomeFact (arities ars file : List ℕ) (place : ℕ) : Type 0 where
-  pub its : Fact
-  pub here : Here (fact file arities ars) its place
-
 module _ (file arities ars : List ℕ) (bytes : Bytes file) (place : ℕ) (f : Fact) (h : Here (fact file arities ars) f place) where
   pub symbol-inside : valueOf (below file (length ars) place) < length ars
   symbol-inside =
@@ -90,14 +86,6 @@ listSmall w fs = allBy (factSmall w) fs
 
 abbrev pub ruleSmall : (ℕ → ℕ) → Rule → Bool
 ruleSmall w u = allBy (listSmall w) (u .lists)
-
-pub record SomeList (arities ars file : List ℕ) (place : ℕ) : Type 0 where
-  pub its : List Fact
-  pub here : Here (facts file arities ars) its place
-
-pub record RuleAt (arities ars file : List ℕ) (place : ℕ) : Type 0 where
-  pub its : Rule
-  pub here : Here (rule file arities ars) its place
 
 module _ (file arities ars : List ℕ) (place : ℕ) (fs : List Fact) (h : Here (facts file arities ars) fs place) where
   pub facts-many : valueOf (below file 9 place) ≡ length fs

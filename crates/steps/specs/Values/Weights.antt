@@ -203,9 +203,3 @@ module _ (sizes : List ℕ) (n : ℕ) where
   leaf-other zero h = absurd (h refl)
   leaf-other (suc zero) h = refl
   leaf-other (suc (suc t)) h = refl
-
--- ── what is asked ──
-pub record SomeTerm (arities file : List ℕ) (at : ℕ) : Type 0 where
-  pub its : Term
-  pub end : ℕ
-  pub reads : term file arities at ≡ got its end

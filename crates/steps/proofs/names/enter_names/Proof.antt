@@ -1,11 +1,11 @@
 use borrow.Author.Needs.{needs}
 use Rattle.steps.specs.Names.Laws.{entered-none, entered-more, entry-made}
 use Rattle.steps.specs.Names.{Entered}
-use Rattle.steps.specs.Index.{IndexOf}
-use Rattle.steps.specs.Nodes.{Node, node}
+use Rattle.steps.specs.Values.Scan.{NodesAt, node-at}
+use Rattle.steps.specs.Nodes.{Node}
 use Rattle.steps.specs.Nodes.Code.{noNode}
 use Rattle.protocol.specs.Protocol.{Protocol}
-use Rattle.protocol.specs.Index.{Placed}
+use Rattle.lists.specs.Asks.{Promises₂}
 use Prim.Native.Nat.{ℕ, _-_, _≤_, _<_}
 use mathlib.Core.List.{List}
 use mathlib.Core.Path.{_≡_, _∙_, subst}
@@ -17,9 +17,7 @@ use Rattle.steps.proofs.names.enter_names.Tie as tie
 
 abbrev Inv-loop : tie.InvT-loop
 Inv-loop file protocol arities rules nr nodes n names₀ j₀ names j =
-    (j ≤ n) × (length names ≡ length names₀) × ((p : Protocol) (xs : List Node) → IndexOf protocol arities rules nr p → Placed (node p file) noNode nodes xs n
-    →
-    Entered names xs j)
+    (j ≤ n) × (length names ≡ length names₀) × Promises₂ (NodesAt protocol arities rules nr file nodes n) (λ (p : Protocol) (xs : List Node). Entered names xs j)
 
 abbrev μ-loop : tie.MeasureT-loop
 μ-loop file protocol arities rules nr nodes n names₀ j₀ names j =
@@ -27,7 +25,7 @@ abbrev μ-loop : tie.MeasureT-loop
 
 loop-holds : tie.Need-loop-holds Inv-loop μ-loop
 loop-holds c =
-    (search needs, search needs, λ p xs i h. entered-none _ xs)
+    (search needs, search needs, λ p xs h. entered-none _ xs)
 
 mul-made-at : tie.Need-mul-made-at Inv-loop μ-loop
 mul-made-at c = search needs
@@ -60,9 +58,9 @@ loop-again c =
     let b : c4 .loop .j < length (c4 .loop .names) = omega (arith, c4 .loop .inv .1) in (
       omega arith,
       search needs,
-      λ p xs i h. entered-more _ xs _ _ (c4 .loop .inv .2 p xs i h) b
+      λ p xs h. entered-more _ xs _ _ (c4 .loop .inv .2 p xs h) b
           (c .entry-of .ensures ∙ entry-made (madeName (getD xs (c4 .loop .j) noNode)) (c .before .made-at .result)
-          (c .before .made-at .ensures p _ i (h .each (c4 .loop .j) (c3 .loop-test .taken)))),
+          (c .before .made-at .ensures p _ (node-at h (c4 .loop .j) (c3 .loop-test .taken)))),
     )
 
 same-length : tie.Need-same-length Inv-loop μ-loop
@@ -72,7 +70,7 @@ returns : tie.Need-returns Inv-loop μ-loop
 returns c =
     let m : c .before .loop .j ≡ c .before .before .before .before .before .before .before .before .args .n = omega
     (arith, c .before .loop .inv .0, c .loop-test .left) in
-    (c .before .loop .inv .1, λ p xs i h. subst (λ (k : ℕ). Entered (c .before .loop .names) xs k) m (c .before .loop .inv .2 p xs i h))
+    (c .before .loop .inv .1, λ p xs h. subst (λ (k : ℕ). Entered (c .before .loop .names) xs k) m (c .before .loop .inv .2 p xs h))
 
 pub enter-names-spec : {M : Type 1} → statement M
 enter-names-spec =

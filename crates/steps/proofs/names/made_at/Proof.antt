@@ -1,6 +1,6 @@
 use mathlib.Core.Path.{ap, sym, _∙_}
 use Rattle.number.specs.Reading.{asRead}
-use Rattle.steps.specs.Values.Loops.{node-from, no-node-from}
+use Rattle.steps.specs.Values.Loops.{number-read, number-unread}
 use Rattle.steps.specs.Names.Code.{zero-name, other-name}
 use borrow.Author.Needs.{needs}
 use Rattle.steps.proofs.names.made_at.Statement.{statement}
@@ -20,9 +20,9 @@ returns c =
     let c3 = c .before .before .before in
     let c5 = c3 .before .before in
     let c9 = c5 .before .before .before .before in
-    λ p x i h.
-    let (e, f) = node-from p _ _ _ _ x (sym (c5 .read-number .ensures) ∙ ap asRead (c3 .r .given .1)) h in
-    zero-name i _ (λ k. c9 .shared-slice-known .given k .fits) _ _ x e f (c .before .if1 .taken) (c .fresh-at .result) (c .fresh-at .ensures)
+    λ p x h.
+    let (e, f) = number-read (sym (c5 .read-number .ensures) ∙ ap asRead (c3 .r .given .1)) h in
+    zero-name f (λ k. c9 .shared-slice-known .given k .fits) (c .before .if1 .taken) (c .fresh-at .result) (c .fresh-at .ensures)
 
 enum-told : tie.Need-enum-told
 enum-told c = search needs
@@ -30,14 +30,13 @@ enum-told c = search needs
 returns-2 : tie.Need-returns-2
 returns-2 c =
     let c4 = c .before .before .before .before in
-    let c8 = c4 .before .before .before .before in
-    λ p x i h.
-    let (e, f) = node-from p _ _ _ _ x (sym (c4 .read-number .ensures) ∙ ap asRead (c .before .before .r .given .1)) h in
-    other-name i _ (λ k. c8 .shared-slice-known .given k .fits) _ _ x e f (c .if1 .left)
+    λ p x h.
+    let (e, f) = number-read (sym (c4 .read-number .ensures) ∙ ap asRead (c .before .before .r .given .1)) h in
+    other-name f (c .if1 .left)
 
 returns-3 : tie.Need-returns-3
 returns-3 c =
-    λ p x i h. no-node-from p _ _ x (sym (c .before .before .read-number .ensures) ∙ ap asRead (c .enum-told .given .1)) h
+    λ p x h. number-unread (sym (c .before .before .read-number .ensures) ∙ ap asRead (c .enum-told .given .1)) h
 
 pub made-at-spec : {M : Type 1} → statement M
 made-at-spec =

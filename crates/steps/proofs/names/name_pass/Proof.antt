@@ -16,7 +16,7 @@ least-again-requires c κs = search needs
 
 returns : tie.Need-returns
 returns c =
-    λ p xs i h. c .least-again .ensures p xs (c .before .before .before .enter-names .ensures .1 p xs i h) (h .count)
+    λ p xs h. c .least-again .ensures p xs (c .before .before .before .enter-names .ensures .1 p xs h) (h .placed .count)
 
 pub name-pass-spec : {M : Type 1} → statement M
 name-pass-spec =

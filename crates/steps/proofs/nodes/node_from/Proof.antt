@@ -15,8 +15,8 @@ values-end-requires : tie.Need-values-end-requires
 values-end-requires c κs =
     let c3 = c .before .before .before in
     let c8 = c3 .before .before .before .before .before in
-    let g = c8 .pre .1 in
-    let l = few-variables (g .index) _ _ (sym (c .before .k .given .1) ∙ c3 .rule-variables .ensures (g .protocol) (g .index)) in
+    let g = c8 .pre .0 in
+    let l = few-variables (g .1) _ _ (sym (c .before .k .given .1) ∙ c3 .rule-variables .ensures (g .0) (g .1)) in
     (search needs, omega arith)
 
 enum-told : tie.Need-enum-told

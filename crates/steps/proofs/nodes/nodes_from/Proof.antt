@@ -3,6 +3,7 @@ use native.Mathlib.Omega.{arith}
 use lib.ListN.{length, length-set}
 use mathlib.Core.Path.{_≡_, sym, _∙_}
 use Prim.Native.Nat.{_-_, _≤_, _<_}
+use Rattle.lists.specs.Asks.{Promises}
 use Rattle.protocol.specs.Protocol.{Protocol}
 use Rattle.steps.specs.Index.{IndexOf}
 use Rattle.steps.specs.Nodes.Code.{Passed, passed-none, passed-more, passed-broken, passed-unknown, passed-all}
@@ -11,7 +12,7 @@ use Rattle.steps.proofs.nodes.nodes_from.Tie as tie
 
 abbrev Inv-loop : tie.InvT-loop
 Inv-loop file protocol arities rules nr at n nodes₀ i₀ j₀ nodes i j =
-    (j ≤ n) × (length nodes ≡ length nodes₀) × ((p : Protocol) → IndexOf protocol arities rules nr p → Passed p file at j i nodes)
+    (j ≤ n) × (length nodes ≡ length nodes₀) × Promises (IndexOf protocol arities rules nr) (λ (p : Protocol). Passed p file at j i nodes)
 
 abbrev μ-loop : tie.MeasureT-loop
 μ-loop file protocol arities rules nr at n nodes₀ i₀ j₀ nodes i j =
@@ -23,7 +24,7 @@ loop-holds c =
 
 node-end-requires : tie.Need-node-end-requires Inv-loop μ-loop
 node-end-requires c κs =
-    (search needs, c .before .before .before .before .before .before .before .pre .3)
+    (c .before .before .before .before .before .before .before .pre .0, search needs)
 
 enum-known-e : tie.Need-enum-known-e Inv-loop μ-loop
 enum-known-e c = search needs

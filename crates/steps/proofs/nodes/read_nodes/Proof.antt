@@ -23,7 +23,7 @@ nodes-from-requires c κs =
     let c9 = c4 .before .before .before .before .before in
     let c10 = c9 .before in
     let b = below-inside _ _ _ (λ i. c9 .shared-slice-known .given i .fits) _ _ (sym (c4 .below .ensures) ∙ ap asRead (c .before .before .n .given .1)) in
-    (search needs, omega (arith, b .small), search needs, c10 .pre .2)
+    (c10 .pre .0, search needs, omega (arith, b .small), search needs)
 
 enum-told : tie.Need-enum-told
 enum-told c = search needs

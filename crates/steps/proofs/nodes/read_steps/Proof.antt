@@ -6,7 +6,7 @@ use Rattle.steps.proofs.nodes.read_steps.Tie as tie
 
 read-nodes-requires : tie.Need-read-nodes-requires
 read-nodes-requires c κs =
-    (search needs, search needs, c .before .before .before .before .before .before .pre .2)
+    (c .before .before .before .before .before .before .pre .0, search needs, search needs)
 
 enum-known-n : tie.Need-enum-known-n
 enum-known-n c = search needs

@@ -11,7 +11,7 @@ slice-aggregate-find-rule c = search needs
 
 find-rule-requires : tie.Need-find-rule-requires
 find-rule-requires c κs =
-    (c .before .before .before .before .pre .slots-many, search needs, search needs)
+    (c .before .before .before .before .pre .1 .slots-many, search needs, search needs)
 
 enum-known-len : tie.Need-enum-known-len
 enum-known-len c = search needs
@@ -20,13 +20,13 @@ array-share-prefix-own : tie.Need-array-share-prefix-own
 array-share-prefix-own c =
     let c4 = c .before .before .before .before in
     let c9 = c4 .before .before .before .before .before in
-    written-at (c9 .pre .index) _ _ _ (c4 .find-rule .ensures) _ (c .before .len .given .1) .holds .short
+    written-at (c9 .pre .1) _ _ _ (c4 .find-rule .ensures) _ (c .before .len .given .1) .holds .short
 
 slice-aggregate-own-variables : tie.Need-slice-aggregate-own-variables
 slice-aggregate-own-variables c =
     let c5 = c .before .before .before .before .before in
     let c10 = c5 .before .before .before .before .before in
-    sym (length-take-le _ _ (written-at (c10 .pre .index) _ _ _ (c5 .find-rule .ensures) _ (c .before .before .len .given .1) .holds .short))
+    sym (length-take-le _ _ (written-at (c10 .pre .1) _ _ _ (c5 .find-rule .ensures) _ (c .before .before .len .given .1) .holds .short))
 
 own-variables-requires : tie.Need-own-variables-requires
 own-variables-requires c κs = search needs

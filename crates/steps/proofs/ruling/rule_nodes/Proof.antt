@@ -8,7 +8,7 @@ value-pass-requires c κs = search needs
 
 returns : tie.Need-returns
 returns c =
-    λ p xs i pl. wrong-value p xs (c .before .value-pass .result) (c .before .value-pass .ensures p xs i pl) (c .if1 .taken)
+    λ p xs h. wrong-value p xs (c .before .value-pass .result) (c .before .value-pass .ensures p xs h) (c .if1 .taken)
 
 size-pass-requires : tie.Need-size-pass-requires
 size-pass-requires c κs = search needs
@@ -16,8 +16,8 @@ size-pass-requires c κs = search needs
 returns-2 : tie.Need-returns-2
 returns-2 c =
     let c3 = c .before .before .before in
-    λ p xs i pl. too-large p xs (c3 .value-pass .result) (c3 .value-pass .ensures p xs i pl) (c .before .before .if1 .left) (c .before .size-pass .result)
-    (c .before .size-pass .ensures p xs i pl) (c .if2 .taken)
+    λ p xs h. too-large p xs (c3 .value-pass .result) (c3 .value-pass .ensures p xs h) (c .before .before .if1 .left) (c .before .size-pass .result)
+    (c .before .size-pass .ensures p xs h) (c .if2 .taken)
 
 name-pass-requires : tie.Need-name-pass-requires
 name-pass-requires c κs = search needs
@@ -27,8 +27,8 @@ returns-3 c =
     let c3 = c .before .before .before in
     let c4 = c3 .before in
     let c5 = c4 .before in
-    λ p xs i pl. made-twice p xs (c5 .value-pass .result) (c5 .value-pass .ensures p xs i pl) (c4 .if1 .left) (c3 .size-pass .result)
-    (c3 .size-pass .ensures p xs i pl) (c .before .before .if2 .left) (c .before .name-pass .result) (c .before .name-pass .ensures p xs i pl)
+    λ p xs h. made-twice p xs (c5 .value-pass .result) (c5 .value-pass .ensures p xs h) (c4 .if1 .left) (c3 .size-pass .result)
+    (c3 .size-pass .ensures p xs h) (c .before .before .if2 .left) (c .before .name-pass .result) (c .before .name-pass .ensures p xs h)
     (c .if3 .taken)
 
 returns-4 : tie.Need-returns-4
@@ -37,9 +37,9 @@ returns-4 c =
     let c4 = c3 .before in
     let c5 = c4 .before in
     let c12 = c5 .before .before .before .before .before .before .before in
-    λ p xs i pl. all-good p xs (c5 .value-pass .result) (c5 .value-pass .ensures p xs i pl) (c4 .if1 .left) (c3 .size-pass .result)
-    (c3 .size-pass .ensures p xs i pl) (c .before .before .if2 .left) (c .before .name-pass .result) (c .before .name-pass .ensures p xs i pl)
-    (c12 .args .n) (pl .count) (c .if3 .left)
+    λ p xs h. all-good p xs (c5 .value-pass .result) (c5 .value-pass .ensures p xs h) (c4 .if1 .left) (c3 .size-pass .result)
+    (c3 .size-pass .ensures p xs h) (c .before .before .if2 .left) (c .before .name-pass .result) (c .before .name-pass .ensures p xs h)
+    (c12 .args .n) (h .placed .count) (c .if3 .left)
 
 pub rule-nodes-spec : {M : Type 1} → statement M
 rule-nodes-spec =

@@ -17,17 +17,15 @@ rule-nodes-requires c κs =
     let c6 = c .before .before .before .before .before .before in
     let c13 = c6 .before .before .before .before .before .before .before in
     let c14 = c13 .before in
-    let g = c14 .pre .2 in
-    let told = c6 .read-steps .ensures .1 (g .protocol) (g .index) in
-    let few = list-few (g .protocol) (now (c14 .args .file)) (c6 .read-steps .last .1 .1 .1 .1 .1 .0) (c6 .read-steps .result) told
+    let g = c14 .pre .0 in
+    let told = c6 .read-steps .ensures .1 (g .0) (g .1) in
+    let few = list-few (g .0) (now (c14 .args .file)) (c6 .read-steps .last .1 .1 .1 .1 .1 .0) (c6 .read-steps .result) told
     (c .before .before .n .given .1) (λ i. c13 .shared-slice-known .given i .fits) in (
-      search needs,
+      list-some (g .1) (now (c14 .args .file)) (c6 .read-steps .last .1 .1 .1 .1 .1 .0) (c14 .pre .2) (c6 .read-steps .result) told
+          (c .before .before .n .given .1),
+      c14 .pre .1,
       few,
-      omega (arith, few, c6 .read-steps .ensures .0, c14 .pre .1),
-      g,
-      list-some (g .index) (now (c14 .args .file))
-          (c6 .read-steps .last .1 .1 .1 .1 .1 .0) (c6 .read-steps .result) told (c .before .before .n .given .1),
-      c14 .pre .3,
+      omega (arith, few, c6 .read-steps .ensures .0, c14 .pre .3),
     )
 
 enum-told : tie.Need-enum-told
@@ -49,11 +47,11 @@ returns c =
       c7 .read-steps .ensures .0,
       (
         λ p i. list-nodes p (now (c15 .args .file)) (c7 .read-steps .last .1 .1 .1 .1 .1 .0) (c7 .read-steps .result) (told p i) (c3 .n .given .1)
-            (c .rule-nodes .result) (λ xs pl. c .rule-nodes .ensures p xs i pl),
+            (c .rule-nodes .result) (λ xs pl. c .rule-nodes .ensures p xs (record { index = i; placed = pl; short = c15 .pre .2 })),
         λ p i.
             let t = list-read p (now (c15 .args .file)) (c7 .read-steps .last .1 .1 .1 .1 .1 .0) (c7 .read-steps .result) (told p i) (c3 .n .given .1) in
             where-good p (now (c15 .args .file)) (c7 .read-steps .last .1 .1 .1 .1 .1 .0) (λ k. c14 .shared-slice-known .given k .fits) _ _ t
-            (c .rule-nodes .result) (c .rule-nodes .ensures p (t .items) i (t .placed)),
+            (c .rule-nodes .result) (c .rule-nodes .ensures p (t .items) (record { index = i; placed = t .placed; short = c15 .pre .2 })),
       ),
     )
 

@@ -1,4 +1,4 @@
-use Rattle.steps.specs.Values.Loops.{node-from, no-node-from}
+use Rattle.steps.specs.Values.Loops.{number-read, number-unread}
 use Rattle.number.specs.Reading.{asRead}
 use mathlib.Core.Path.{ap, sym, _∙_}
 use borrow.Author.Needs.{needs}
@@ -18,22 +18,22 @@ terms-of-requires : tie.Need-terms-of-requires
 terms-of-requires c κs =
     let c3 = c .before .before .before in
     let c9 = c3 .before .before .before .before .before .before in
-    let q = c9 .pre in
-    let (e, f) = node-from (q .2 .of) _ _ _ _ (q .2 .its) (sym (c3 .read-number .ensures) ∙ ap asRead (c .before .r .given .1)) (q .2 .here) in
-    (q .1, record { of = q .2 .of; index = q .2 .index; its = q .2 .its; end = e; is = f; short = q .0 }, q .3)
+    let (p, x, h) = c9 .pre .0 in
+    let (e, f) = number-read (sym (c3 .read-number .ensures) ∙ ap asRead (c .before .r .given .1)) h in
+    ((p, x, e, f), c9 .pre .1)
 
 enum-told : tie.Need-enum-told
 enum-told c = search needs
 
 returns : tie.Need-returns
 returns c =
-    λ p x i h.
-    let (e, f) = node-from p _ _ _ _ x (sym (c .before .before .before .before .read-number .ensures) ∙ ap asRead (c .before .before .r .given .1)) h in
-    c .terms-of .ensures p x e i f
+    λ p x h.
+    let (e, f) = number-read (sym (c .before .before .before .before .read-number .ensures) ∙ ap asRead (c .before .before .r .given .1)) h in
+    c .terms-of .ensures p x e f
 
 returns-2 : tie.Need-returns-2
 returns-2 c =
-    λ p x i h. no-node-from p _ _ x (sym (c .before .before .read-number .ensures) ∙ ap asRead (c .enum-told .given .1)) h
+    λ p x h. number-unread (sym (c .before .before .read-number .ensures) ∙ ap asRead (c .enum-told .given .1)) h
 
 pub node-terms-spec : {M : Type 1} → statement M
 node-terms-spec =

@@ -10,7 +10,7 @@ slice-aggregate-find-rule c = search needs
 
 find-rule-requires : tie.Need-find-rule-requires
 find-rule-requires c κs =
-    (c .before .before .before .before .before .before .pre .0 .slots-many, search needs, search needs)
+    (c .before .before .before .before .before .before .pre .0 .3 .index .slots-many, search needs, search needs)
 
 slice-aggregate-rule-part : tie.Need-slice-aggregate-rule-part
 slice-aggregate-rule-part c = search needs
@@ -19,7 +19,7 @@ rule-part-requires : tie.Need-rule-part-requires
 rule-part-requires c κs =
     let c7 = c .before .before .before .before .before .before .before in
     let c9 = c7 .before .before in
-    part-fits (c9 .pre .0 .index) (c9 .args .number) (c .before .before .find-rule .result) (c .before .before .find-rule .last .1 .1 .1 .1 .0)
+    part-fits (c9 .pre .0 .3 .index) (c9 .args .number) (c .before .before .find-rule .result) (c .before .before .find-rule .last .1 .1 .1 .1 .0)
     (c .before .before .find-rule .ensures) (λ k. c7 .shared-slice-known2 .given k .fits)
 
 own-variables-requires : tie.Need-own-variables-requires
@@ -30,19 +30,19 @@ filled-small-requires c κs =
     let c4 = c .before .before .before .before in
     let c9 = c4 .before .before .before .before .before in
     let c11 = c9 .before .before in
-    let f = c11 .pre .1 in
-    let (u, is) = from-rule (f .of) _ _ _ (f .its) (f .end) (f .is) in (
-      part-short _ (c4 .find-rule .last .1 .1 .1 .1 .0) (c4 .find-rule .result) (part-fits (f .index) (c11 .args .number) (c4 .find-rule .result)
-          (c4 .find-rule .last .1 .1 .1 .1 .0) (c4 .find-rule .ensures) (λ k. c9 .shared-slice-known2 .given k .fits)) (c11 .pre .0 .short)
-          (c4 .find-rule .kept .1 .1 .1 .1 .0) _ (c .before .rule-part .ensures),
-      record {
-        its = u;
-        its-values = f .its .values;
-        end = f .end;
-        fills = part-filling (c11 .pre .2) (f .index) (c11 .args .number) (c4 .find-rule .result)
+    let (p, x, e, f) = c11 .pre .0 in
+    let (u, is) = from-rule (f .is) in (
+      (
+        u,
+        x .values,
+        e,
+        part-filling (c11 .pre .1) (f .index) (c11 .args .number) (c4 .find-rule .result)
             (c4 .find-rule .last .1 .1 .1 .1 .0) (c4 .find-rule .ensures) _ (c .before .rule-part .ensures) (λ k. c9 .shared-slice-known2 .given k .fits)
-            (c .own-variables .ensures .1) u is _ (f .short) _ (f .its) (f .end) (f .is);
-      },
+            (c .own-variables .ensures .1) u is f,
+      ),
+      part-short _ (c4 .find-rule .last .1 .1 .1 .1 .0) (c4 .find-rule .result) (part-fits (f .index) (c11 .args .number) (c4 .find-rule .result)
+          (c4 .find-rule .last .1 .1 .1 .1 .0) (c4 .find-rule .ensures) (λ k. c9 .shared-slice-known2 .given k .fits)) (f .index .short)
+          (c4 .find-rule .kept .1 .1 .1 .1 .0) _ (c .before .rule-part .ensures),
       c .own-variables .ensures .0,
     )
 
@@ -51,11 +51,11 @@ returns c =
     let c5 = c .before .before .before .before .before in
     let c10 = c5 .before .before .before .before .before in
     let c12 = c10 .before .before in
-    λ p x e i f.
-    let (u, is) = from-rule p _ _ _ x e f in
-    terms-test p _ _ _ x e f u is _ (c .filled-small .ensures u (x .values) e (part-filling (c12 .pre .2) i (c12 .args .number) (c5 .find-rule .result)
+    λ p x e f.
+    let (u, is) = from-rule (f .is) in
+    terms-test (f .is) u is _ (c .filled-small .ensures u (x .values) e (part-filling (c12 .pre .1) (f .index) (c12 .args .number) (c5 .find-rule .result)
     (c5 .find-rule .last .1 .1 .1 .1 .0) (c5 .find-rule .ensures) _ (c .before .before .rule-part .ensures) (λ k. c10 .shared-slice-known2 .given k .fits)
-    (c .before .own-variables .ensures .1) u is _ (c12 .pre .1 .short) _ x e f))
+    (c .before .own-variables .ensures .1) u is f))
 
 pub terms-of-spec : {M : Type 1} → statement M
 terms-of-spec =

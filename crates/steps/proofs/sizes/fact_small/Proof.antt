@@ -4,7 +4,8 @@ use native.Mathlib.Omega.{arith}
 use lib.ListN.{length, getD}
 use mathlib.Core.Path.{sym, _∙_}
 use Prim.Native.Nat.{_-_, _≤_, _<_}
-use Rattle.protocol.specs.Places.{Here}
+use Rattle.lists.specs.Asks.{Promises}
+use Rattle.protocol.specs.Places.{At}
 use Rattle.protocol.specs.Protocol.{Fact, fact}
 use Rattle.steps.specs.Values.Weights.{sizeIn}
 use Rattle.steps.specs.Values.Parts.{AllLeft, all-start, all-more, all-bad, all-done, termSmall, noTerm, symbol-inside, terms-many, term-there}
@@ -14,7 +15,7 @@ use Rattle.steps.proofs.sizes.fact_small.Reads as reads
 
 abbrev Inv-loop : tie.InvT-loop
 Inv-loop file arities ars place sizes y n j₀ j =
-    (j ≤ n) × (n ≤ 255) × ((f : Fact) → Here (fact file arities ars) f place → AllLeft (termSmall (sizeIn sizes)) noTerm (f .terms) j)
+    (j ≤ n) × (n ≤ 255) × Promises (At (fact file arities ars) place) (λ (f : Fact). AllLeft (termSmall (sizeIn sizes)) noTerm (f .terms) j)
 
 abbrev μ-loop : tie.MeasureT-loop
 μ-loop file arities ars place sizes y n j₀ j =
@@ -27,8 +28,8 @@ shared-slice-read-n : tie.Need-shared-slice-read-n Inv-loop μ-loop
 shared-slice-read-n c =
     let c5 = c .before .before .before .before .before in
     let c6 = c5 .before in
-    let q = c6 .pre .2 in
-    let b = symbol-inside _ _ _ (λ k. c5 .shared-slice-known .given k .fits) _ (q .its) (q .here) in
+    let q = c6 .pre .0 in
+    let b = symbol-inside _ _ _ (λ k. c5 .shared-slice-known .given k .fits) _ (q .0) (q .1) in
     omega (arith, b, c .before .symbol-of .ensures)
 
 cast-n : tie.Need-cast-n Inv-loop μ-loop
@@ -51,14 +52,14 @@ term-small-requires c κs =
     let c4 = c .before .before .before .before in
     let c8 = c4 .before .before .before .before in
     let c9 = c8 .before in
-    let q = c9 .pre .2 in
-    let l : c .before .before .loop .j < length (q .its .terms) = omega (
+    let q = c9 .pre .0 in
+    let l : c .before .before .loop .j < length (q .0 .terms) = omega (
       arith,
-      terms-many _ _ _ (λ k. c8 .shared-slice-known .given k .fits) _ (q .its)
-          (q .here) _ (c4 .symbol-of .ensures),
+      terms-many _ _ _ (λ k. c8 .shared-slice-known .given k .fits) _ (q .0)
+          (q .1) _ (c4 .symbol-of .ensures),
     ) in
-    let (e, x) = term-there _ _ _ (λ k. c8 .shared-slice-known .given k .fits) _ (q .its) (q .here) _ _ l (c .term-at .ensures) in
-    (search needs, c9 .pre .1, record { its = getD (q .its .terms) (c .before .before .loop .j) noTerm; end = e; reads = x })
+    let (e, x) = term-there _ _ _ (λ k. c8 .shared-slice-known .given k .fits) _ (q .0) (q .1) _ _ l (c .term-at .ensures) in
+    ((getD (q .0 .terms) (c .before .before .loop .j) noTerm, e, x), search needs, c9 .pre .2)
 
 add-j : tie.Need-add-j Inv-loop μ-loop
 add-j c = search needs

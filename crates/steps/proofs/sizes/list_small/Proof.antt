@@ -5,7 +5,8 @@ use lib.ListN.{length, getD}
 use mathlib.Core.Path.{sym, _∙_}
 use mathlib.Core.List.{List}
 use Prim.Native.Nat.{_-_, _≤_, _<_}
-use Rattle.protocol.specs.Places.{Here}
+use Rattle.lists.specs.Asks.{Promises}
+use Rattle.protocol.specs.Places.{At}
 use Rattle.protocol.specs.Protocol.{Fact, noFact, facts}
 use Rattle.steps.specs.Values.Weights.{sizeIn}
 use Rattle.steps.specs.Values.Parts.{AllLeft, all-start, all-more, all-bad, all-done, factSmall, facts-many, fact-there}
@@ -14,7 +15,7 @@ use Rattle.steps.proofs.sizes.list_small.Tie as tie
 
 abbrev Inv-loop : tie.InvT-loop
 Inv-loop file arities ars place sizes n j₀ j =
-    (j ≤ n) × ((fs : List Fact) → Here (facts file arities ars) fs place → AllLeft (factSmall (sizeIn sizes)) noFact fs j)
+    (j ≤ n) × Promises (At (facts file arities ars) place) (λ (fs : List Fact). AllLeft (factSmall (sizeIn sizes)) noFact fs j)
 
 abbrev μ-loop : tie.MeasureT-loop
 μ-loop file arities ars place sizes n j₀ j =
@@ -34,15 +35,11 @@ fact-small-requires : tie.Need-fact-small-requires Inv-loop μ-loop
 fact-small-requires c κs =
     let c3 = c .before .before .before in
     let c8 = c3 .before .before .before .before .before in
-    let q = c8 .pre .2 in
-    let l : c .before .before .loop .j < length (q .its) = omega (arith, facts-many _ _ _ _ (q .its) (q .here), c3 .count-of .ensures) in (
+    let q = c8 .pre .0 in
+    let l : c .before .before .loop .j < length (q .0) = omega (arith, facts-many _ _ _ _ (q .0) (q .1), c3 .count-of .ensures) in (
+      (getD (q .0) (c .before .before .loop .j) noFact, fact-there _ _ _ _ (q .0) (q .1) _ _ l (c .fact-at .ensures)),
       search needs,
-      c8 .pre .1,
-      record {
-        its = getD (q .its) (c .before .before .loop .j) noFact;
-        here = fact-there _ _ _ _ (q .its) (q .here) _ _ l
-            (c .fact-at .ensures);
-      },
+      c8 .pre .2,
     )
 
 add-j : tie.Need-add-j Inv-loop μ-loop

@@ -5,7 +5,8 @@ use lib.ListN.{length, getD}
 use mathlib.Core.Path.{sym, _∙_}
 use mathlib.Core.List.{[]}
 use Prim.Native.Nat.{_-_, _≤_, _<_}
-use Rattle.protocol.specs.Places.{Here}
+use Rattle.lists.specs.Asks.{Promises}
+use Rattle.protocol.specs.Places.{At}
 use Rattle.protocol.specs.Protocol.{Rule, rule}
 use Rattle.steps.specs.Values.Weights.{sizeIn}
 use Rattle.steps.specs.Values.Parts.{AllLeft, all-start, all-more, all-bad, all-done, listSmall, lists-many, list-there}
@@ -14,7 +15,7 @@ use Rattle.steps.proofs.sizes.rule_small.Tie as tie
 
 abbrev Inv-loop : tie.InvT-loop
 Inv-loop file arities ars place sizes j₀ j =
-    (j ≤ 3) × ((u : Rule) → Here (rule file arities ars) u place → AllLeft (listSmall (sizeIn sizes)) [] (u .lists) j)
+    (j ≤ 3) × Promises (At (rule file arities ars) place) (λ (u : Rule). AllLeft (listSmall (sizeIn sizes)) [] (u .lists) j)
 
 abbrev μ-loop : tie.MeasureT-loop
 μ-loop file arities ars place sizes j₀ j =
@@ -30,14 +31,13 @@ list-at-requires c κs = search needs
 list-small-requires : tie.Need-list-small-requires Inv-loop μ-loop
 list-small-requires c κs =
     let c7 = c .before .before .before .before .before .before .before in
-    let q = c7 .pre .2 in (
+    let q = c7 .pre .0 in (
+      (
+        getD (q .0 .lists) (c .before .before .loop .j) [],
+        list-there _ _ _ _ (q .0) (q .1) _ _ (c .before .loop-test .taken) (c .list-at .ensures),
+      ),
       search needs,
-      c7 .pre .1,
-      record {
-        its = getD (q .its .lists) (c .before .before .loop .j) [];
-        here = list-there _ _ _ _ (q .its) (q .here) _ _
-            (c .before .loop-test .taken) (c .list-at .ensures);
-      },
+      c7 .pre .2,
     )
 
 add-j : tie.Need-add-j Inv-loop μ-loop

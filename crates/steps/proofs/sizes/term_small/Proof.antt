@@ -7,7 +7,8 @@ use mathlib.Core.Path.{_≡_, ap, sym, _∙_, subst}
 use Prim.Native.Nat.{ℕ, _+_, _-_, _*_, _≤_, suc}
 use Rattle.steps.specs.Values.{mostFilledIn}
 use Rattle.octets.specs.Limits.{longest}
-use Rattle.number.specs.Reading.{got}
+use Rattle.lists.specs.Asks.{Promises₂}
+use Rattle.protocol.specs.Places.{ReadAs}
 use Rattle.term.specs.Reader.{term, symbolAt}
 use Rattle.term.specs.Term.{Term}
 use Rattle.steps.specs.Values.Weights.{Going, going-starts, going-ends, going-long, going-more, going-fault, weight-small, sizeIn}
@@ -17,7 +18,7 @@ use Rattle.steps.proofs.sizes.term_small.Reads as reads
 
 abbrev Inv-loop : tie.InvT-loop
 Inv-loop file arities at sizes i₀ pending₀ sum₀ i pending sum =
-    (pending ≤ 255 * i + 1) × ((t : Term) (e : ℕ) → term file arities at ≡ got t e → Going file arities (sizeIn sizes) t sum pending i)
+    (pending ≤ 255 * i + 1) × Promises₂ (ReadAs (term file arities) at) (λ (t : Term) (e : ℕ). Going file arities (sizeIn sizes) t sum pending i)
 
 abbrev μ-loop : tie.MeasureT-loop
 μ-loop file arities at sizes i₀ pending₀ sum₀ i pending sum =
@@ -43,7 +44,7 @@ add-sum c =
     let c3 = c .before .before .before in
     let c6 = c3 .before .before .before in
     let c10 = c6 .before .before .before .before in
-    let b : _ ≤ longest = weight-small (sizeIn (now (c10 .args .sizes))) (longest) (omega arith) (c10 .pre .1)
+    let b : _ ≤ longest = weight-small (sizeIn (now (c10 .args .sizes))) (longest) (omega arith) (c10 .pre .2)
     (symbolAt (now (c10 .args .file)) (now (c10 .args .arities)) (c6 .loop .i)) (sym (c3 .one-weight .ensures) ∙ c .before .a .given .1) in
     omega (arith, b)
 
@@ -60,9 +61,9 @@ add-pending c =
     let c6 = c5 .before in
     let c9 = c6 .before .before .before in
     let c10 = c9 .before in
-    let q = c10 .pre .2 in
-    let x = going-more _ _ (λ j. c9 .shared-slice-known .given j .fits) (sizeIn (now (c10 .args .sizes))) (q .its) _ _ _ _ _ _ (c5 .loop-test .taken)
-    (c6 .loop .inv .1 (q .its) (q .end) (q .reads)) (sym (c3 .one-weight .ensures) ∙ c .before .a .given .1) in
+    let q = c10 .pre .0 in
+    let x = going-more _ _ (λ j. c9 .shared-slice-known .given j .fits) (sizeIn (now (c10 .args .sizes))) (q .0) _ _ _ _ _ _ (c5 .loop-test .taken)
+    (c6 .loop .inv .1 (q .0) (q .1) (q .2)) (sym (c3 .one-weight .ensures) ∙ c .before .a .given .1) in
     omega (arith, x .ahead, x .inside, c .known-told .given .1 .0)
 
 loop-less : tie.Need-loop-less Inv-loop μ-loop
@@ -72,9 +73,9 @@ loop-less c =
     let c6 = c5 .before in
     let c9 = c6 .before .before .before in
     let c10 = c9 .before in
-    let q = c10 .pre .2 in
-    let x = going-more _ _ (λ j. c9 .shared-slice-known .given j .fits) (sizeIn (now (c10 .args .sizes))) (q .its) _ _ _ _ _ _ (c5 .loop-test .taken)
-    (c6 .loop .inv .1 (q .its) (q .end) (q .reads)) (sym (c3 .one-weight .ensures) ∙ c .before .a .given .1) in
+    let q = c10 .pre .0 in
+    let x = going-more _ _ (λ j. c9 .shared-slice-known .given j .fits) (sizeIn (now (c10 .args .sizes))) (q .0) _ _ _ _ _ _ (c5 .loop-test .taken)
+    (c6 .loop .inv .1 (q .0) (q .1) (q .2)) (sym (c3 .one-weight .ensures) ∙ c .before .a .given .1) in
     omega (arith, x .ahead, x .inside)
 
 loop-again : tie.Need-loop-again Inv-loop μ-loop
@@ -84,9 +85,9 @@ loop-again c =
     let c6 = c5 .before in
     let c9 = c6 .before .before .before in
     let c10 = c9 .before in
-    let q = c10 .pre .2 in
-    let x = going-more _ _ (λ j. c9 .shared-slice-known .given j .fits) (sizeIn (now (c10 .args .sizes))) (q .its) _ _ _ _ _ _ (c5 .loop-test .taken)
-    (c6 .loop .inv .1 (q .its) (q .end) (q .reads)) (sym (c3 .one-weight .ensures) ∙ c .before .a .given .1) in (
+    let q = c10 .pre .0 in
+    let x = going-more _ _ (λ j. c9 .shared-slice-known .given j .fits) (sizeIn (now (c10 .args .sizes))) (q .0) _ _ _ _ _ _ (c5 .loop-test .taken)
+    (c6 .loop .inv .1 (q .0) (q .1) (q .2)) (sym (c3 .one-weight .ensures) ∙ c .before .a .given .1) in (
       omega (arith, x .ahead, x .inside, c .known-told .given .1 .0),
       λ t e h. going-more _ _ (λ j. c9 .shared-slice-known .given j .fits)
           (sizeIn (now (c10 .args .sizes))) t _ _ _ _ _ _ (c5 .loop-test .taken) (c6 .loop .inv .1 t e h)

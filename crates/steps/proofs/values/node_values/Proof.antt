@@ -1,6 +1,6 @@
 use mathlib.Core.Path.{ap, sym, _∙_}
 use Rattle.number.specs.Reading.{asRead}
-use Rattle.steps.specs.Values.Loops.{node-from, no-node-from}
+use Rattle.steps.specs.Values.Loops.{number-read, number-unread}
 use borrow.Author.Needs.{needs}
 use Rattle.steps.proofs.values.node_values.Statement.{statement}
 use Rattle.steps.proofs.values.node_values.Tie as tie
@@ -18,22 +18,22 @@ values-of-requires : tie.Need-values-of-requires
 values-of-requires c κs =
     let c3 = c .before .before .before in
     let c8 = c3 .before .before .before .before .before in
-    let q = c8 .pre in
-    let (e, f) = node-from (q .2 .of) _ _ _ _ (q .2 .its) (sym (c3 .read-number .ensures) ∙ ap asRead (c .before .r .given .1)) (q .2 .here) in
-    (q .1, record { of = q .2 .of; index = q .2 .index; its = q .2 .its; end = e; is = f; short = q .0 })
+    let (p, x, h) = c8 .pre in
+    let (e, f) = number-read (sym (c3 .read-number .ensures) ∙ ap asRead (c .before .r .given .1)) h in
+    (p, x, e, f)
 
 enum-told : tie.Need-enum-told
 enum-told c = search needs
 
 returns : tie.Need-returns
 returns c =
-    λ p x i h.
-    let (e, f) = node-from p _ _ _ _ x (sym (c .before .before .before .before .read-number .ensures) ∙ ap asRead (c .before .before .r .given .1)) h in
-    c .values-of .ensures p x e i f
+    λ p x h.
+    let (e, f) = number-read (sym (c .before .before .before .before .read-number .ensures) ∙ ap asRead (c .before .before .r .given .1)) h in
+    c .values-of .ensures p x e f
 
 returns-2 : tie.Need-returns-2
 returns-2 c =
-    λ p x i h. no-node-from p _ _ x (sym (c .before .before .read-number .ensures) ∙ ap asRead (c .enum-told .given .1)) h
+    λ p x h. number-unread (sym (c .before .before .read-number .ensures) ∙ ap asRead (c .enum-told .given .1)) h
 
 pub node-values-spec : {M : Type 1} → statement M
 node-values-spec =

@@ -45,9 +45,9 @@ is-canonical-requires c κs =
     let c10 = c8 .before .before in
     let c11 = c10 .before in
     let p = c11 .pre in
-    let w = walk-is _ _ _ (p .value) (p .end) (p .is) (c11 .args .sort) (c8 .walk-term .ensures) (c6 .n .given .1) in (
-      p .value,
-      message _ _ _ (p .value) (p .end) (p .is) (c11 .args .sort) (λ i. c10 .shared-slice-known .given i .fits) (w .1 ∙ c4 .if1 .left)
+    let w = walk-is _ _ _ (p .0) (p .1) (p .2) (c11 .args .sort) (c8 .walk-term .ensures) (c6 .n .given .1) in (
+      p .0,
+      message _ _ _ (p .0) (p .1) (p .2) (c11 .args .sort) (λ i. c10 .shared-slice-known .given i .fits) (w .1 ∙ c4 .if1 .left)
           (omega (arith, w .0, c3 .if2 .left)),
     )
 

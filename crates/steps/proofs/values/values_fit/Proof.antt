@@ -27,7 +27,7 @@ loop-holds c =
 cast-sort-of : tie.Need-cast-sort-of Inv-loop μ-loop
 cast-sort-of c =
     let p = c .before .before .before .before .before .pre in
-    let b : c .before .loop .v < mostVariables = omega (arith, count-here (p .0 .is), p .0 .is .few, p .1) in
+    let b : c .before .loop .v < mostVariables = omega (arith, count-here (p .0 .3), p .0 .3 .few, p .1) in
     search needs
 
 sort-of-requires : tie.Need-sort-of-requires Inv-loop μ-loop
@@ -36,13 +36,13 @@ sort-of-requires c κs = search needs
 value-ok-requires : tie.Need-value-ok-requires Inv-loop μ-loop
 value-ok-requires c κs =
     let p = c .before .before .before .before .before .before .pre in
-    let l : c .before .before .loop .v < length (p .0 .its .sorts) = omega (arith, count-here (p .0 .is), p .1) in
-    let x = turn (p .0 .is) _ _ l (c .before .before .loop .inv .1 _ _ _ (p .0 .is)) in
-    record { value = x .value; end = x .next; is = x .is }
+    let l : c .before .before .loop .v < length (p .0 .0 .sorts) = omega (arith, count-here (p .0 .3), p .1) in
+    let x = turn (p .0 .3) _ _ l (c .before .before .loop .inv .1 _ _ _ (p .0 .3)) in
+    (x .value, x .next, x .is)
 
 value-end-requires : tie.Need-value-end-requires Inv-loop μ-loop
 value-end-requires c κs =
-    c .before .before .before .before .before .before .before .before .pre .0 .is .short
+    c .before .before .before .before .before .before .before .before .pre .0 .3 .short
 
 add-v : tie.Need-add-v Inv-loop μ-loop
 add-v c = search needs
