@@ -16,7 +16,7 @@ use Rattle.steps.specs.Index.{IndexOf}
 use Rattle.steps.specs.Facts.{filledFact, factsOf}
 use Rattle.steps.specs.Values.{NodeRight}
 use Rattle.steps.specs.Values.Parts.{noTerm}
-use Rattle.steps.specs.Values.Loops.{NodeFrom}
+use Rattle.steps.specs.Values.Loops.{FromAt}
 use Rattle.steps.specs.Values.Filled.{FillsRule}
 use Rattle.facts.specs.declared.writing.Wanted.{Wanted}
 use Rattle.facts.specs.declared.writing.Wanted.the-variants as want
@@ -58,55 +58,40 @@ pub record FactOf (p : Protocol) (file : List ℕ) (a : FactId) (q : Wanted) (x 
   pub listed : a .number < length (factsOf p (a .list) x)
   pub has : Has q (factAt p (a .list) (a .number) x)
 
-pub record SomeFact (protocol table rules : List ℕ) (nr : ℕ) (file : List ℕ) (a : FactId) (q : Wanted) : Type 0 where
-  pub of : Protocol
-  pub index : IndexOf protocol table rules nr of
-  pub its : Node
-  pub is : FactOf of file a q its
+-- under the tables of its protocol
+pub record FactAt (protocol arities rules : List ℕ) (nr : ℕ) (file : List ℕ) (a : FactId) (q : Wanted) (p : Protocol) (x : Node) : Type 0 where
+  pub index : IndexOf protocol arities rules nr p
+  pub is : FactOf p file a q x
+  pub short : length file ≤ longest
 
 -- the whole fact; one argument of it
-abbrev pub WholeFact : Protocol → List ℕ → FactId → Node → Type 0
-WholeFact p file a x = FactOf p file a want.All x
+abbrev pub WholeFact : List ℕ → List ℕ → List ℕ → ℕ → List ℕ → FactId → Protocol → Node → Type 0
+WholeFact protocol arities rules nr file a = FactAt protocol arities rules nr file a want.All
 
-abbrev pub OneOf : Protocol → List ℕ → FactId → ℕ → Node → Type 0
-OneOf p file a j x = FactOf p file a (want.One j) x
+abbrev pub OneOf : List ℕ → List ℕ → List ℕ → ℕ → List ℕ → FactId → ℕ → Protocol → Node → Type 0
+OneOf protocol arities rules nr file a j = FactAt protocol arities rules nr file a (want.One j)
 
-abbrev pub HasFact : List ℕ → List ℕ → List ℕ → ℕ → List ℕ → FactId → Type 0
-HasFact protocol table rules nr file a = SomeFact protocol table rules nr file a want.All
-
-abbrev pub HasOne : List ℕ → List ℕ → List ℕ → ℕ → List ℕ → FactId → ℕ → Type 0
-HasOne protocol table rules nr file a j = SomeFact protocol table rules nr file a (want.One j)
+-- facts of two nodes
+pub record FactsAt (protocol arities rules : List ℕ) (nr : ℕ) (file : List ℕ) (a : FactId) (q : Wanted) (b : FactId) (r : Wanted) (p : Protocol) (x y : Node) : Type 0 where
+  pub first : FactAt protocol arities rules nr file a q p x
+  pub second : FactAt protocol arities rules nr file b r p y
 
 -- likewise where its rule number was read, and its values stand from `at` on
-pub record FactFrom (p : Protocol) (file : List ℕ) (number at list i : ℕ) (q : Wanted) (x : Node) (e : ℕ) : Type 0 where
-  pub from : NodeFrom p file number at x e
+pub record FactFrom (protocol arities rules : List ℕ) (nr : ℕ) (file : List ℕ) (number at list i : ℕ) (q : Wanted) (p : Protocol) (x : Node) (e : ℕ) : Type 0 where
+  pub from : FromAt protocol arities rules nr file number at p x e
   pub within : NodeWithin p x
   pub right : NodeRight p x
   pub listed : i < length (factsOf p list x)
   pub has : Has q (factAt p list i x)
-  pub short : length file ≤ longest
-
-pub record SomeFrom (protocol table rules : List ℕ) (nr : ℕ) (file : List ℕ) (number at list i : ℕ) (q : Wanted) : Type 0 where
-  pub of : Protocol
-  pub index : IndexOf protocol table rules nr of
-  pub its : Node
-  pub end : ℕ
-  pub is : FactFrom of file number at list i q its end
 
 -- likewise where its rule stands at a place of src: who has the fact's place and those of the values can write it
-pub record RuleFact (table ars file src : List ℕ) (place at n o list i : ℕ) (q : Wanted) (u : Rule) (vs : List Term) (e : ℕ) : Type 0 where
-  pub fills : FillsRule table ars file src place at u vs e
+pub record RuleFact (arities ars file src : List ℕ) (place at n o list i : ℕ) (q : Wanted) (u : Rule) (vs : List Term) (e : ℕ) : Type 0 where
+  pub fills : FillsRule arities ars file src place at u vs e
   pub short : length src ≤ longest
   pub inside : i < length (listOf list u)
   pub has : Has q (getD (listOf list u) i noFact)
-  pub job : (starts : List ℕ) (f : ℕ) → Placed (term file table) noTerm starts vs (length (u .sorts)) → length (u .sorts) ≤ length starts
-      → Here (fact src table ars) (getD (listOf list u) i noFact) f → FactJob table ars file starts src f n o vs (getD (listOf list u) i noFact)
-
-pub record SomeRule (table ars file src : List ℕ) (place at n o list i : ℕ) (q : Wanted) : Type 0 where
-  pub its : Rule
-  pub its-values : List Term
-  pub end : ℕ
-  pub is : RuleFact table ars file src place at n o list i q its its-values end
+  pub job : (starts : List ℕ) (f : ℕ) → Placed (term file arities) noTerm starts vs (length (u .sorts)) → length (u .sorts) ≤ length starts
+      → Here (fact src arities ars) (getD (listOf list u) i noFact) f → FactJob arities ars file starts src f n o vs (getD (listOf list u) i noFact)
 
 -- ── what is promised: the fact's symbol, and the canonical bytes of the arguments that are wanted ──
 pub record FactWritten (q : Wanted) (out : List ℕ) (o : ℕ) (out′ : List ℕ) (r : WrittenFact) (f : Fact) : Type 0 where

@@ -11,10 +11,11 @@ use Rattle.protocol.specs.Protocol.{Fact, Rule, Protocol, listOf, noFact, fact,
 use Rattle.protocol.specs.Places.{Here, listPlace, factPlace, valueOf}
 use Rattle.protocol.specs.Places.Laws.{symbol-law}
 use Rattle.rules.specs.Numbered.{ruleOf}
-use Rattle.steps.specs.Nodes.{Node, node}
+use Rattle.steps.specs.Nodes.{Node}
 use Rattle.lists.specs.All.Laws.{map-at}
 use Rattle.steps.specs.Facts.{filledFact, filledPart, factsOf}
-use Rattle.steps.specs.Values.Loops.{node-from, from-rule}
+use Rattle.steps.specs.Index.{IndexOf}
+use Rattle.steps.specs.Values.Loops.{NodeAt, number-read, from-rule}
 use Rattle.steps.specs.Values.Parts.{list-there, facts-many, fact-there, lists-many}
 
 -- ── a rule at a place ──
@@ -23,18 +24,18 @@ part-inside u w i l =
     by-size w (length (u .lists)) (λ h. h)
     (λ h. absurd (omega (arith, ap length (List·getD-eq-default (u .lists) [] h))))
 
-module _ (src table ars : List ℕ) (place : ℕ) (u : Rule) (h : Here (rule src table ars) u place) where
-  pub rule-counted : (w list r : ℕ) → w < 3 → list ≡ listPlace src table ars place w → r ≡ valueOf (below src 9 list) → r ≡ length (listOf w u)
-  rule-counted w list r l hl hr = hr ∙ facts-many src table ars list (listOf w u) (list-there src table ars place u h w list l hl)
+module _ (src arities ars : List ℕ) (place : ℕ) (u : Rule) (h : Here (rule src arities ars) u place) where
+  pub rule-counted : (w list r : ℕ) → w < 3 → list ≡ listPlace src arities ars place w → r ≡ valueOf (below src 9 list) → r ≡ length (listOf w u)
+  rule-counted w list r l hl hr = hr ∙ facts-many src arities ars list (listOf w u) (list-there src arities ars place u h w list l hl)
 
-  module _ (w i list f : ℕ) (l : i < length (listOf w u)) (hl : list ≡ listPlace src table ars place w) (hf : f ≡ factPlace src table ars list i) where
-    pub part-fact : Here (fact src table ars) (getD (listOf w u) i noFact) f
+  module _ (w i list f : ℕ) (l : i < length (listOf w u)) (hl : list ≡ listPlace src arities ars place w) (hf : f ≡ factPlace src arities ars list i) where
+    pub part-fact : Here (fact src arities ars) (getD (listOf w u) i noFact) f
     part-fact =
-        let m : w < 3 = omega (arith, part-inside u w i l, lists-many src table ars place u h) in
-        fact-there src table ars list (listOf w u) (list-there src table ars place u h w list m hl) i f l hf
+        let m : w < 3 = omega (arith, part-inside u w i l, lists-many src arities ars place u h) in
+        fact-there src arities ars list (listOf w u) (list-there src arities ars place u h w list m hl) i f l hf
 
     pub rule-symbol : (y : ℕ) → y ≡ valueOf (below src (length ars) f) → y ≡ getD (listOf w u) i noFact .symbol
-    rule-symbol y hy = hy ∙ symbol-law src table ars f (getD (listOf w u) i noFact) part-fact
+    rule-symbol y hy = hy ∙ symbol-law src arities ars f (getD (listOf w u) i noFact) part-fact
 
 -- ── a node's facts are its rule's, filled in ──
 module _ (p : Protocol) (x : Node) (u : Rule) (known : ruleOf p (x .rule) ≡ some u) (w : ℕ) where
@@ -49,10 +50,16 @@ module _ (p : Protocol) (x : Node) (u : Rule) (known : ruleOf p (x .rule) ≡ so
       ap (λ (fs : List Fact). getD fs i noFact) facts-are
       ∙ map-at (filledFact (x .values)) (listOf w u) i noFact noFact (omega (arith, facts-counted))
 
--- a node at a place, its rule number read
-module _ (p : Protocol) (file : List ℕ) (place number at : ℕ) (x : Node) (h : readNumber file place ≡ got number at) (k : Here (node p file) x place) where
-  pub node-rule : (u : Rule) × (ruleOf p number ≡ some u) × (ruleOf p (x .rule) ≡ some u)
-  node-rule =
-      let (e, f) = node-from p file place number at x h k in
-      let (u, is) = from-rule p file number at x e f in
-      (u, is, ap (ruleOf p) (f .is-number) ∙ is)
+-- ── the rule of a number, under the tables of its protocol ──
+pub record NumberedRule (protocol arities rules : List ℕ) (nr number : ℕ) (p : Protocol) (u : Rule) : Type 0 where
+  pub index : IndexOf protocol arities rules nr p
+  pub is : ruleOf p number ≡ some u
+
+-- of a node at a place, its rule number read
+pub node-rule :
+    {protocol arities rules : List ℕ} {nr : ℕ} {file : List ℕ} {place number at : ℕ} {p : Protocol} {x : Node} → readNumber file place ≡ got number at
+    → NodeAt protocol arities rules nr file place p x → (u : Rule) × NumberedRule protocol arities rules nr number p u × (ruleOf p (x .rule) ≡ some u)
+node-rule {p = p} h n =
+    let (e, f) = number-read h n in
+    let (u, is) = from-rule (f .is) in
+    (u, record { index = f .index; is = is }, ap (ruleOf p) (f .is .is-number) ∙ is)

@@ -2,16 +2,15 @@
 ghost use mathlib.Core.Path.{_≡_};
 ghost use Prim.Native.Nat.{_≤_, _-_};
 ghost use lib.ListN.{length, take, drop};
-ghost use Rattle.octets.specs.Limits.{longest};
+ghost use Rattle.lists.specs.Asks.{Asks₂, Promises₂, Asks₃, Promises₃};
 ghost use Rattle.octets.specs.Compare.{compareBytes, isEqual};
 ghost use Rattle.term.specs.Term.{encode, leaf, public};
 ghost use Rattle.protocol.specs.Protocol.{Protocol};
 ghost use Rattle.steps.specs.Nodes.{Node};
 ghost use Rattle.steps.specs.Facts.{sameFact, sameTerm};
-ghost use Rattle.steps.specs.Index.{IndexOf, Given};
 ghost use Rattle.steps.specs.Values.Filled.{ArityTable};
 ghost use Rattle.facts.specs.Writing.{factRoom, Put};
-ghost use Rattle.facts.specs.Calls.{Room, FactOf, SomeFact, WholeFact, HasFact, OneOf, HasOne, factAt, argumentAt, Compared};
+ghost use Rattle.facts.specs.Calls.{Room, FactsAt, OneOf, factAt, argumentAt, Compared};
 use crate::nodes;
 use crate::nodes::FactId;
 use crate::writing::Wanted;
@@ -48,8 +47,8 @@ fn compare(
     y: FactId,
     wy: Wanted,
 ) -> Both
-    requires { ⌜ Room (now out) factRoom × (length (now file) ≤ longest) × Given (now protocol) (now arities) (now rules) nr × ArityTable (now protocol) (now arities) (now rules) nr (now ars) × SomeFact (now protocol) (now arities) (now rules) nr (now file) x wx × SomeFact (now protocol) (now arities) (now rules) nr (now file) y wy ⌝ }
-    ensures { λ r. ⌜ ((p : Protocol) (m n : Node) → IndexOf (now (protocol .entry)) (now (arities .entry)) (now (rules .entry)) nr p → FactOf p (now (file .entry)) x wx m → FactOf p (now (file .entry)) y wy n → Compared wx (factAt p (x .list) (x .number) m) wy (factAt p (y .list) (y .number) n) r) ⌝ }
+    requires { ⌜ Asks₃ (FactsAt (now protocol) (now arities) (now rules) nr (now file) x wx y wy) × ArityTable (now protocol) (now arities) (now rules) nr (now ars) × Room (now out) factRoom ⌝ }
+    ensures { λ r. ⌜ Promises₃ (FactsAt (now (protocol .entry)) (now (arities .entry)) (now (rules .entry)) nr (now (file .entry)) x wx y wy) (λ (p : Protocol) (m n : Node). Compared wx (factAt p (x .list) (x .number) m) wy (factAt p (y .list) (y .number) n) r) ⌝ }
 {
     let a = nodes::node_fact(out, 0, file, protocol, arities, ars, rules, nr, x, wx);
     let b = nodes::node_fact(out, a.end, file, protocol, arities, ars, rules, nr, y, wy);
@@ -72,8 +71,8 @@ pub fn same_fact(
     x: FactId,
     y: FactId,
 ) -> bool
-    requires { ⌜ Room (now out) factRoom × (length (now file) ≤ longest) × Given (now protocol) (now arities) (now rules) nr × ArityTable (now protocol) (now arities) (now rules) nr (now ars) × HasFact (now protocol) (now arities) (now rules) nr (now file) x × HasFact (now protocol) (now arities) (now rules) nr (now file) y ⌝ }
-    ensures { λ r. ⌜ ((p : Protocol) (m n : Node) → IndexOf (now (protocol .entry)) (now (arities .entry)) (now (rules .entry)) nr p → WholeFact p (now (file .entry)) x m → WholeFact p (now (file .entry)) y n → r ≡ sameFact (factAt p (x .list) (x .number) m) (factAt p (y .list) (y .number) n)) ⌝ }
+    requires { ⌜ Asks₃ (FactsAt (now protocol) (now arities) (now rules) nr (now file) x Wanted.All y Wanted.All) × ArityTable (now protocol) (now arities) (now rules) nr (now ars) × Room (now out) factRoom ⌝ }
+    ensures { λ r. ⌜ Promises₃ (FactsAt (now (protocol .entry)) (now (arities .entry)) (now (rules .entry)) nr (now (file .entry)) x Wanted.All y Wanted.All) (λ (p : Protocol) (m n : Node). r ≡ sameFact (factAt p (x .list) (x .number) m) (factAt p (y .list) (y .number) n)) ⌝ }
 {
     let b = compare(
         out,
@@ -105,8 +104,8 @@ pub fn same_argument(
     y: FactId,
     j: usize,
 ) -> bool
-    requires { ⌜ Room (now out) factRoom × (length (now file) ≤ longest) × Given (now protocol) (now arities) (now rules) nr × ArityTable (now protocol) (now arities) (now rules) nr (now ars) × HasOne (now protocol) (now arities) (now rules) nr (now file) x i × HasOne (now protocol) (now arities) (now rules) nr (now file) y j ⌝ }
-    ensures { λ r. ⌜ ((p : Protocol) (m n : Node) → IndexOf (now (protocol .entry)) (now (arities .entry)) (now (rules .entry)) nr p → OneOf p (now (file .entry)) x i m → OneOf p (now (file .entry)) y j n → r ≡ sameTerm (argumentAt p (x .list) (x .number) i m) (argumentAt p (y .list) (y .number) j n)) ⌝ }
+    requires { ⌜ Asks₃ (FactsAt (now protocol) (now arities) (now rules) nr (now file) x (Wanted.One i) y (Wanted.One j)) × ArityTable (now protocol) (now arities) (now rules) nr (now ars) × Room (now out) factRoom ⌝ }
+    ensures { λ r. ⌜ Promises₃ (FactsAt (now (protocol .entry)) (now (arities .entry)) (now (rules .entry)) nr (now (file .entry)) x (Wanted.One i) y (Wanted.One j)) (λ (p : Protocol) (m n : Node). r ≡ sameTerm (argumentAt p (x .list) (x .number) i m) (argumentAt p (y .list) (y .number) j n)) ⌝ }
 {
     let b = compare(
         out,
@@ -146,8 +145,8 @@ pub fn is_public(
     i: usize,
     name: Public,
 ) -> bool
-    requires { ⌜ Room (now out) factRoom × (length (now file) ≤ longest) × Given (now protocol) (now arities) (now rules) nr × ArityTable (now protocol) (now arities) (now rules) nr (now ars) × HasOne (now protocol) (now arities) (now rules) nr (now file) x i ⌝ }
-    ensures { λ r. ⌜ ((p : Protocol) (m : Node) → IndexOf (now (protocol .entry)) (now (arities .entry)) (now (rules .entry)) nr p → OneOf p (now (file .entry)) x i m → r ≡ sameTerm (argumentAt p (x .list) (x .number) i m) (leaf public (name .0))) ⌝ }
+    requires { ⌜ Asks₂ (OneOf (now protocol) (now arities) (now rules) nr (now file) x i) × ArityTable (now protocol) (now arities) (now rules) nr (now ars) × Room (now out) factRoom ⌝ }
+    ensures { λ r. ⌜ Promises₂ (OneOf (now (protocol .entry)) (now (arities .entry)) (now (rules .entry)) nr (now (file .entry)) x i) (λ (p : Protocol) (m : Node). r ≡ sameTerm (argumentAt p (x .list) (x .number) i m) (leaf public (name .0))) ⌝ }
 {
     let a = nodes::node_fact(
         out,

@@ -1,13 +1,11 @@
 // A mark for each fact: facts whose marks differ are not the same.
 ghost use mathlib.Core.Path.{_≡_};
-ghost use Prim.Native.Nat.{_≤_, _<_};
-ghost use lib.ListN.{length};
-ghost use Rattle.octets.specs.Limits.{longest};
+ghost use Prim.Native.Nat.{_<_};
+ghost use Rattle.lists.specs.Asks.{Asks₂, Promises₂};
 ghost use Rattle.protocol.specs.Protocol.{Protocol};
 ghost use Rattle.steps.specs.Nodes.{Node};
-ghost use Rattle.steps.specs.Index.{IndexOf, Given};
 ghost use Rattle.steps.specs.Values.Filled.{ArityTable};
-ghost use Rattle.facts.specs.Calls.{Room, HasFact, WholeFact, factAt};
+ghost use Rattle.facts.specs.Calls.{Room, WholeFact, factAt};
 ghost use Rattle.facts.specs.Marks.{markLimit, markFrom, markOf};
 use crate::nodes;
 use crate::nodes::FactId;
@@ -43,8 +41,8 @@ pub fn fact_mark(
     nr: usize,
     x: FactId,
 ) -> u32
-    requires { ⌜ Room (now out) 0 × (length (now file) ≤ longest) × Given (now protocol) (now arities) (now rules) nr × ArityTable (now protocol) (now arities) (now rules) nr (now ars) × HasFact (now protocol) (now arities) (now rules) nr (now file) x ⌝ }
-    ensures { λ r. ⌜ ((p : Protocol) (m : Node) → IndexOf (now (protocol .entry)) (now (arities .entry)) (now (rules .entry)) nr p → WholeFact p (now (file .entry)) x m → r ≡ markOf (factAt p (x .list) (x .number) m)) ⌝ }
+    requires { ⌜ Asks₂ (WholeFact (now protocol) (now arities) (now rules) nr (now file) x) × ArityTable (now protocol) (now arities) (now rules) nr (now ars) × Room (now out) 0 ⌝ }
+    ensures { λ r. ⌜ Promises₂ (WholeFact (now (protocol .entry)) (now (arities .entry)) (now (rules .entry)) nr (now (file .entry)) x) (λ (p : Protocol) (m : Node). r ≡ markOf (factAt p (x .list) (x .number) m)) ⌝ }
 {
     let a = nodes::node_fact(
         out,

@@ -1,17 +1,16 @@
 // The canonical bytes of a node's fact, or of one argument of it.
 ghost use mathlib.Core.Path.{_≡_};
 ghost use mathlib.Core.List.{List};
-ghost use Prim.Native.Nat.{ℕ, _≤_};
+ghost use Prim.Native.Nat.{ℕ};
 ghost use lib.ListN.{length};
-ghost use Rattle.octets.specs.Limits.{longest};
+ghost use Rattle.lists.specs.Asks.{Asks₂, Promises₂, Asks₃, Promises₃};
 ghost use Rattle.term.specs.Term.{Term};
 ghost use Rattle.protocol.specs.Protocol.{Rule, Protocol};
 ghost use Rattle.protocol.specs.Protocol.Walks.{sortsAt};
 ghost use Rattle.protocol.specs.Places.{valueOf};
 ghost use Rattle.steps.specs.Nodes.{Node};
-ghost use Rattle.steps.specs.Index.{IndexOf, Given};
 ghost use Rattle.steps.specs.Values.Filled.{ArityTable};
-ghost use Rattle.facts.specs.Calls.{Room, FactOf, SomeFact, FactFrom, SomeFrom, RuleFact, SomeRule, FactWritten, ruleFact, factAt};
+ghost use Rattle.facts.specs.Calls.{Room, FactAt, FactFrom, RuleFact, FactWritten, ruleFact, factAt};
 use crate::writing;
 use crate::writing::Wanted;
 use number::Number;
@@ -45,8 +44,8 @@ fn rule_fact(
     arities: &[u8],
     ars: &[u8],
 ) -> WrittenFact
-    requires { ⌜ (k ≡ valueOf (sortsAt (now src) place)) × SomeRule (now arities) (now ars) (now file) (now src) place at (length (now out)) o list i wanted ⌝ }
-    ensures { λ r. ⌜ ((u : Rule) (vs : List Term) (e : ℕ) → RuleFact (now (arities .entry)) (now (ars .entry)) (now (file .entry)) (now (src .entry)) place at (length (now (out .entry))) o list i wanted u vs e → FactWritten wanted (now (out .entry)) o (now (out .exit)) r (ruleFact vs list i u)) ⌝ }
+    requires { ⌜ Asks₃ (RuleFact (now arities) (now ars) (now file) (now src) place at (length (now out)) o list i wanted) × (k ≡ valueOf (sortsAt (now src) place)) ⌝ }
+    ensures { λ r. ⌜ Promises₃ (RuleFact (now (arities .entry)) (now (ars .entry)) (now (file .entry)) (now (src .entry)) place at (length (now (out .entry))) o list i wanted) (λ (u : Rule) (vs : List Term) (e : ℕ). FactWritten wanted (now (out .entry)) o (now (out .exit)) r (ruleFact vs list i u)) ⌝ }
 {
     let mut starts = [0usize; protocol::figures::MOST_VARIABLES];
     writing::value_places(file, arities, at, k, &mut starts);
@@ -76,8 +75,8 @@ fn fact_from(
     i: usize,
     wanted: Wanted,
 ) -> WrittenFact
-    requires { ⌜ Room (now out) o × Given (now protocol) (now arities) (now rules) nr × ArityTable (now protocol) (now arities) (now rules) nr (now ars) × SomeFrom (now protocol) (now arities) (now rules) nr (now file) number at list i wanted ⌝ }
-    ensures { λ r. ⌜ ((p : Protocol) (x : Node) (e : ℕ) → IndexOf (now (protocol .entry)) (now (arities .entry)) (now (rules .entry)) nr p → FactFrom p (now (file .entry)) number at list i wanted x e → FactWritten wanted (now (out .entry)) o (now (out .exit)) r (factAt p list i x)) ⌝ }
+    requires { ⌜ Asks₃ (FactFrom (now protocol) (now arities) (now rules) nr (now file) number at list i wanted) × ArityTable (now protocol) (now arities) (now rules) nr (now ars) × Room (now out) o ⌝ }
+    ensures { λ r. ⌜ Promises₃ (FactFrom (now (protocol .entry)) (now (arities .entry)) (now (rules .entry)) nr (now (file .entry)) number at list i wanted) (λ (p : Protocol) (x : Node) (e : ℕ). FactWritten wanted (now (out .entry)) o (now (out .exit)) r (factAt p list i x)) ⌝ }
 {
     let mut own = [0u8; rules::numbered::RULE_ROOM];
     let found = rules::numbered::find_rule(arities, rules, nr, number, &mut own);
@@ -99,8 +98,8 @@ pub fn node_fact(
     place: FactId,
     wanted: Wanted,
 ) -> WrittenFact
-    requires { ⌜ Room (now out) o × (length (now file) ≤ longest) × Given (now protocol) (now arities) (now rules) nr × ArityTable (now protocol) (now arities) (now rules) nr (now ars) × SomeFact (now protocol) (now arities) (now rules) nr (now file) place wanted ⌝ }
-    ensures { λ r. ⌜ ((p : Protocol) (x : Node) → IndexOf (now (protocol .entry)) (now (arities .entry)) (now (rules .entry)) nr p → FactOf p (now (file .entry)) place wanted x → FactWritten wanted (now (out .entry)) o (now (out .exit)) r (factAt p (place .list) (place .number) x)) ⌝ }
+    requires { ⌜ Asks₂ (FactAt (now protocol) (now arities) (now rules) nr (now file) place wanted) × ArityTable (now protocol) (now arities) (now rules) nr (now ars) × Room (now out) o ⌝ }
+    ensures { λ r. ⌜ Promises₂ (FactAt (now (protocol .entry)) (now (arities .entry)) (now (rules .entry)) nr (now (file .entry)) place wanted) (λ (p : Protocol) (x : Node). FactWritten wanted (now (out .entry)) o (now (out .exit)) r (factAt p (place .list) (place .number) x)) ⌝ }
 {
     match number::read_number(file, place.node) {
         Number::Value(r, e) => fact_from(

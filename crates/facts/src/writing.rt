@@ -7,9 +7,10 @@ ghost use Rattle.steps.specs.Facts.{filledFact};
 ghost use Rattle.protocol.specs.Protocol.{Fact};
 ghost use Rattle.lists.specs.Asks.{Asks₂, Promises₂};
 ghost use Rattle.octets.specs.Limits.{longest};
-ghost use Rattle.number.specs.Reading.{got, many};
+ghost use Rattle.number.specs.Reading.{many};
 ghost use Rattle.term.specs.Term.{Term};
 ghost use Rattle.term.specs.Reader.{term};
+ghost use Rattle.protocol.specs.Places.{ReadAs};
 ghost use Rattle.protocol.specs.Index.{Placed};
 ghost use Rattle.steps.specs.Values.Parts.{noTerm};
 ghost use Rattle.facts.specs.Writing.{Put, WantedJob, wantedBytes};
@@ -28,7 +29,7 @@ pub enum Wanted {
 pub fn value_places(file: &[u8], arities: &[u8], at: usize, k: usize, starts: &mut [usize])
     requires { ⌜ (length (now file) ≤ longest) × (k ≤ length (now starts)) ⌝ }
     ensures kept { λ r. ⌜ length (now (starts .exit)) ≡ length (now (starts .entry)) ⌝ }
-    ensures told { λ r. ⌜ ((vs : List Term) (e : ℕ) → many (term (now (file .entry)) (now (arities .entry))) k at ≡ got vs e → Placed (term (now (file .entry)) (now (arities .entry))) noTerm (now (starts .exit)) vs k) ⌝ }
+    ensures told { λ r. ⌜ Promises₂ (ReadAs (many (term (now (file .entry)) (now (arities .entry))) k) at) (λ (vs : List Term) (e : ℕ). Placed (term (now (file .entry)) (now (arities .entry))) noTerm (now (starts .exit)) vs k) ⌝ }
 {
     let mut i = at;
     let mut v: usize = 0;

@@ -20,9 +20,10 @@ use Rattle.steps.specs.Facts.Formed.{FactFormed, facts-formed, formed-decides, 
 use Rattle.steps.specs.Facts.Laws.{term-decides}
 use Rattle.steps.specs.Values.Parts.{noTerm}
 use Rattle.facts.specs.declared.writing.Wanted.{Wanted}
+use Rattle.facts.specs.declared.writing.Wanted.the-variants as want
 use Rattle.facts.specs.declared.nodes.FactId.{FactId}
 use Rattle.facts.specs.Writing.Nodes.{node-ground}
-use Rattle.facts.specs.Calls.{factAt, argumentAt, FactOf, WholeFact, OneOf}
+use Rattle.facts.specs.Calls.{factAt, argumentAt, FactOf}
 use Rattle.facts.specs.Calls.Laws.{fact-within}
 
 module _ (p : Protocol) (file : List ℕ) (fit : Within p) (bytes : Bytes file) where
@@ -39,7 +40,7 @@ module _ (p : Protocol) (file : List ℕ) (fit : Within p) (bytes : Bytes file) 
         (facts-ground p fit x within (node-ground p fit x within (f .right)) (a .list)) (a .number) (f .listed)
 
   -- an argument is a message
-  abbrev pub argument : (a : FactId) (j : ℕ) (x : Node) → OneOf p file a j x → Message (arity (tagArities (p .functions)))
+  abbrev pub argument : (a : FactId) (j : ℕ) (x : Node) → FactOf p file a (want.One j) x → Message (arity (tagArities (p .functions)))
   argument a j x f = record {
     term = argumentAt p (a .list) (a .number) j x;
     formed =
@@ -49,21 +50,21 @@ module _ (p : Protocol) (file : List ℕ) (fit : Within p) (bytes : Bytes file) 
 
   -- ── "equal facts count as the same fact" ──
   pub same-fact-means :
-      (a b : FactId) (x y : Node) → WholeFact p file a x → WholeFact p file b y
+      (a b : FactId) (x y : Node) → FactOf p file a want.All x → FactOf p file b want.All y
       → (sameFact (factAt p (a .list) (a .number) x) (factAt p (b .list) (b .number) y) ≡ true)
       ↔ SameFact (arity (tagArities (p .functions))) (factAt p (a .list) (a .number) x) (factAt p (b .list) (b .number) y)
   same-fact-means a b x y f g = formed-decides p fit _ _ (fact-of-formed a _ x f) (fact-of-formed b _ y g)
 
   -- ── "Two messages count as equal exactly when the paper's ten equations make them equal" ──
   pub same-argument-means :
-      (a : FactId) (i : ℕ) (x : Node) (f : OneOf p file a i x) (b : FactId) (j : ℕ) (y : Node) (g : OneOf p file b j y)
+      (a : FactId) (i : ℕ) (x : Node) (f : FactOf p file a (want.One i) x) (b : FactId) (j : ℕ) (y : Node) (g : FactOf p file b (want.One j) y)
       → (sameTerm (argumentAt p (a .list) (a .number) i x) (argumentAt p (b .list) (b .number) j y) ≡ true)
       ↔ SameMessage (arity (tagArities (p .functions))) (argument a i x f) (argument b j y g)
   same-argument-means a i x f b j y g =
       term-decides (arity (tagArities (p .functions))) (declared (p .functions)) _ _ (argument a i x f .formed) (argument b j y g .formed)
 
   pub is-public-means :
-      (a : FactId) (i : ℕ) (x : Node) (f : OneOf p file a i x) (n : ℕ)
+      (a : FactId) (i : ℕ) (x : Node) (f : FactOf p file a (want.One i) x) (n : ℕ)
       → (sameTerm (argumentAt p (a .list) (a .number) i x) (leaf public n) ≡ true)
       ↔ SameMessage (arity (tagArities (p .functions))) (argument a i x f) (publicName (arity (tagArities (p .functions))) n)
   is-public-means a i x f n =

@@ -101,12 +101,12 @@ module _ (p : Protocol) (fit : Within p) (x : Node) (b : NodeWithin p x) (r : No
 
   -- fact i of its list w, which stands at a place of src, can be written with its values, which stand at their places in file
   pub node-job :
-      (table ars file starts src : List ℕ) (place w i n o : ℕ) → table ≡ tagArities (p .functions) → Bytes file → Bytes src
-      → Placed (term file table) noTerm starts (x .values) (length (b .is .sorts)) → Here (fact src table ars) (getD (listOf w (b .is)) i noFact) place
+      (arities ars file starts src : List ℕ) (place w i n o : ℕ) → arities ≡ tagArities (p .functions) → Bytes file → Bytes src
+      → Placed (term file arities) noTerm starts (x .values) (length (b .is .sorts)) → Here (fact src arities ars) (getD (listOf w (b .is)) i noFact) place
       → length (b .is .sorts) ≤ length starts → length file ≤ longest → length src ≤ longest → o + factRoom ≤ n → n ≤ longest
-      → FactJob table ars file starts src place n o (x .values) (getD (listOf w (b .is)) i noFact)
-  node-job table ars file starts src place w i n o same bs bsrc placed here many short short-src room short-out =
-      fillable-job table ars file starts src place (x .values) (length (b .is .sorts)) (getD (listOf w (b .is)) i noFact)
+      → FactJob arities ars file starts src place n o (x .values) (getD (listOf w (b .is)) i noFact)
+  node-job arities ars file starts src place w i n o same bs bsrc placed here many short short-src room short-out =
+      fillable-job arities ars file starts src place (x .values) (length (b .is .sorts)) (getD (listOf w (b .is)) i noFact)
       (record { table = subst Builtins (sym same) (declared (p .functions)); bytes = bs; short = short; placed = placed; many = many; own = node-own })
       (record {
         bytes = bsrc;

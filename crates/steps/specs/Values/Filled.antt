@@ -29,7 +29,7 @@ use Rattle.rules.specs.Numbered.Found.{Finds}
 use Rattle.rules.specs.Numbered.Part.{Fits, partOf}
 use Rattle.rules.specs.declared.numbered.FoundRule.{FoundRule}
 use Rattle.rules.specs.declared.numbered.FoundRule.the-variants as fd
-use Rattle.steps.specs.Index.{IndexOf}
+use Rattle.steps.specs.Index.{IndexOf, entries-of}
 use Rattle.steps.specs.Nodes.{Node}
 use Rattle.steps.specs.Nodes.Code.{part-rule}
 use Rattle.lists.specs.All.Laws.{same-inside}
@@ -92,10 +92,7 @@ ArityTable protocol arities rules nr ars = Promises (IndexOf protocol arities ru
 pub index-arities :
     {protocol arities rules : List ℕ} {ns nr : ℕ} {ars flags : List ℕ} → Entries protocol ns nr arities ars flags rules → ArityTable protocol arities rules nr
     (take ns ars)
-index-arities {protocol} i p j =
-    let h : got (i .is) (length protocol) ≡ got (j .entries .is) (length protocol) = sym (i .reads) ∙ j .entries .reads in
-    let a : i .is ≡ j .entries .is = cc in
-    i .tabled ∙ ap (λ (q : Protocol). factArities (q .symbols)) (a ∙ j .same)
+index-arities i p j = i .tabled ∙ ap (λ (q : Protocol). factArities (q .symbols)) (entries-of i j)
 
 -- a rule at a place of src under these tables, and the values of a node of it at a place of file
 pub record FillsRule (arities ars file src : List ℕ) (place at : ℕ) (u : Rule) (vs : List Term) (e : ℕ) : Type 0 where

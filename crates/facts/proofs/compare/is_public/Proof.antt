@@ -11,16 +11,16 @@ put-public-requires : tie.Need-put-public-requires
 put-public-requires c κs =
     let c3 = c .before .before .before in
     let c11 = c3 .before .before .before .before .before .before .before .before in
-    let f = c11 .pre .4 in
-    next-room _ _ _ _ (c11 .pre .0) (c3 .node-fact .ensures (f .of) (f .its) (f .index) (f .is) .put) (search needs)
+    let (p, m, f) = c11 .pre .0 in
+    next-room _ _ _ _ (c11 .pre .2) (c3 .node-fact .ensures p m f .put) (search needs)
 
 same-parts-requires : tie.Need-same-parts-requires
 same-parts-requires c κs =
     let c3 = c .before .before .before in
     let c7 = c3 .before .before .before .before in
     let c15 = c7 .before .before .before .before .before .before .before .before in
-    let f = c15 .pre .4 in
-    parts-inside _ _ _ _ _ _ _ (c15 .pre .0) (c7 .node-fact .ensures (f .of) (f .its) (f .index) (f .is) .put) (c3 .put-public .ensures) (search needs)
+    let (p, m, f) = c15 .pre .0 in
+    parts-inside _ _ _ _ _ _ _ (c15 .pre .2) (c7 .node-fact .ensures p m f .put) (c3 .put-public .ensures) (search needs)
     (search needs)
 
 same-length : tie.Need-same-length
@@ -31,8 +31,8 @@ returns c =
     let c4 = c .before .before .before .before in
     let c8 = c4 .before .before .before .before in
     let c16 = c8 .before .before .before .before .before .before .before .before in
-    λ p m i x. public-test p (c16 .args .x) (c16 .args .i) m (c16 .args .name .0) _
-    (parts-test _ _ _ _ _ _ _ (c16 .pre .0) (c8 .node-fact .ensures p m i x .put) (c4 .put-public .ensures) (search needs) (search needs) _
+    λ p m f. public-test p (c16 .args .x) (c16 .args .i) m (c16 .args .name .0) _
+    (parts-test _ _ _ _ _ _ _ (c16 .pre .2) (c8 .node-fact .ensures p m f .put) (c4 .put-public .ensures) (search needs) (search needs) _
     (c .same-parts .ensures))
 
 pub is-public-spec : {M : Type 1} → statement M

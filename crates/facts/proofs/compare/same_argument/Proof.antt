@@ -12,7 +12,7 @@ same-length c = search needs
 returns : tie.Need-returns
 returns c =
     let c10 = c .before .before .before .before .before .before .before .before .before .before in
-    λ p m n i x y. arguments-test p (c10 .args .x) (c10 .args .i) m (c10 .args .y) (c10 .args .j) n _ (c .before .before .compare .ensures p m n i x y)
+    λ p m n f. arguments-test p (c10 .args .x) (c10 .args .i) m (c10 .args .y) (c10 .args .j) n _ (c .before .before .compare .ensures p m n f)
 
 pub same-argument-spec : {M : Type 1} → statement M
 same-argument-spec = tie.close (tie.spec compare-requires same-length returns)

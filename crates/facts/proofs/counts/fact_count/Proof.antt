@@ -1,5 +1,5 @@
 use Rattle.facts.specs.Rules.{node-rule, facts-counted}
-use Rattle.steps.specs.Values.Loops.{no-node-from}
+use Rattle.steps.specs.Values.Loops.{number-unread}
 use Rattle.number.specs.Reading.{asRead}
 use mathlib.Core.Path.{ap, sym, _∙_}
 use borrow.Author.Needs.{needs}
@@ -23,13 +23,13 @@ enum-told c = search needs
 
 returns : tie.Need-returns
 returns c =
-    λ p x i h.
-    let (u, is, known) = node-rule p _ _ _ _ x (sym (c .before .before .before .before .read-number .ensures) ∙ ap asRead (c .before .before .r .given .1)) h in
-    c .count-from .ensures p u i is ∙ sym (facts-counted p x u known _)
+    λ p x h.
+    let (u, n, known) = node-rule (sym (c .before .before .before .before .read-number .ensures) ∙ ap asRead (c .before .before .r .given .1)) h in
+    c .count-from .ensures p u n ∙ sym (facts-counted p x u known _)
 
 returns-2 : tie.Need-returns-2
 returns-2 c =
-    λ p x i h. no-node-from p _ _ x (sym (c .before .before .read-number .ensures) ∙ ap asRead (c .enum-told .given .1)) h
+    λ p x h. number-unread (sym (c .before .before .read-number .ensures) ∙ ap asRead (c .enum-told .given .1)) h
 
 pub fact-count-spec : {M : Type 1} → statement M
 fact-count-spec =

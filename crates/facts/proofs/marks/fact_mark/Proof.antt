@@ -15,24 +15,24 @@ node-fact-requires c κs = search needs
 slice-reshare-prefix-mark-bytes : tie.Need-slice-reshare-prefix-mark-bytes
 slice-reshare-prefix-mark-bytes c =
     let c10 = c .before .before .before .before .before .before .before .before .before .before in
-    let f = c10 .pre .4 in
-    put-inside _ _ _ _ (c .before .before .node-fact .ensures (f .of) (f .its) (f .index) (f .is) .put) (omega (arith, c10 .pre .0 .enough))
+    let (p, x, f) = c10 .pre .0 in
+    put-inside _ _ _ _ (c .before .before .node-fact .ensures p x f .put) (omega (arith, c10 .pre .2 .enough))
 
 slice-aggregate-mark-bytes : tie.Need-slice-aggregate-mark-bytes
 slice-aggregate-mark-bytes c =
     let c3 = c .before .before .before in
     let c11 = c3 .before .before .before .before .before .before .before .before in
-    let f = c11 .pre .4 in
-    sym (length-take-le _ _ (put-inside _ _ _ _ (c3 .node-fact .ensures (f .of) (f .its) (f .index) (f .is) .put) (omega (arith, c11 .pre .0 .enough))))
+    let (p, x, f) = c11 .pre .0 in
+    sym (length-take-le _ _ (put-inside _ _ _ _ (c3 .node-fact .ensures p x f .put) (omega (arith, c11 .pre .2 .enough))))
 
 cast-mark-bytes : tie.Need-cast-mark-bytes
 cast-mark-bytes c =
     let c4 = c .before .before .before .before in
     let c10 = c4 .before .before .before .before .before .before in
     let c12 = c10 .before .before in
-    let f = c12 .pre .4 in
-    let b = symbol-small (f .of) (index-within (f .index)) _ (fact-of-formed (f .of) _ (index-within (f .index)) (λ k. c10 .shared-slice-known .given k .fits)
-    _ _ (f .its) (f .is)) _ (c4 .node-fact .ensures (f .of) (f .its) (f .index) (f .is) .symbols) in
+    let (p, x, f) = c12 .pre .0 in
+    let b = symbol-small p (index-within (f .index)) _ (fact-of-formed p _ (index-within (f .index)) (λ k. c10 .shared-slice-known .given k .fits)
+    _ _ x (f .is)) _ (c4 .node-fact .ensures p x f .symbols) in
     omega (arith, b)
 
 mark-bytes-requires : tie.Need-mark-bytes-requires
@@ -40,9 +40,9 @@ mark-bytes-requires c κs =
     let c4 = c .before .before .before .before in
     let c10 = c4 .before .before .before .before .before .before in
     let c12 = c10 .before .before in
-    let f = c12 .pre .4 in
-    symbol-small (f .of) (index-within (f .index)) _ (fact-of-formed (f .of) _ (index-within (f .index)) (λ k. c10 .shared-slice-known .given k .fits) _ _
-    (f .its) (f .is)) _ (c4 .node-fact .ensures (f .of) (f .its) (f .index) (f .is) .symbols)
+    let (p, x, f) = c12 .pre .0 in
+    symbol-small p (index-within (f .index)) _ (fact-of-formed p _ (index-within (f .index)) (λ k. c10 .shared-slice-known .given k .fits) _ _
+    x (f .is)) _ (c4 .node-fact .ensures p x f .symbols)
 
 same-length : tie.Need-same-length
 same-length c = search needs
@@ -51,8 +51,8 @@ returns : tie.Need-returns
 returns c =
     let c5 = c .before .before .before .before .before in
     let c13 = c5 .before .before .before .before .before .before .before .before in
-    λ p m i h. fact-marked (factAt p (c13 .args .x .list) (c13 .args .x .number) m) _ _ _ _ _ (c5 .node-fact .ensures p m i h .put)
-    (c5 .node-fact .ensures p m i h .symbols) (c .mark-bytes .ensures)
+    λ p m h. fact-marked (factAt p (c13 .args .x .list) (c13 .args .x .number) m) _ _ _ _ _ (c5 .node-fact .ensures p m h .put)
+    (c5 .node-fact .ensures p m h .symbols) (c .mark-bytes .ensures)
 
 pub fact-mark-spec : {M : Type 1} → statement M
 fact-mark-spec =

@@ -1,5 +1,5 @@
-use Rattle.facts.specs.Calls.Laws.{fact-read}
-use Rattle.steps.specs.Values.Loops.{no-node-from}
+use Rattle.facts.specs.Calls.Laws.{fact-node, fact-read}
+use Rattle.steps.specs.Values.Loops.{number-unread}
 use Rattle.number.specs.Reading.{asRead}
 use mathlib.Core.Path.{ap, sym, _∙_}
 use borrow.Author.Needs.{needs}
@@ -20,10 +20,9 @@ fact-from-requires c κs =
     let c4 = c .before .before .before .before in
     let c9 = c4 .before .before .before .before .before in
     let c11 = c9 .before .before in
-    let f = c11 .pre .4 in
-    let (e, g) = fact-read (f .of) _ (λ k. c9 .shared-slice-known .given k .fits) (c11 .pre .1) _ _ _ _ (f .its)
-    (sym (c4 .read-number .ensures) ∙ ap asRead (c .before .before .r .given .1)) (f .is) in
-    (c11 .pre .0, c11 .pre .2, c11 .pre .3, record { of = f .of; index = f .index; its = f .its; end = e; is = g })
+    let (p, x, f) = c11 .pre .0 in
+    let (e, g) = fact-read (λ k. c9 .shared-slice-known .given k .fits) (sym (c4 .read-number .ensures) ∙ ap asRead (c .before .before .r .given .1)) f in
+    ((p, x, e, g), c11 .pre .1, c11 .pre .2)
 
 enum-told : tie.Need-enum-told
 enum-told c = search needs
@@ -36,15 +35,13 @@ returns c =
     let c5 = c .before .before .before .before .before in
     let c7 = c5 .before .before in
     let c12 = c7 .before .before .before .before .before in
-    let c14 = c12 .before .before in
-    λ p x i h.
-    let (e, g) = fact-read p _ (λ k. c12 .shared-slice-known .given k .fits) (c14 .pre .1) _ _ _ _ x
-    (sym (c7 .read-number .ensures) ∙ ap asRead (c5 .r .given .1)) h in
-    c .before .before .fact-from .ensures p x e i g
+    λ p x h.
+    let (e, g) = fact-read (λ k. c12 .shared-slice-known .given k .fits) (sym (c7 .read-number .ensures) ∙ ap asRead (c5 .r .given .1)) h in
+    c .before .before .fact-from .ensures p x e g
 
 returns-2 : tie.Need-returns-2
 returns-2 c =
-    λ p x i h. no-node-from p _ _ x (sym (c .before .before .read-number .ensures) ∙ ap asRead (c .enum-told .given .1)) (h .here)
+    λ p x h. number-unread (sym (c .before .before .read-number .ensures) ∙ ap asRead (c .enum-told .given .1)) (fact-node h)
 
 pub node-fact-spec : {M : Type 1} → statement M
 node-fact-spec =

@@ -9,15 +9,15 @@ slice-aggregate-value-places c = search needs
 value-places-requires : tie.Need-value-places-requires
 value-places-requires c κs =
     let c6 = c .before .before .before .before .before .before in
-    values-few (c6 .pre .1 .is) _ (c6 .pre .0)
+    values-few (c6 .pre .0 .3) _ (c6 .pre .1)
 
 list-at-requires : tie.Need-list-at-requires
 list-at-requires c κs =
-    c .before .before .before .before .before .before .before .before .pre .1 .is .short
+    c .before .before .before .before .before .before .before .before .pre .0 .3 .short
 
 fact-at-requires : tie.Need-fact-at-requires
 fact-at-requires c κs =
-    c .before .before .before .before .before .before .before .before .before .pre .1 .is .short
+    c .before .before .before .before .before .before .before .before .before .pre .0 .3 .short
 
 symbol-of-requires : tie.Need-symbol-of-requires
 symbol-of-requires c κs = search needs
@@ -31,7 +31,7 @@ wanted-into-requires c κs =
     let c4 = c3 .before in
     let c6 = c4 .before .before in
     let c13 = c6 .before .before .before .before .before .before .before in
-    wanted-ready (c13 .pre .1 .is) _ _ (c4 .list-at .ensures) (c3 .fact-at .ensures) _ (c13 .pre .0) _ (c6 .value-places .ensures .1)
+    wanted-ready (c13 .pre .0 .3) _ _ (c4 .list-at .ensures) (c3 .fact-at .ensures) _ (c13 .pre .1) _ (c6 .value-places .ensures .1)
     (c6 .value-places .ensures .0)
 
 same-length : tie.Need-same-length
@@ -47,7 +47,7 @@ returns c =
     λ u vs e r. record {
       symbols = symbol-is r _ _ (c7 .list-at .ensures) (c6 .fact-at .ensures) _ (c5 .symbol-of .ensures);
       put = c .before .before
-          .wanted-into .ensures vs _ (wanted-job r _ _ (c7 .list-at .ensures) (c6 .fact-at .ensures) _ (c16 .pre .0) _ (c9 .value-places .ensures .1)
+          .wanted-into .ensures vs _ (wanted-job r _ _ (c7 .list-at .ensures) (c6 .fact-at .ensures) _ (c16 .pre .1) _ (c9 .value-places .ensures .1)
           (c9 .value-places .ensures .0));
     }
 

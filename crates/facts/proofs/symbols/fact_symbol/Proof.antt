@@ -1,5 +1,5 @@
 use Rattle.facts.specs.Rules.{node-rule, facts-counted, fact-filled}
-use Rattle.steps.specs.Values.Loops.{no-node-from}
+use Rattle.steps.specs.Values.Loops.{number-unread}
 use Rattle.number.specs.Reading.{asRead}
 use Rattle.protocol.specs.Protocol.{Fact}
 use native.Mathlib.Omega.{arith}
@@ -27,14 +27,14 @@ returns : tie.Need-returns
 returns c =
     let c4 = c .before .before .before .before in
     let c10 = c4 .before .before .before .before .before .before in
-    λ p x i h l.
-    let (u, is, known) = node-rule p _ _ _ _ x (sym (c4 .read-number .ensures) ∙ ap asRead (c .before .before .r .given .1)) h in
-    c .symbol-from .ensures p u i is (omega (arith, l, facts-counted p x u known (c10 .args .place .list))) ∙ sym
+    λ p x h l.
+    let (u, n, known) = node-rule (sym (c4 .read-number .ensures) ∙ ap asRead (c .before .before .r .given .1)) h in
+    c .symbol-from .ensures p u n (omega (arith, l, facts-counted p x u known (c10 .args .place .list))) ∙ sym
     (ap (λ (f : Fact). f .symbol) (fact-filled p x u known (c10 .args .place .list) (c10 .args .place .number) l))
 
 returns-2 : tie.Need-returns-2
 returns-2 c =
-    λ p x i h l. no-node-from p _ _ x (sym (c .before .before .read-number .ensures) ∙ ap asRead (c .enum-told .given .1)) h
+    λ p x h l. number-unread (sym (c .before .before .read-number .ensures) ∙ ap asRead (c .enum-told .given .1)) h
 
 pub fact-symbol-spec : {M : Type 1} → statement M
 fact-symbol-spec =
