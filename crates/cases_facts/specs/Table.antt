@@ -6,9 +6,9 @@ use native.Mathlib.Omega.{arith}
 use borrow.Author.Count.{below-more}
 use lib.ListN.{length, getD, set, replicate, length-set, length-replicate}
 use lib.Seq.{getD-set-same, getD-set-other}
-use Rattle.steps.specs.Nodes.{node}
+use Rattle.lists.specs.Asks.{Asks₂}
 use Rattle.facts.specs.declared.nodes.FactId.{FactId}
-use Rattle.facts.specs.Calls.{HasFact, HasOne}
+use Rattle.facts.specs.Calls.{WholeFact, OneOf}
 use Rattle.cases_facts.specs.declared.table.Facts.{Facts}
 use Rattle.cases_facts.specs.declared.table.Argument.{Argument}
 use Rattle.cases_facts.specs.declared.table.Arguments.{Arguments}
@@ -39,14 +39,17 @@ noPlace = record { node = 0; list = 0; number = 0 }
 abbrev pub noArgument : Argument
 noArgument = record { place = noPlace; number = 0 }
 
-module _ (protocol table rules : List ℕ) (nr : ℕ) (file : List ℕ) where
+module _ (protocol arities rules : List ℕ) (nr : ℕ) (file : List ℕ) where
   -- each fact of the table is one of such a node
+  abbrev pub IsFact : FactId → Type 0
+  IsFact a = Asks₂ (WholeFact protocol arities rules nr file a)
+
   abbrev pub FactsListed : Facts → Type 0
-  FactsListed t = Filled (HasFact protocol table rules nr file) noPlace 64 (t .places) (t .n)
+  FactsListed t = Filled IsFact noPlace 64 (t .places) (t .n)
 
   -- likewise each argument
   abbrev pub IsArgument : Argument → Type 0
-  IsArgument a = HasOne protocol table rules nr file (a .place) (a .number)
+  IsArgument a = Asks₂ (OneOf protocol arities rules nr file (a .place) (a .number))
 
   abbrev pub ArgumentsListed : Arguments → Type 0
   ArgumentsListed t = Filled IsArgument noArgument 256 (t .each) (t .n)

@@ -1,12 +1,9 @@
 // What the calls of crate facts say of the facts and the arguments of a table.
-ghost use Prim.Native.Nat.{_≤_, _<_};
-ghost use lib.ListN.{length};
-ghost use Rattle.octets.specs.Limits.{longest};
-ghost use Rattle.steps.specs.Index.{Given};
+ghost use Prim.Native.Nat.{_<_};
 ghost use Rattle.steps.specs.Values.Filled.{ArityTable};
 ghost use Rattle.facts.specs.Writing.{factRoom};
-ghost use Rattle.facts.specs.Calls.{Room, HasOne};
-ghost use Rattle.cases_facts.specs.Table.{FactsListed, ArgumentsListed};
+ghost use Rattle.facts.specs.Calls.{Room};
+ghost use Rattle.cases_facts.specs.Table.{FactsListed, IsArgument, ArgumentsListed};
 use crate::table::Argument;
 use crate::table::Arguments;
 use crate::table::Facts;
@@ -40,7 +37,7 @@ fn first_fact(
     rules: &[usize],
     nr: usize,
 ) -> usize
-    requires { ⌜ (k < facts .n) × Room (now out) factRoom × (length (now file) ≤ longest) × Given (now protocol) (now arities) (now rules) nr × ArityTable (now protocol) (now arities) (now rules) nr (now ars) × FactsListed (now protocol) (now arities) (now rules) nr (now file) facts ⌝ }
+    requires { ⌜ (k < facts .n) × FactsListed (now protocol) (now arities) (now rules) nr (now file) facts × ArityTable (now protocol) (now arities) (now rules) nr (now ars) × Room (now out) factRoom ⌝ }
 {
     let places = facts.places;
     let n = facts.n;
@@ -67,7 +64,7 @@ pub fn show_facts(
     rules: &[usize],
     nr: usize,
 )
-    requires { ⌜ Room (now out) factRoom × (length (now file) ≤ longest) × Given (now protocol) (now arities) (now rules) nr × ArityTable (now protocol) (now arities) (now rules) nr (now ars) × FactsListed (now protocol) (now arities) (now rules) nr (now file) facts ⌝ }
+    requires { ⌜ FactsListed (now protocol) (now arities) (now rules) nr (now file) facts × ArityTable (now protocol) (now arities) (now rules) nr (now ars) × Room (now out) factRoom ⌝ }
 {
     let n = facts.n;
     let mut k: usize = 0;
@@ -89,7 +86,7 @@ fn first_argument(
     rules: &[usize],
     nr: usize,
 ) -> usize
-    requires { ⌜ (k < arguments .n) × Room (now out) factRoom × (length (now file) ≤ longest) × Given (now protocol) (now arities) (now rules) nr × ArityTable (now protocol) (now arities) (now rules) nr (now ars) × ArgumentsListed (now protocol) (now arities) (now rules) nr (now file) arguments ⌝ }
+    requires { ⌜ (k < arguments .n) × ArgumentsListed (now protocol) (now arities) (now rules) nr (now file) arguments × ArityTable (now protocol) (now arities) (now rules) nr (now ars) × Room (now out) factRoom ⌝ }
 {
     let each = arguments.each;
     let n = arguments.n;
@@ -128,7 +125,7 @@ pub fn show_arguments(
     rules: &[usize],
     nr: usize,
 )
-    requires { ⌜ Room (now out) factRoom × (length (now file) ≤ longest) × Given (now protocol) (now arities) (now rules) nr × ArityTable (now protocol) (now arities) (now rules) nr (now ars) × ArgumentsListed (now protocol) (now arities) (now rules) nr (now file) arguments ⌝ }
+    requires { ⌜ ArgumentsListed (now protocol) (now arities) (now rules) nr (now file) arguments × ArityTable (now protocol) (now arities) (now rules) nr (now ars) × Room (now out) factRoom ⌝ }
 {
     let n = arguments.n;
     let mut k: usize = 0;
@@ -149,7 +146,7 @@ fn public_name(
     rules: &[usize],
     nr: usize,
 ) -> usize
-    requires { ⌜ Room (now out) factRoom × (length (now file) ≤ longest) × Given (now protocol) (now arities) (now rules) nr × ArityTable (now protocol) (now arities) (now rules) nr (now ars) × HasOne (now protocol) (now arities) (now rules) nr (now file) (a .place) (a .number) ⌝ }
+    requires { ⌜ IsArgument (now protocol) (now arities) (now rules) nr (now file) a × ArityTable (now protocol) (now arities) (now rules) nr (now ars) × Room (now out) factRoom ⌝ }
 {
     let x = a.place;
     let i = a.number;
@@ -179,7 +176,7 @@ pub fn show_names(
     rules: &[usize],
     nr: usize,
 )
-    requires { ⌜ Room (now out) factRoom × (length (now file) ≤ longest) × Given (now protocol) (now arities) (now rules) nr × ArityTable (now protocol) (now arities) (now rules) nr (now ars) × ArgumentsListed (now protocol) (now arities) (now rules) nr (now file) arguments ⌝ }
+    requires { ⌜ ArgumentsListed (now protocol) (now arities) (now rules) nr (now file) arguments × ArityTable (now protocol) (now arities) (now rules) nr (now ars) × Room (now out) factRoom ⌝ }
 {
     let each = arguments.each;
     let n = arguments.n;

@@ -1,11 +1,10 @@
 // The facts of all nodes of a step list, node by node, premises, actions, conclusions, and the arguments of these facts.
 ghost use Prim.Native.Nat.{_≤_, _<_};
 ghost use lib.ListN.{length};
-ghost use Rattle.steps.specs.Index.{Given};
+ghost use Rattle.lists.specs.Asks.{Asks, Asks₂};
 ghost use Rattle.steps.specs.Values.Filled.{ArityTable};
-ghost use Rattle.facts.specs.Calls.{HasFact, HasOne};
 ghost use Rattle.facts.specs.Owed.{RightNode, RightNodes};
-ghost use Rattle.cases_facts.specs.Table.{FactsListed, ArgumentsListed};
+ghost use Rattle.cases_facts.specs.Table.{IsFact, FactsListed, IsArgument, ArgumentsListed};
 use facts::counts;
 use facts::nodes::FactId;
 use facts::symbols;
@@ -35,7 +34,7 @@ fn with_fact(
     rules: &[usize],
     nr: usize,
 ) -> Facts
-    requires { ⌜ FactsListed (now protocol) (now arities) (now rules) nr (now file) facts × HasFact (now protocol) (now arities) (now rules) nr (now file) x ⌝ }
+    requires { ⌜ FactsListed (now protocol) (now arities) (now rules) nr (now file) facts × IsFact (now protocol) (now arities) (now rules) nr (now file) x ⌝ }
     ensures { λ r. ⌜ FactsListed (now (protocol .entry)) (now (arities .entry)) (now (rules .entry)) nr (now (file .entry)) r ⌝ }
 {
     let mut places = facts.places;
@@ -62,7 +61,7 @@ fn with_list(
     node: usize,
     list: usize,
 ) -> Facts
-    requires { ⌜ (list < 3) × Given (now protocol) (now arities) (now rules) nr × ArityTable (now protocol) (now arities) (now rules) nr (now ars) × RightNode (now protocol) (now arities) (now rules) nr (now file) node × FactsListed (now protocol) (now arities) (now rules) nr (now file) before ⌝ }
+    requires { ⌜ (list < 3) × Asks₂ (RightNode (now protocol) (now arities) (now rules) nr (now file) node) × ArityTable (now protocol) (now arities) (now rules) nr (now ars) × FactsListed (now protocol) (now arities) (now rules) nr (now file) before ⌝ }
     ensures { λ r. ⌜ FactsListed (now (protocol .entry)) (now (arities .entry)) (now (rules .entry)) nr (now (file .entry)) r ⌝ }
 {
     let count = counts::fact_count(file, protocol, arities, ars, rules, nr, node, list);
@@ -91,7 +90,7 @@ fn with_node(
     nr: usize,
     node: usize,
 ) -> Facts
-    requires { ⌜ Given (now protocol) (now arities) (now rules) nr × ArityTable (now protocol) (now arities) (now rules) nr (now ars) × RightNode (now protocol) (now arities) (now rules) nr (now file) node × FactsListed (now protocol) (now arities) (now rules) nr (now file) before ⌝ }
+    requires { ⌜ Asks₂ (RightNode (now protocol) (now arities) (now rules) nr (now file) node) × ArityTable (now protocol) (now arities) (now rules) nr (now ars) × FactsListed (now protocol) (now arities) (now rules) nr (now file) before ⌝ }
     ensures { λ r. ⌜ FactsListed (now (protocol .entry)) (now (arities .entry)) (now (rules .entry)) nr (now (file .entry)) r ⌝ }
 {
     let mut facts = before;
@@ -114,7 +113,7 @@ pub fn facts_of(
     nodes: &[usize],
     n: usize,
 ) -> Facts
-    requires { ⌜ (n ≤ length (now nodes)) × Given (now protocol) (now arities) (now rules) nr × ArityTable (now protocol) (now arities) (now rules) nr (now ars) × RightNodes (now protocol) (now arities) (now rules) nr (now file) (now nodes) n ⌝ }
+    requires { ⌜ Asks (RightNodes (now protocol) (now arities) (now rules) nr (now file) (now nodes) n) × ArityTable (now protocol) (now arities) (now rules) nr (now ars) × (n ≤ length (now nodes)) ⌝ }
     ensures { λ r. ⌜ FactsListed (now (protocol .entry)) (now (arities .entry)) (now (rules .entry)) nr (now (file .entry)) r ⌝ }
 {
     let none = FactId {
@@ -156,7 +155,7 @@ fn with_argument(
     rules: &[usize],
     nr: usize,
 ) -> Arguments
-    requires { ⌜ ArgumentsListed (now protocol) (now arities) (now rules) nr (now file) arguments × HasOne (now protocol) (now arities) (now rules) nr (now file) (a .place) (a .number) ⌝ }
+    requires { ⌜ ArgumentsListed (now protocol) (now arities) (now rules) nr (now file) arguments × IsArgument (now protocol) (now arities) (now rules) nr (now file) a ⌝ }
     ensures { λ r. ⌜ ArgumentsListed (now (protocol .entry)) (now (arities .entry)) (now (rules .entry)) nr (now (file .entry)) r ⌝ }
 {
     let mut each = arguments.each;
@@ -182,7 +181,7 @@ fn with_arguments(
     nr: usize,
     x: FactId,
 ) -> Arguments
-    requires { ⌜ Given (now protocol) (now arities) (now rules) nr × ArityTable (now protocol) (now arities) (now rules) nr (now ars) × HasFact (now protocol) (now arities) (now rules) nr (now file) x × ArgumentsListed (now protocol) (now arities) (now rules) nr (now file) before ⌝ }
+    requires { ⌜ IsFact (now protocol) (now arities) (now rules) nr (now file) x × ArityTable (now protocol) (now arities) (now rules) nr (now ars) × ArgumentsListed (now protocol) (now arities) (now rules) nr (now file) before ⌝ }
     ensures { λ r. ⌜ ArgumentsListed (now (protocol .entry)) (now (arities .entry)) (now (rules .entry)) nr (now (file .entry)) r ⌝ }
 {
     let count = symbols::argument_count(file, protocol, arities, ars, rules, nr, x);
@@ -209,7 +208,7 @@ pub fn arguments_of(
     rules: &[usize],
     nr: usize,
 ) -> Arguments
-    requires { ⌜ Given (now protocol) (now arities) (now rules) nr × ArityTable (now protocol) (now arities) (now rules) nr (now ars) × FactsListed (now protocol) (now arities) (now rules) nr (now file) facts ⌝ }
+    requires { ⌜ FactsListed (now protocol) (now arities) (now rules) nr (now file) facts × ArityTable (now protocol) (now arities) (now rules) nr (now ars) ⌝ }
     ensures { λ r. ⌜ ArgumentsListed (now (protocol .entry)) (now (arities .entry)) (now (rules .entry)) nr (now (file .entry)) r ⌝ }
 {
     let none = FactId {

@@ -72,12 +72,14 @@ abbrev pub OneOf : List ℕ → List ℕ → List ℕ → ℕ → List ℕ → F
 OneOf protocol arities rules nr file a j = FactAt protocol arities rules nr file a (want.One j)
 
 -- facts of two nodes
-pub record FactsAt (protocol arities rules : List ℕ) (nr : ℕ) (file : List ℕ) (a : FactId) (q : Wanted) (b : FactId) (r : Wanted) (p : Protocol) (x y : Node) : Type 0 where
+pub record FactsAt (protocol arities rules : List ℕ) (nr : ℕ) (file : List ℕ) (a : FactId) (q : Wanted) (b : FactId) (r : Wanted) (p : Protocol)
+    (x y : Node) : Type 0 where
   pub first : FactAt protocol arities rules nr file a q p x
   pub second : FactAt protocol arities rules nr file b r p y
 
 -- likewise where its rule number was read, and its values stand from `at` on
-pub record FactFrom (protocol arities rules : List ℕ) (nr : ℕ) (file : List ℕ) (number at list i : ℕ) (q : Wanted) (p : Protocol) (x : Node) (e : ℕ) : Type 0 where
+pub record FactFrom (protocol arities rules : List ℕ) (nr : ℕ) (file : List ℕ) (number at list i : ℕ) (q : Wanted) (p : Protocol)
+    (x : Node) (e : ℕ) : Type 0 where
   pub from : FromAt protocol arities rules nr file number at p x e
   pub within : NodeWithin p x
   pub right : NodeRight p x

@@ -31,14 +31,16 @@ pub record RightNode (protocol arities rules : List ℕ) (nr : ℕ) (file : List
   pub right : NodeRight p x
 
 -- the n nodes of a good step list stand at their places
-pub record RightNodes (protocol arities rules : List ℕ) (nr : ℕ) (file : List ℕ) (nodes : List ℕ) (n : ℕ) (p : Protocol) : Type 0 where
+pub record RightNodes (protocol arities rules : List ℕ) (nr : ℕ) (file nodes : List ℕ) (n : ℕ) (p : Protocol) : Type 0 where
   pub index : IndexOf protocol arities rules nr p
   pub good : GoodSteps p file nodes n
   pub short : length file ≤ longest
 
 -- ── laws ──
 module _ {protocol arities rules : List ℕ} {nr : ℕ} {file : List ℕ} where
-  pub right-node : {nodes : List ℕ} {n : ℕ} → Asks (RightNodes protocol arities rules nr file nodes n) → (k : ℕ) → k < n → Asks₂ (RightNode protocol arities rules nr file (getD nodes k 0))
+  pub right-node :
+      {nodes : List ℕ} {n : ℕ} → Asks (RightNodes protocol arities rules nr file nodes n) → (k : ℕ) → k < n
+      → Asks₂ (RightNode protocol arities rules nr file (getD nodes k 0))
   right-node (p, r) k l = (
     p,
     getD (r .good .items) k noNode,

@@ -11,7 +11,9 @@ slice-aggregate-rule-steps c =
     sym (length-take-le _ _ (omega arith))
 
 rule-steps-requires : tie.Need-rule-steps-requires
-rule-steps-requires c κs = search needs
+rule-steps-requires c κs =
+    let index = c .before .before .before .before .before .before .before .pre .1 in
+    (index .given, index .table, search needs, search needs)
 
 enum-known-n : tie.Need-enum-known-n
 enum-known-n c = search needs
@@ -26,8 +28,8 @@ returns c =
     let index = c11 .pre .1 in
     record {
       index = index;
-      good = subst (WhereGood (index .given .protocol) _ _) (c .before .n .given .1)
-          (c3 .rule-steps .ensures .1 .1 (index .given .protocol) (index .given .index));
+      good = subst (WhereGood (index .given .0) _ _) (c .before .n .given .1)
+          (c3 .rule-steps .ensures .1 .1 (index .given .0) (index .given .1));
     }
 
 returns-2 : tie.Need-returns-2

@@ -10,7 +10,10 @@ slice-aggregate-ars c =
     sym (length-take-le _ _ (omega arith))
 
 facts-of-requires : tie.Need-facts-of-requires
-facts-of-requires c κs = search needs
+facts-of-requires c κs =
+    let q = c .before .before .before .before .before .before .before .pre in
+    let index = q .1 .index in
+    ((index .given .0, record { index = index .given .1; good = q .1 .good; short = omega (arith, q .0) }), index .table, search needs)
 
 slice-aggregate-show-facts : tie.Need-slice-aggregate-show-facts
 slice-aggregate-show-facts c = search needs
@@ -20,7 +23,7 @@ show-facts-requires c κs =
     let c3 = c .before .before .before in
     let c11 = c3 .before .before .before .before .before .before .before .before in
     let index = c11 .pre .1 .index in
-    (search needs, search needs, index .given, index .table, c3 .facts-of .ensures)
+    (c3 .facts-of .ensures, index .table, search needs)
 
 show-bar-requires : tie.Need-show-bar-requires
 show-bar-requires c κs = search needs
@@ -36,7 +39,7 @@ show-arguments-requires c κs =
     let c3 = c .before .before .before in
     let c20 = c3 .before .before .before .before .before .before .before .before .before .before .before .before .before .before .before .before .before in
     let index = c20 .pre .1 .index in
-    (search needs, omega (arith, c20 .pre .0), index .given, index .table, c3 .arguments-of .ensures)
+    (c3 .arguments-of .ensures, index .table, search needs)
 
 show-bar-requires-2 : tie.Need-show-bar-requires-2
 show-bar-requires-2 c κs = search needs
@@ -49,7 +52,7 @@ show-names-requires c κs =
     let c9 = c .before .before .before .before .before .before .before .before .before in
     let c26 = c9 .before .before .before .before .before .before .before .before .before .before .before .before .before .before .before .before .before in
     let index = c26 .pre .1 .index in
-    (search needs, omega (arith, c26 .pre .0), index .given, index .table, c9 .arguments-of .ensures)
+    (c9 .arguments-of .ensures, index .table, search needs)
 
 returns : tie.Need-returns
 returns c = search needs

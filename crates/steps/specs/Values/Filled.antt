@@ -63,8 +63,8 @@ module _ (file arities : List ℕ) (bytes : Bytes file) where
       (first-small t ts (term-small t at d ht) k (λ i m. value-small k d c ts hts i m) j l)))
 
 -- ── a table of the first k of them ──
-module _ (file arities : List ℕ) (k at : ℕ) (vs : List Term) (e : ℕ) (reads : many (term file arities) k at ≡ got vs e) (sizes : List ℕ) (room : k ≤ length sizes)
-    (told : (j : ℕ) → j < k → getD sizes j 1 ≡ symbols (getD vs j noTerm)) where
+module _ (file arities : List ℕ) (k at : ℕ) (vs : List Term) (e : ℕ) (reads : many (term file arities) k at ≡ got vs e) (sizes : List ℕ)
+    (room : k ≤ length sizes) (told : (j : ℕ) → j < k → getD sizes j 1 ≡ symbols (getD vs j noTerm)) where
   many-values : length vs ≡ k
   many-values = many-length (term file arities) k at e vs reads
 

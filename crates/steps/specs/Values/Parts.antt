@@ -75,7 +75,9 @@ module _ (file arities ars : List ℕ) (bytes : Bytes file) (place : ℕ) (f : F
       (λ z q. let a : u ≡ t = cc in let b : d ≡ e = cc in hu ∙ ap₂ got a b)
       (λ z q. clash (cc)))
 
-  pub term-there : (j i : ℕ) → j < length (f .terms) → i ≡ termPlace file arities ars place j → (e : ℕ) × (term file arities i ≡ got (getD (f .terms) j noTerm) e)
+  pub term-there :
+      (j i : ℕ) → j < length (f .terms) → i ≡ termPlace file arities ars place j
+      → (e : ℕ) × (term file arities i ≡ got (getD (f .terms) j noTerm) e)
   term-there j i l e =
       let x = term-law file arities ars place f h noTerm j l in
       (x .next, ap (term file arities) e ∙ plain-term (termPlace file arities ars place j) (x .next) (getD (f .terms) j noTerm) (x .reads))

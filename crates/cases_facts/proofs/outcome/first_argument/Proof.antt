@@ -3,6 +3,7 @@ use native.Mathlib.Omega.{arith}
 use Prim.Native.Nat.{_-_, _≤_}
 use mathlib.Core.Path.{_≡_}
 use lib.ListN.{length}
+use Rattle.facts.specs.Calls.Laws.{both-at}
 use Rattle.facts.specs.Owed.{room-kept}
 use Rattle.cases_facts.proofs.outcome.first_argument.Statement.{statement}
 use Rattle.cases_facts.proofs.outcome.first_argument.Tie as tie
@@ -17,33 +18,34 @@ abbrev μ-loop : tie.MeasureT-loop
 
 mul-x : tie.Need-mul-x Inv-loop μ-loop
 mul-x c =
-    omega (arith, c .before .before .before .before .before .before .before .pre .5 .few)
+    omega (arith, c .before .before .before .before .before .before .before .pre .1 .few)
 
 array-copy-out-x : tie.Need-array-copy-out-x Inv-loop μ-loop
 array-copy-out-x c =
-    omega (arith, c .before .before .before .before .before .before .before .pre .5 .few)
+    omega (arith, c .before .before .before .before .before .before .before .pre .1 .few)
 
 loop-holds : tie.Need-loop-holds Inv-loop μ-loop
 loop-holds c = search needs
 
 mul-y : tie.Need-mul-y Inv-loop μ-loop
 mul-y c =
-    omega (arith, c .before .before .before .before .before .before .before .before .before .before .pre .5 .few)
+    omega (arith, c .before .before .before .before .before .before .before .before .before .before .pre .1 .few)
 
 array-copy-out-y : tie.Need-array-copy-out-y Inv-loop μ-loop
 array-copy-out-y c =
-    omega (arith, c .before .before .before .before .before .before .before .before .before .before .pre .5 .few)
+    omega (arith, c .before .before .before .before .before .before .before .before .before .before .pre .1 .few)
 
 same-argument-requires : tie.Need-same-argument-requires Inv-loop μ-loop
 same-argument-requires c κs =
     let c12 = c .before .before .before .before .before .before .before .before .before .before .before .before in
-    (room-kept _ _ _ (search needs) (c12 .pre .1), c12 .pre .2, c12 .pre .3, c12 .pre .4, c12 .pre .5 .each _ (omega arith), c12 .pre .5 .each _ (c12 .pre .0))
+    let l = c12 .pre .1 in
+    (both-at (l .each _ (omega arith)) (l .each _ (c12 .pre .0)), c12 .pre .2, room-kept _ _ _ (search needs) (c12 .pre .3))
 
 add-result : tie.Need-add-result Inv-loop μ-loop
 add-result c =
     omega (
       arith,
-      c .before .before .before .before .before .before .before .before .before .before .before .before .before .before .before .before .pre .5
+      c .before .before .before .before .before .before .before .before .before .before .before .before .before .before .before .before .pre .1
           .few,
     )
 
@@ -57,7 +59,7 @@ add-i : tie.Need-add-i Inv-loop μ-loop
 add-i c =
     omega (
       arith,
-      c .before .before .before .before .before .before .before .before .before .before .before .before .before .before .before .before .pre .5
+      c .before .before .before .before .before .before .before .before .before .before .before .before .before .before .before .before .pre .1
           .few,
     )
 

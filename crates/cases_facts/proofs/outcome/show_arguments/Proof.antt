@@ -21,14 +21,14 @@ loop-holds c = search needs
 first-argument-requires : tie.Need-first-argument-requires Inv-loop μ-loop
 first-argument-requires c κs =
     let c9 = c .before .before .before .before .before .before .before .before .before in
-    (search needs, room-kept _ _ _ (search needs) (c9 .pre .0), c9 .pre .1, c9 .pre .2, c9 .pre .3, c9 .pre .4)
+    (search needs, c9 .pre .0, c9 .pre .1, room-kept _ _ _ (search needs) (c9 .pre .2))
 
 show-more-requires : tie.Need-show-more-requires Inv-loop μ-loop
 show-more-requires c κs = search needs
 
 add-k : tie.Need-add-k Inv-loop μ-loop
 add-k c =
-    omega (arith, c .before .before .before .before .before .before .before .before .before .before .before .before .before .pre .4 .few)
+    omega (arith, c .before .before .before .before .before .before .before .before .before .before .before .before .before .pre .0 .few)
 
 loop-less : tie.Need-loop-less Inv-loop μ-loop
 loop-less c = search needs

@@ -27,7 +27,7 @@ array-copy-out-public-name c = search needs
 public-name-requires : tie.Need-public-name-requires Inv-loop μ-loop
 public-name-requires c κs =
     let c11 = c .before .before .before .before .before .before .before .before .before .before .before in
-    (room-kept _ _ _ (search needs) (c11 .pre .0), c11 .pre .1, c11 .pre .2, c11 .pre .3, c11 .pre .4 .each _ (omega arith))
+    (c11 .pre .0 .each _ (omega arith), c11 .pre .1, room-kept _ _ _ (search needs) (c11 .pre .2))
 
 show-more-requires : tie.Need-show-more-requires Inv-loop μ-loop
 show-more-requires c κs = search needs

@@ -22,12 +22,12 @@ mul-with-arguments c = search needs
 
 array-copy-out-with-arguments : tie.Need-array-copy-out-with-arguments Inv-loop μ-loop
 array-copy-out-with-arguments c =
-    omega (arith, c .before .before .before .before .before .before .before .before .pre .2 .few)
+    omega (arith, c .before .before .before .before .before .before .before .before .pre .0 .few)
 
 with-arguments-requires : tie.Need-with-arguments-requires Inv-loop μ-loop
 with-arguments-requires c κs =
     let c9 = c .before .before .before .before .before .before .before .before .before in
-    (c9 .pre .0, c9 .pre .1, c9 .pre .2 .each _ (omega arith), c .before .before .loop .inv .1)
+    (c9 .pre .0 .each _ (omega arith), c9 .pre .1, c .before .before .loop .inv .1)
 
 add-k : tie.Need-add-k Inv-loop μ-loop
 add-k c = search needs

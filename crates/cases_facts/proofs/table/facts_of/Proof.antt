@@ -1,8 +1,7 @@
 use borrow.Author.Needs.{needs}
 use native.Mathlib.Omega.{arith}
 use Prim.Native.Nat.{_-_, _≤_}
-use Rattle.facts.specs.Calls.{HasFact}
-use Rattle.cases_facts.specs.Table.{FactsListed, noPlace, filled-none}
+use Rattle.cases_facts.specs.Table.{IsFact, FactsListed, noPlace, filled-none}
 use Rattle.facts.specs.Owed.{right-node}
 use Rattle.cases_facts.proofs.table.facts_of.Statement.{statement}
 use Rattle.cases_facts.proofs.table.facts_of.Tie as tie
@@ -17,7 +16,7 @@ abbrev μ-loop : tie.MeasureT-loop
 
 loop-holds : tie.Need-loop-holds Inv-loop μ-loop
 loop-holds c =
-    (omega arith, filled-none (HasFact _ _ _ _ _) noPlace 64)
+    (omega arith, filled-none (IsFact _ _ _ _ _) noPlace 64)
 
 mul-with-node : tie.Need-mul-with-node Inv-loop μ-loop
 mul-with-node c = search needs
@@ -28,7 +27,7 @@ shared-slice-read-with-node c = search needs
 with-node-requires : tie.Need-with-node-requires Inv-loop μ-loop
 with-node-requires c κs =
     let c9 = c .before .before .before .before .before .before .before .before .before in
-    (c9 .pre .1, c9 .pre .2, right-node _ _ _ _ _ _ _ (c9 .pre .3) _ (omega arith), c .before .before .loop .inv .1)
+    (right-node (c9 .pre .0) _ (omega arith), c9 .pre .1, c .before .before .loop .inv .1)
 
 add-k : tie.Need-add-k Inv-loop μ-loop
 add-k c = search needs

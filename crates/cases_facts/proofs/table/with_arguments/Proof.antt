@@ -19,12 +19,12 @@ argument-count-requires c κs = search needs
 
 loop-holds : tie.Need-loop-holds Inv-loop μ-loop
 loop-holds c =
-    (omega arith, c .before .before .before .before .before .before .pre .3)
+    (omega arith, c .before .before .before .before .before .before .pre .2)
 
 with-argument-requires : tie.Need-with-argument-requires Inv-loop μ-loop
 with-argument-requires c κs = (
   c .before .loop .inv .1,
-  has-one _ _ _ _ _ _ _ (c .before .before .before .before .before .before .before .before .pre .2)
+  has-one (c .before .before .before .before .before .before .before .before .pre .0)
       (c .before .before .argument-count .ensures) _ (omega arith),
 )
 

@@ -15,16 +15,19 @@ abbrev μ-loop : tie.MeasureT-loop
     count - i
 
 fact-count-requires : tie.Need-fact-count-requires Inv-loop μ-loop
-fact-count-requires c κs = search needs
+fact-count-requires c κs =
+    let q = c .before .before .before .before .before .pre in
+    let (p, x, r) = q .1 in
+    ((p, r .node .index), q .2, q .0)
 
 loop-holds : tie.Need-loop-holds Inv-loop μ-loop
 loop-holds c =
-    (omega arith, c .before .before .before .before .before .before .pre .4)
+    (omega arith, c .before .before .before .before .before .before .pre .3)
 
 with-fact-requires : tie.Need-with-fact-requires Inv-loop μ-loop
 with-fact-requires c κs = (
   c .before .loop .inv .1,
-  has-fact _ _ _ _ _ _ _ _ (c .before .before .before .before .before .before .before .before .pre .3)
+  has-fact (c .before .before .before .before .before .before .before .before .pre .1)
       (c .before .before .fact-count .ensures) _ (omega arith),
 )
 

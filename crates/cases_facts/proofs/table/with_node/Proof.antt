@@ -15,12 +15,12 @@ abbrev μ-loop : tie.MeasureT-loop
 
 loop-holds : tie.Need-loop-holds Inv-loop μ-loop
 loop-holds c =
-    (omega arith, c .before .before .before .before .before .pre .3)
+    (omega arith, c .before .before .before .before .before .pre .2)
 
 with-list-requires : tie.Need-with-list-requires Inv-loop μ-loop
 with-list-requires c κs =
     let c7 = c .before .before .before .before .before .before .before in
-    (omega arith, c7 .pre .0, c7 .pre .1, c7 .pre .2, c .before .loop .inv .1)
+    (omega arith, c7 .pre .0, c7 .pre .1, c .before .loop .inv .1)
 
 add-list : tie.Need-add-list Inv-loop μ-loop
 add-list c = search needs

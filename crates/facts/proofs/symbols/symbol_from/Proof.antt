@@ -36,7 +36,8 @@ returns c =
     let c4 = c .before .before .before .before in
     let c9 = c4 .before .before .before .before .before in
     let c10 = c9 .before in
-    λ p u n l. c .rule-symbol .ensures .1 u (part-known (c10 .pre .1) (n .index) (c10 .args .number) (c4 .find-rule .result) (c4 .find-rule .last .1 .1 .1 .1 .0)
+    λ p u n l. c .rule-symbol .ensures .1 u (part-known (c10 .pre .1) (n .index) (c10 .args .number) (c4 .find-rule .result)
+    (c4 .find-rule .last .1 .1 .1 .1 .0)
     (c4 .find-rule .ensures) _ (c .before .rule-part .ensures) (λ k. c9 .shared-slice-known .given k .fits) (c .rule-symbol .ensures .0) u (n .is)) l
 
 pub symbol-from-spec : {M : Type 1} → statement M

@@ -17,7 +17,8 @@ use Rattle.steps.proofs.names.enter_names.Tie as tie
 
 abbrev Inv-loop : tie.InvT-loop
 Inv-loop file protocol arities rules nr nodes n names₀ j₀ names j =
-    (j ≤ n) × (length names ≡ length names₀) × Promises₂ (NodesAt protocol arities rules nr file nodes n) (λ (p : Protocol) (xs : List Node). Entered names xs j)
+    (j ≤ n) × (length names ≡ length names₀) × Promises₂ (NodesAt protocol arities rules nr file nodes n)
+    (λ (p : Protocol) (xs : List Node). Entered names xs j)
 
 abbrev μ-loop : tie.MeasureT-loop
 μ-loop file protocol arities rules nr nodes n names₀ j₀ names j =

@@ -11,7 +11,6 @@ use Rattle.steps.specs.Values.Weights.{sizeIn}
 use Rattle.steps.specs.Values.Parts.{AllLeft, all-start, all-more, all-bad, all-done, termSmall, noTerm, symbol-inside, terms-many, term-there}
 use Rattle.steps.proofs.sizes.fact_small.Statement.{statement}
 use Rattle.steps.proofs.sizes.fact_small.Tie as tie
-use Rattle.steps.proofs.sizes.fact_small.Reads as reads
 
 abbrev Inv-loop : tie.InvT-loop
 Inv-loop file arities ars place sizes y n j₀ j =

@@ -14,7 +14,6 @@ use Rattle.term.specs.Term.{Term}
 use Rattle.steps.specs.Values.Weights.{Going, going-starts, going-ends, going-long, going-more, going-fault, weight-small, sizeIn}
 use Rattle.steps.proofs.sizes.term_small.Statement.{statement}
 use Rattle.steps.proofs.sizes.term_small.Tie as tie
-use Rattle.steps.proofs.sizes.term_small.Reads as reads
 
 abbrev Inv-loop : tie.InvT-loop
 Inv-loop file arities at sizes i₀ pending₀ sum₀ i pending sum =
