@@ -16,7 +16,7 @@ use Rattle.steps.specs.Index.{IndexOf}
 use Rattle.steps.specs.Facts.{filledFact, factsOf}
 use Rattle.steps.specs.Values.{NodeRight}
 use Rattle.steps.specs.Values.Parts.{noTerm}
-use Rattle.steps.specs.Values.Loops.{FromAt}
+use Rattle.steps.specs.Values.Loops.{NodeFrom}
 use Rattle.steps.specs.Values.Filled.{FillsRule}
 use Rattle.facts.specs.declared.writing.Wanted.{Wanted}
 use Rattle.facts.specs.declared.writing.Wanted.the-variants as want
@@ -80,7 +80,7 @@ pub record FactsAt (protocol arities rules : List ℕ) (nr : ℕ) (file : List �
 -- likewise where its rule number was read, and its values stand from `at` on
 pub record FactFrom (protocol arities rules : List ℕ) (nr : ℕ) (file : List ℕ) (number at list i : ℕ) (q : Wanted) (p : Protocol)
     (x : Node) (e : ℕ) : Type 0 where
-  pub from : FromAt protocol arities rules nr file number at p x e
+  pub from : NodeFrom protocol arities rules nr file number at p x e
   pub within : NodeWithin p x
   pub right : NodeRight p x
   pub listed : i < length (factsOf p list x)

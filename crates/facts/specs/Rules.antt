@@ -61,5 +61,5 @@ pub node-rule :
     → NodeAt protocol arities rules nr file place p x → (u : Rule) × NumberedRule protocol arities rules nr number p u × (ruleOf p (x .rule) ≡ some u)
 node-rule {p = p} h n =
     let (e, f) = number-read h n in
-    let (u, is) = from-rule (f .is) in
-    (u, record { index = f .index; is = is }, ap (ruleOf p) (f .is .is-number) ∙ is)
+    let (u, is) = from-rule f in
+    (u, record { index = f .index; is = is }, ap (ruleOf p) (f .is-number) ∙ is)

@@ -12,7 +12,7 @@ ghost use Rattle.lists.specs.Asks.{Asks₂, Promises₂, Asks₃, Promises₃};
 ghost use Rattle.lists.specs.Lists.{firstBad};
 ghost use Rattle.steps.specs.Nodes.{Node, mostNodes};
 ghost use Rattle.steps.specs.Values.Tests.{ruleOk, nodeTermsOk};
-ghost use Rattle.steps.specs.Values.Loops.{FromAt, NodeAt};
+ghost use Rattle.steps.specs.Values.Loops.{NodeAt, NodeFrom};
 ghost use Rattle.steps.specs.Values.Scan.{asFound, NodesAt};
 ghost use Rattle.steps.specs.Values.Filled.{ArityTable, FillsRule};
 use number::Number;
@@ -46,8 +46,8 @@ fn terms_of(
     number: usize,
     at: usize,
 ) -> bool
-    requires { ⌜ Asks₃ (FromAt (now protocol) (now arities) (now rules) nr (now file) number at) × ArityTable (now protocol) (now arities) (now rules) nr (now ars) ⌝ }
-    ensures { λ r. ⌜ Promises₃ (FromAt (now (protocol .entry)) (now (arities .entry)) (now (rules .entry)) nr (now (file .entry)) number at) (λ (p : Protocol) (x : Node) (e : ℕ). r ≡ nodeTermsOk p x) ⌝ }
+    requires { ⌜ Asks₃ (NodeFrom (now protocol) (now arities) (now rules) nr (now file) number at) × ArityTable (now protocol) (now arities) (now rules) nr (now ars) ⌝ }
+    ensures { λ r. ⌜ Promises₃ (NodeFrom (now (protocol .entry)) (now (arities .entry)) (now (rules .entry)) nr (now (file .entry)) number at) (λ (p : Protocol) (x : Node) (e : ℕ). r ≡ nodeTermsOk p x) ⌝ }
 {
     let mut own = [0u8; rules::numbered::RULE_ROOM];
     let found = rules::numbered::find_rule(arities, rules, nr, number, &mut own);

@@ -14,7 +14,7 @@ ghost use Rattle.lists.specs.Asks.{Asks₂, Promises₂, Asks₃, Promises₃};
 ghost use Rattle.lists.specs.Lists.{firstBad};
 ghost use Rattle.steps.specs.Nodes.{Node, mostNodes};
 ghost use Rattle.steps.specs.Values.Tests.{valueOk, valuesOk, nodeValuesOk};
-ghost use Rattle.steps.specs.Values.Loops.{behindOf, RuleHere, FromAt, NodeAt};
+ghost use Rattle.steps.specs.Values.Loops.{behindOf, RuleHere, NodeAt, NodeFrom};
 ghost use Rattle.steps.specs.Values.Scan.{asFound, NodesAt};
 ghost use Rattle.steps.specs.Values.Code.{NameIs, ofName, ValueThere};
 use number::Number;
@@ -130,8 +130,8 @@ fn values_of(
     number: usize,
     at: usize,
 ) -> bool
-    requires { ⌜ Asks₃ (FromAt (now protocol) (now arities) (now rules) nr (now file) number at) ⌝ }
-    ensures { λ r. ⌜ Promises₃ (FromAt (now (protocol .entry)) (now (arities .entry)) (now (rules .entry)) nr (now (file .entry)) number at) (λ (p : Protocol) (x : Node) (e : ℕ). r ≡ nodeValuesOk p x) ⌝ }
+    requires { ⌜ Asks₃ (NodeFrom (now protocol) (now arities) (now rules) nr (now file) number at) ⌝ }
+    ensures { λ r. ⌜ Promises₃ (NodeFrom (now (protocol .entry)) (now (arities .entry)) (now (rules .entry)) nr (now (file .entry)) number at) (λ (p : Protocol) (x : Node) (e : ℕ). r ≡ nodeValuesOk p x) ⌝ }
 {
     let mut own = [0u8; rules::numbered::RULE_ROOM];
     let found = rules::numbered::find_rule(arities, rules, nr, number, &mut own);

@@ -45,7 +45,7 @@ has-filled (want.One x) vs f h = omega (arith, length-map (f .terms) (sub (value
 module _ {protocol arities rules : List ℕ} {nr : ℕ} {file : List ℕ} {number at list i : ℕ} {q : Wanted} {p : Protocol} {x : Node} {e : ℕ}
     (f : FactFrom protocol arities rules nr file number at list i q p x e) (u : Rule) (is : ruleOf p number ≡ some u) where
   known : ruleOf p (x .rule) ≡ some u
-  known = ap (ruleOf p) (f .from .is .is-number) ∙ is
+  known = ap (ruleOf p) (f .from .is-number) ∙ is
 
   pub fact-is : ruleFact (x .values) list i u ≡ factAt p list i x
   fact-is = sym (fact-filled p x u known list i (f .listed))

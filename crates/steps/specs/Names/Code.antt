@@ -30,7 +30,7 @@ use Rattle.steps.specs.Nodes.Code.{index-slots}
 use Rattle.steps.specs.Facts.{valueAt, freshNumber}
 use Rattle.steps.specs.Facts as facts
 use Rattle.steps.specs.Values.Code.{NameIs, leaf-is, no-fresh}
-use Rattle.steps.specs.Values.Loops.{FromAt}
+use Rattle.steps.specs.Values.Loops.{NodeFrom}
 use Rattle.steps.specs.Names.{MadeIs}
 
 -- a fresh name by its symbol
@@ -62,24 +62,24 @@ unfolding fixed
 zero-sorts p n h = (fixed n, of-fixed p n (omega arith), ap (λ (k : ℕ). fixed k .sorts) h)
 
 module _ {protocol arities rules : List ℕ} {nr : ℕ} {file : List ℕ} {r d : ℕ} {p : Protocol} {x : Node} {e : ℕ}
-    (f : FromAt protocol arities rules nr file r d p x e) where
+    (f : NodeFrom protocol arities rules nr file r d p x e) where
   pub zero-name : Bytes file → r ≡ 0 → (m : Made) → NumberIs (symbolAt file arities d) m → MadeIs (facts.madeName x) m
   unfolding many
   zero-name bytes z m h =
       let (u, a, b) = zero-sorts p r z in
       let q : andThen (many (term file (tagArities (p .functions))) 1 d) (λ vs b. got (node-of r vs) b) ≡ got x e =
       ap (λ (l : List ℕ). andThen (many (term file (tagArities (p .functions))) (length l) d) (λ vs b. got (node-of r vs) b)) (sym b)
-      ∙ sym (ap (λ (o : Option Rule). values p file r o d) a) ∙ f .is .reads in
+      ∙ sym (ap (λ (o : Option Rule). values p file r o d) a) ∙ f .reads in
       cut-got (many (term file (tagArities (p .functions))) 1 d) _ q (λ vs c hv q.
       cut-got (term file (tagArities (p .functions)) d) _ hv (λ t k ht hv.
       let g : node-of r vs ≡ x = cc in
       let w : t ∷ [] ≡ vs = cc in
       let v : t ≡ valueAt (x .values) 0 = ap (λ (l : List Term). valueAt l 0) w ∙ ap (λ (y : Node). valueAt (y .values) 0) g in
       let n : facts.madeName x ≡ freshNumber t =
-      ap (λ (b : Bool). pick b (freshNumber (valueAt (x .values) 0)) none) (eq-eqb (x .rule) 0 (f .is .is-number ∙ z)) ∙ ap freshNumber (sym v) in
+      ap (λ (b : Bool). pick b (freshNumber (valueAt (x .values) 0)) none) (eq-eqb (x .rule) 0 (f .is-number ∙ z)) ∙ ap freshNumber (sym v) in
       subst (λ (o : Option ℕ). MadeIs o m) (sym n)
       (number-of file (tagArities (p .functions)) d bytes t k ht m (subst (λ (l : List ℕ). NumberIs (symbolAt file l d) m) (index-slots (f .index)) h))))
 
   pub other-name : (r ≡ 0 → ⊥) → facts.madeName x ≡ none
   other-name z =
-      ap (λ (b : Bool). pick b (freshNumber (valueAt (x .values) 0)) none) (ne-eqb (x .rule) 0 (λ q. z (sym (f .is .is-number) ∙ q)))
+      ap (λ (b : Bool). pick b (freshNumber (valueAt (x .values) 0)) none) (ne-eqb (x .rule) 0 (λ q. z (sym (f .is-number) ∙ q)))

@@ -10,7 +10,7 @@ use lib.ListN.{length, getD, take, length-drop, List·getD-eq-default}
 use lib.Seq.{getD-take, length-take-le}
 use Rattle.protocol.specs.Figures.{mostVariables}
 use Rattle.octets.specs.Limits.{longest}
-use Rattle.lists.specs.Asks.{Promises}
+use Rattle.lists.specs.Asks.{Promises, Promises₂}
 use Rattle.lists.specs.Choice.{by-size}
 use Rattle.octets.specs.Head.{Bytes, stands-within}
 use Rattle.number.specs.Reading.{got, many}
@@ -22,7 +22,7 @@ use Rattle.term.specs.Reader.{term}
 use Rattle.term.specs.Reader.Exact.{term-form}
 use Rattle.protocol.specs.Protocol.{Rule, Protocol, factArities, rule}
 use Rattle.protocol.specs.Index.{Entries}
-use Rattle.protocol.specs.Places.{Here, valueOf}
+use Rattle.protocol.specs.Places.{Here, ReadAs, valueOf}
 use Rattle.protocol.specs.Protocol.Walks.{sortsAt}
 use Rattle.rules.specs.Numbered.{ruleOf, ruleRoom}
 use Rattle.rules.specs.Numbered.Found.{Finds}
@@ -37,7 +37,7 @@ use Rattle.steps.specs.Facts.{valueAt}
 use Rattle.steps.specs.Values.Tests.{ruleOk, ofRule, nodeTermsOk}
 use Rattle.steps.specs.Values.Weights.{sizeIn}
 use Rattle.steps.specs.Values.Parts.{noTerm, ruleSmall, rule-weighed}
-use Rattle.steps.specs.Values.Loops.{RuleHere, count-here, NodeFrom, FromAt, rule-here}
+use Rattle.steps.specs.Values.Loops.{RuleHere, count-here, NodeFrom, rule-here}
 
 -- ── the sizes of values ──
 module _ (file arities : List ℕ) (bytes : Bytes file) where
@@ -109,7 +109,8 @@ module _ {arities ars file src : List ℕ} {place at : ℕ} {u : Rule} {vs : Lis
 
     -- the code has the sizes of its values
     module _ (sizes : List ℕ) (room : k ≤ length sizes)
-        (told : (vs : List Term) (e : ℕ) → many (term file arities) k at ≡ got vs e → (j : ℕ) → j < k → getD sizes j 1 ≡ symbols (getD vs j noTerm)) where
+        (told : Promises₂ (ReadAs (many (term file arities) k) at)
+        (λ (vs : List Term) (e : ℕ). (j : ℕ) → j < k → getD sizes j 1 ≡ symbols (getD vs j noTerm))) where
       pub filling-small : Bytes file → (n : ℕ) → sizeIn (take k sizes) n ≤ longest
       filling-small bytes = sizes-small file arities k at vs e reads sizes room (told vs e reads) bytes (h .is .short)
 
@@ -138,12 +139,13 @@ module _ {protocol arities rules : List ℕ} {nr : ℕ} {ars : List ℕ} (known 
       (part-rule i number r out h src e bytes is-bytes u is)
 
   pub part-filling :
-      {file : List ℕ} {at : ℕ} {x : Node} {d : ℕ} → FromAt protocol arities rules nr file number at p x d
+      {file : List ℕ} {at : ℕ} {x : Node} {d : ℕ} → NodeFrom protocol arities rules nr file number at p x d
       → FillsRule arities ars file src 0 at u (x .values) d
   part-filling f = record { is = rule-here f u is src ars 0 part-known; here = part-known }
 
 -- the rule's test is the node's
 pub terms-test :
-    {p : Protocol} {file : List ℕ} {number at : ℕ} {x : Node} {e : ℕ} → NodeFrom p file number at x e → (u : Rule) → ruleOf p number ≡ some u
+    {protocol arities rules : List ℕ} {nr : ℕ} {file : List ℕ} {number at : ℕ} {p : Protocol} {x : Node} {e : ℕ}
+    → NodeFrom protocol arities rules nr file number at p x e → (u : Rule) → ruleOf p number ≡ some u
     → (b : Bool) → b ≡ ruleOk (x .values) u → b ≡ nodeTermsOk p x
-terms-test {p} {x = x} from u is b h = h ∙ sym (ap (ofRule (ruleOk (x .values))) (ap (ruleOf p) (from .is-number) ∙ is))
+terms-test {p = p} {x} f u is b h = h ∙ sym (ap (ofRule (ruleOk (x .values))) (ap (ruleOf p) (f .is-number) ∙ is))

@@ -127,54 +127,51 @@ pub record NodeAt (protocol arities rules : List ℕ) (nr : ℕ) (file : List �
   pub short : length file ≤ longest
 
 -- a node whose rule number was read, its values from `at` on
-pub record NodeFrom (p : Protocol) (file : List ℕ) (number at : ℕ) (x : Node) (e : ℕ) : Type 0 where
+pub record NodeFrom (protocol arities rules : List ℕ) (nr : ℕ) (file : List ℕ) (number at : ℕ) (p : Protocol) (x : Node) (e : ℕ) : Type 0 where
+  pub index : IndexOf protocol arities rules nr p
   pub is-number : x .rule ≡ number
   pub reads : values p file number (ruleOf p number) at ≡ got x e
-
-module _ (p : Protocol) (file : List ℕ) where
-  rule-kept : (r d e : ℕ) (o : Option Rule) (x : Node) → values p file r o d ≡ got x e → x .rule ≡ r
-  rule-kept r d e none x h = clash (cc)
-  rule-kept r d e (some u) x h =
-      cut-got (many (term file (tagArities (p .functions))) (length (u .sorts)) d) _ h (λ vs c hv h.
-      let a : node-of r vs ≡ x = cc in
-      sym (ap (λ (y : Node). y .rule) a))
-
-  pub node-from : (place r d : ℕ) (x : Node) → readNumber file place ≡ got r d → Here (node p file) x place → (e : ℕ) × NodeFrom p file r d x e
-  unfolding node
-  node-from place r d x h k =
-      let q : values p file r (ruleOf p r) d ≡ got x (k .next) = sym (ap (λ (o : Read ℕ). andThen o (λ r e. values p file r (ruleOf p r) e)) h) ∙ k .reads in
-      (k .next, record { is-number = rule-kept r d (k .next) (ruleOf p r) x q; reads = q })
-
-  pub no-node-from : {C : Type 0} (place : ℕ) (x : Node) → readNumber file place ≡ fault → Here (node p file) x place → C
-  unfolding node
-  no-node-from place x h k =
-      let q : fault ≡ got x (k .next) = sym (ap (λ (o : Read ℕ). andThen o (λ r e. values p file r (ruleOf p r) e)) h) ∙ k .reads in
-      clash (cc)
-
--- under the tables of its protocol
-pub record FromAt (protocol arities rules : List ℕ) (nr : ℕ) (file : List ℕ) (number at : ℕ) (p : Protocol) (x : Node) (e : ℕ) : Type 0 where
-  pub index : IndexOf protocol arities rules nr p
-  pub is : NodeFrom p file number at x e
   pub short : length file ≤ longest
+
+rule-kept : (p : Protocol) (file : List ℕ) (r d e : ℕ) (o : Option Rule) (x : Node) → values p file r o d ≡ got x e → x .rule ≡ r
+rule-kept p file r d e none x h = clash (cc)
+rule-kept p file r d e (some u) x h =
+    cut-got (many (term file (tagArities (p .functions))) (length (u .sorts)) d) _ h (λ vs c hv h.
+    let a : node-of r vs ≡ x = cc in
+    sym (ap (λ (y : Node). y .rule) a))
 
 module _ {protocol arities rules : List ℕ} {nr : ℕ} {file : List ℕ} {p : Protocol} {x : Node} where
   pub number-read :
       {place number at : ℕ} → readNumber file place ≡ got number at → NodeAt protocol arities rules nr file place p x
-      → (e : ℕ) × FromAt protocol arities rules nr file number at p x e
+      → (e : ℕ) × NodeFrom protocol arities rules nr file number at p x e
+  unfolding node
   number-read {place} {number} {at} h n =
-      let (e, f) = node-from p file place number at x h (n .here) in
-      (e, record { index = n .index; is = f; short = n .short })
+      let e = n .here .next in
+      let q : values p file number (ruleOf p number) at ≡ got x e =
+      sym (ap (λ (o : Read ℕ). andThen o (λ r e. values p file r (ruleOf p r) e)) h) ∙ n .here .reads in
+      (e, record { index = n .index; is-number = rule-kept p file number at e (ruleOf p number) x q; reads = q; short = n .short })
 
   pub number-unread : {C : Type 0} {place : ℕ} → readNumber file place ≡ fault → NodeAt protocol arities rules nr file place p x → C
-  number-unread {C} {place} h n = no-node-from p file place x h (n .here)
+  unfolding node
+  number-unread h n =
+      let q : fault ≡ got x (n .here .next) = sym (ap (λ (o : Read ℕ). andThen o (λ r e. values p file r (ruleOf p r) e)) h) ∙ n .here .reads in
+      clash (cc)
+
+  -- it has a rule
+  pub from-rule : {number at e : ℕ} → NodeFrom protocol arities rules nr file number at p x e → (u : Rule) × (ruleOf p number ≡ some u)
+  from-rule {number} {at} {e} f = go (ruleOf p number) refl (f .reads)
+    where
+      go : (o : Option Rule) → ruleOf p number ≡ o → values p file number o at ≡ got x e → (u : Rule) × (ruleOf p number ≡ some u)
+      go none h q = clash (cc)
+      go (some u) h q = (u, h)
 
 -- the rule of such a node stands at a place of src, and its values behind its number
 module _ {protocol arities rules : List ℕ} {nr : ℕ} {file : List ℕ} {number at : ℕ} {p : Protocol} {x : Node} {e : ℕ}
-    (f : FromAt protocol arities rules nr file number at p x e) (u : Rule) (is : ruleOf p number ≡ some u) where
+    (f : NodeFrom protocol arities rules nr file number at p x e) (u : Rule) (is : ruleOf p number ≡ some u) where
   behind-values : many (term file (tagArities (p .functions))) (length (u .sorts)) at ≡ got (x .values) e
   behind-values =
       cut-got (many (term file (tagArities (p .functions))) (length (u .sorts)) at) _
-      (sym (ap (λ (o : Option Rule). values p file number o at) is) ∙ f .is .reads)
+      (sym (ap (λ (o : Option Rule). values p file number o at) is) ∙ f .reads)
       (λ vs c hv h.
       let a : node-of number vs ≡ x = cc in
       let b : c ≡ e = cc in
@@ -192,12 +189,4 @@ module _ {protocol arities rules : List ℕ} {nr : ℕ} {file : List ℕ} {numbe
 
   -- its values' test is the node's
   pub values-test : (b : Bool) → b ≡ valuesOk (u .sorts) (x .values) → b ≡ nodeValuesOk p x
-  values-test b h = h ∙ sym (ap (ofRule (λ w. valuesOk (w .sorts) (x .values))) (ap (ruleOf p) (f .is .is-number) ∙ is))
-
--- it has a rule
-pub from-rule : {p : Protocol} {file : List ℕ} {number at : ℕ} {x : Node} {e : ℕ} → NodeFrom p file number at x e → (u : Rule) × (ruleOf p number ≡ some u)
-from-rule {p} {file} {number} {at} {x} {e} from = go (ruleOf p number) refl (from .reads)
-  where
-    go : (o : Option Rule) → ruleOf p number ≡ o → values p file number o at ≡ got x e → (u : Rule) × (ruleOf p number ≡ some u)
-    go none h q = clash (cc)
-    go (some u) h q = (u, h)
+  values-test b h = h ∙ sym (ap (ofRule (λ w. valuesOk (w .sorts) (x .values))) (ap (ruleOf p) (f .is-number) ∙ is))

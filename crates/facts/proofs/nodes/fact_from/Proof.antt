@@ -33,7 +33,7 @@ rule-fact-requires c κs =
     let c11 = c10 .before in
     let c13 = c11 .before .before in
     let (p, x, e, f) = c13 .pre .0 in
-    let (u, is) = from-rule (f .from .is) in
+    let (u, is) = from-rule (f .from) in
     let fits = part-fits (f .from .index) (c13 .args .number) (c5 .find-rule .result) (c5 .find-rule .last .1 .1 .1 .1 .0) (c5 .find-rule .ensures)
     (λ k. c10 .shared-slice-known2 .given k .fits) in (
       (
@@ -62,7 +62,7 @@ returns c =
     let c14 = c13 .before in
     let c16 = c14 .before .before in
     λ p x e f.
-    let (u, is) = from-rule (f .from .is) in
+    let (u, is) = from-rule (f .from) in
     let fits = part-fits (f .from .index) (c16 .args .number) (c8 .find-rule .result) (c8 .find-rule .last .1 .1 .1 .1 .0) (c8 .find-rule .ensures)
     (λ k. c13 .shared-slice-known2 .given k .fits) in
     written-is _ _ _ _ _ _ _ (fact-is f u is) (c .before .before .rule-fact .ensures u (x .values) e

@@ -31,7 +31,7 @@ filled-small-requires c κs =
     let c9 = c4 .before .before .before .before .before in
     let c11 = c9 .before .before in
     let (p, x, e, f) = c11 .pre .0 in
-    let (u, is) = from-rule (f .is) in (
+    let (u, is) = from-rule f in (
       (
         u,
         x .values,
@@ -52,8 +52,8 @@ returns c =
     let c10 = c5 .before .before .before .before .before in
     let c12 = c10 .before .before in
     λ p x e f.
-    let (u, is) = from-rule (f .is) in
-    terms-test (f .is) u is _ (c .filled-small .ensures u (x .values) e (part-filling (c12 .pre .1) (f .index) (c12 .args .number) (c5 .find-rule .result)
+    let (u, is) = from-rule f in
+    terms-test f u is _ (c .filled-small .ensures u (x .values) e (part-filling (c12 .pre .1) (f .index) (c12 .args .number) (c5 .find-rule .result)
     (c5 .find-rule .last .1 .1 .1 .1 .0) (c5 .find-rule .ensures) _ (c .before .before .rule-part .ensures) (λ k. c10 .shared-slice-known2 .given k .fits)
     (c .before .own-variables .ensures .1) u is f))
 

@@ -30,7 +30,7 @@ values-fit-requires c κs =
     let c8 = c4 .before .before .before .before in
     let c10 = c8 .before .before in
     let (p, x, e, f) = c10 .pre in
-    let (u, is) = from-rule (f .is) in (
+    let (u, is) = from-rule f in (
       (
         u,
         x .values,
@@ -48,7 +48,7 @@ returns c =
     let c9 = c5 .before .before .before .before in
     let c11 = c9 .before .before in
     λ p x e f.
-    let (u, is) = from-rule (f .is) in
+    let (u, is) = from-rule f in
     values-test f u is _ (c .values-fit .ensures u (x .values) e (rule-here f u is _ _ _
     (part-rule (f .index) (c11 .args .number) (c5 .find-rule .result) (c5 .find-rule .last .1 .1 .1 .1 .0) (c5 .find-rule .ensures) _
     (c .before .before .rule-part .ensures) (λ k. c9 .shared-slice-known2 .given k .fits) (c .before .own-variables .ensures .1) u is)))
