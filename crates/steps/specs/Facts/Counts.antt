@@ -10,7 +10,7 @@ use Rattle.lists.specs.All.Laws.{all-map, all-at}
 use Rattle.term.specs.Term.{Term}
 use Rattle.term.specs.Arity.{tagArities}
 use Rattle.protocol.specs.Figures.{mostFacts}
-use Rattle.protocol.specs.Protocol.{Fact, Rule, Protocol, fact-of, listOf, frSymbol, inSymbol, outSymbol, kSymbol, factArities}
+use Rattle.protocol.specs.Protocol.{Rule, Protocol, fact-of, listOf, frSymbol, inSymbol, outSymbol, kSymbol, factArities}
 use Rattle.protocol.specs.Protocol.Limits.{FactsWithin, Within}
 use Rattle.rules.specs.Numbered.Limits.{rule-within}
 use Rattle.steps.specs.Nodes.{Node, NodeWithin}
