@@ -4,7 +4,7 @@ ghost use mathlib.Core.List.{List};
 ghost use Prim.Native.Nat.{ℕ, suc, _≤_, _<_, _+_};
 ghost use lib.ListN.{length, getD, take};
 ghost use Rattle.protocol.specs.Protocol.{Protocol};
-ghost use Rattle.lists.specs.Asks.{Promises₂};
+ghost use Rattle.lists.specs.Asks.{Promises₂, Promises};
 ghost use Rattle.rewriting.specs.Writer.{firstNameTwice};
 ghost use Rattle.steps.specs.Nodes.{Node, mostNodes};
 ghost use Rattle.steps.specs.Nodes.Code.{noNode};
@@ -96,7 +96,7 @@ fn enter_names(
 // Whether one of the first j nodes makes the name of an entry.
 fn made_before(names: &[usize], j: usize, entry: usize) -> bool
     requires { ⌜ j ≤ length (now names) ⌝ }
-    ensures { λ r. ⌜ ((xs : List Node) (n m : ℕ) → Entered (now (names .entry)) xs n → j ≤ n → n ≤ length xs → entry ≡ suc m → r ≡ isMade m (take j xs)) ⌝ }
+    ensures { λ r. ⌜ Promises₂ (Entered (now (names .entry))) (λ (xs : List Node) (n : ℕ). (m : ℕ) → j ≤ n → n ≤ length xs → entry ≡ suc m → r ≡ isMade m (take j xs)) ⌝ }
 {
     let mut found = false;
     let mut i: usize = 0;
@@ -110,7 +110,7 @@ fn made_before(names: &[usize], j: usize, entry: usize) -> bool
 // Whether node j, from 0, makes a name that a node before it makes.
 fn again_at(names: &[usize], j: usize) -> bool
     requires { ⌜ j < length (now names) ⌝ }
-    ensures { λ r. ⌜ ((xs : List Node) (n : ℕ) → Entered (now (names .entry)) xs n → j < n → n ≤ length xs → r ≡ againIn (take j xs) (madeName (getD xs j noNode))) ⌝ }
+    ensures { λ r. ⌜ Promises₂ (Entered (now (names .entry))) (λ (xs : List Node) (n : ℕ). j < n → n ≤ length xs → r ≡ againIn (take j xs) (madeName (getD xs j noNode))) ⌝ }
 {
     let entry = names[j];
     if entry == 0 {
@@ -122,7 +122,7 @@ fn again_at(names: &[usize], j: usize) -> bool
 // The least node that makes a name that an earlier one makes; 0 where there is none.
 fn least_again(names: &[usize], n: usize) -> usize
     requires { ⌜ (n ≤ mostNodes) × (n ≤ length (now names)) ⌝ }
-    ensures { λ r. ⌜ ((p : Protocol) (xs : List Node) → Entered (now (names .entry)) xs n → length xs ≡ n → asFound r ≡ firstNameTwice (rewrittens p xs)) ⌝ }
+    ensures { λ r. ⌜ ((p : Protocol) → Promises (λ (xs : List Node). Entered (now (names .entry)) xs n) (λ (xs : List Node). length xs ≡ n → asFound r ≡ firstNameTwice (rewrittens p xs))) ⌝ }
 {
     let mut j: usize = 0;
     while j < n {

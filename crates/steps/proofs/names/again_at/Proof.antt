@@ -20,7 +20,7 @@ made-before-requires c κs = search needs
 
 returns-2 : tie.Need-returns-2
 returns-2 c =
-    λ xs n h l k. again-of _ xs n h k _ l _ refl (c .before .if1 .left) _ (λ m e. c .made-before .ensures xs n m h (omega (arith, l)) k e)
+    λ xs n h l k. again-of _ xs n h k _ l _ refl (c .before .if1 .left) _ (λ m e. c .made-before .ensures xs n h m (omega (arith, l)) k e)
 
 pub again-at-spec : {M : Type 1} → statement M
 again-at-spec =

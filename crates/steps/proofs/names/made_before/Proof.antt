@@ -43,7 +43,7 @@ loop-again c = (
 
 returns : tie.Need-returns Inv-loop μ-loop
 returns c =
-    λ xs n m h l k e.
+    λ xs n h m l k e.
     let q : c .before .loop .i ≡ c .before .before .args .j = omega (arith, c .before .loop .inv .0, c .loop-test .left) in
     subst (λ (i : ℕ). c .before .loop .found ≡ isMade m (take i xs)) q (c .before .loop .inv .1 xs n m h l k e)
 
