@@ -30,6 +30,8 @@ pub mod Laws
 pub mod Bytes
 -- what the answers mean by the ten equations
 pub mod Meaning
+-- numbers from 0 here, from 1 in crate rewriting
+pub mod Numbers
 -- what is written one behind the other; a public name
 pub mod Names
 pub mod Two

@@ -17,10 +17,10 @@ use Rattle.facts.specs.declared.writing.Wanted.the-variants as want
 use Rattle.facts.specs.Writing.{canonBytes, wantedBytes, factRoom, Put}
 use Rattle.facts.specs.Calls.Bytes.{join-bytes}
 
--- the greatest prime below 2 ^ 16
 abbrev pub markBase : ℕ
 markBase = 257
 
+-- the greatest prime below 2 ^ 16
 abbrev pub markLimit : ℕ
 markLimit = 65521
 
@@ -72,6 +72,15 @@ symbol-small p fit f g y h = omega (arith, h, g .known, fit .few-symbols, length
 
 pub mark-small : (n : ℕ) → n % markLimit < markLimit
 mark-small n = omega arith
+
+-- ── marks are below their limit ──
+from-below : (h : ℕ) → h < markLimit → (bs : List ℕ) → markFrom h bs < markLimit
+unfolding markFrom
+from-below h l [] = l
+from-below h l (b ∷ bs) = from-below ((h * markBase + b) % markLimit) (mark-small (h * markBase + b)) bs
+
+pub mark-below : (p : Protocol) → Within p → (f : Fact) → FactFormed p f → markOf f < markLimit
+mark-below p fit f g = from-below (f .symbol) (symbol-small p fit f g (f .symbol) refl) (canonBytes (f .terms))
 
 -- what was written lies within the output
 pub put-inside : (out out′ : List ℕ) (e : ℕ) (q : List ℕ) → Put out 0 out′ e q → factRoom ≤ length out′ → e ≤ length out′

@@ -1,10 +1,10 @@
 -- What code finds for a rule number in a prepared protocol: the place of its rule, or that there is none.
-use Prim.Native.Nat.{ℕ, zero, suc, _-_, _≤_, _<_}
-use mathlib.Core.List.{List, [], _∷_}
+use Prim.Native.Nat.{ℕ, _-_, _≤_, _<_}
+use mathlib.Core.List.{List}
 use mathlib.Core.Option.{Option, some, none, Option·some-injective, Option·none-ne-some}
 use mathlib.Core.Path.{_≡_, refl, sym, _∙_, subst}
 use native.Mathlib.Omega.{arith}
-use lib.ListN.{length, getElem?}
+use Rattle.lists.specs.Lists.Laws.{at-outside}
 use Rattle.protocol.specs.Protocol.{Rule, Protocol}
 use Rattle.protocol.specs.Protocol.Limits.{Within}
 use Rattle.rules.specs.Numbered.{ruleOf}
@@ -24,13 +24,8 @@ Finds p P n (fd.At place) = RuleFound p P n place
 Finds p P n fd.Nothing = ruleOf P n ≡ none
 
 -- ── no rule has a number that the table has not ──
-nth-past : {A : Type 0} (xs : List A) (k : ℕ) → length xs ≤ k → getElem? xs k ≡ none
-nth-past [] k h = refl
-nth-past (x ∷ xs) zero h = absurd (omega arith)
-nth-past (x ∷ xs) (suc k) h = nth-past xs k (omega arith)
-
 pub rule-past : (P : Protocol) → Within P → (n : ℕ) → ruleCount ≤ n → ruleOf P n ≡ none
-rule-past P w n h = of-own P n (omega arith) ∙ nth-past (P .rules) (n - 31) (omega (arith, w .few-rules))
+rule-past P w n h = of-own P n (omega arith) ∙ at-outside (P .rules) (n - 31) (omega (arith, w .few-rules))
 
 -- ── the answers ──
 module _ (p : List ℕ) (P : Protocol) (f : Prepared p P) (n : ℕ) (small : n < ruleCount) where

@@ -77,10 +77,3 @@ apart = record {
   rules-end = omega arith;
   file-end = omega arith;
 }
-
--- a rule number's two bytes and a built-in rule's bytes lie in their sections
-pub cell-inside : (n : ℕ) → n < ruleCount → (placesAt ≤ cellAt n) × (cellAt n + 2 ≤ rulesAt)
-cell-inside n h = (omega arith, omega arith)
-
-pub builtin-inside : (n : ℕ) → n < builtinCount → (rulesAt ≤ builtinAt n) × (builtinAt n + ruleRoom ≤ fileAt)
-builtin-inside n h = (omega arith, omega arith)

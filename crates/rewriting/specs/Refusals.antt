@@ -1,4 +1,4 @@
--- The passes over a graph find what rows 9 to 13 say, the smallest item of each.
+-- The passes over a graph find what rows 10 to 13 say, the smallest item of each.
 use mathlib.Core.Path.{_≡_, refl, sym, _∙_, ap}
 use mathlib.Core.Logic.{inl, inr, ⊎-elim}
 use mathlib.Core.Bool.{Bool, true, false, _&&_, and-false}

@@ -1,14 +1,15 @@
 -- The verdict on a protocol file, as the code gives it, is the ruling of causes 3 and 4.
 use Prim.Native.Nat.{ℕ, zero, suc, _<_}
-use mathlib.Core.List.{List, [], _∷_}
+use mathlib.Core.List.{List}
 use mathlib.Core.Bool.{Bool, true, not}
 use mathlib.Core.Option.{Option, some, none}
 use mathlib.Core.Path.{_≡_, refl, ap, sym, _∙_}
 use native.Mathlib.Omega.{arith}
-use lib.ListN.{length, getD, getElem?}
+use lib.ListN.{length, getD}
 use Rattle.lists.specs.Choice.{cut-eq, clash}
 use Rattle.number.specs.Reading.{Read, got, fault}
 use Rattle.lists.specs.Lists.{firstBad}
+use Rattle.lists.specs.Lists.Laws.{at-inside, at-some}
 use Rattle.rewriting.specs.Table.{passed, refused, Fails, Finds, Least, andThen, orRefuse}
 use Rattle.rewriting.specs.Table.Laws.{least-unique}
 use Rattle.rewriting.specs.Table.Passes.{first-bad}
@@ -26,17 +27,6 @@ finds-unique P none (some k) f g = absurd (f k (g .here))
 finds-unique P (some k) none f g = absurd (g k (f .here))
 finds-unique P (some j) (some k) f g = ap some (least-unique P j k f g)
 
--- ── elements by their number ──
-there : (rs : List Rule) (i : ℕ) → i < length rs → getElem? rs i ≡ some (getD rs i emptyRule)
-there [] i h = absurd (omega arith)
-there (r ∷ rs) zero h = refl
-there (r ∷ rs) (suc i) h = there rs i (omega arith)
-
-from : (rs : List Rule) (i : ℕ) (x : Rule) → getElem? rs i ≡ some x → (i < length rs) × (getD rs i emptyRule ≡ x)
-from [] i x h = clash (cc)
-from (r ∷ rs) zero x h = (omega arith, cc)
-from (r ∷ rs) (suc i) x h = let f = from rs i x h in (omega (arith, f .0), f .1)
-
 -- ── the least rule that breaks a condition is the one that the pass finds ──
 abbrev item : ℕ → Option ℕ
 item zero = none
@@ -49,7 +39,7 @@ module _ (rs : List Rule) where
   -- a rule that fails is one that the test finds
   failing : (i : ℕ) → Fails ok rs (suc i) → (i < length rs) × (unfit rs i ≡ true)
   failing i f =
-      let g = from rs i (f .which) (f .stands) in
+      let g = at-some emptyRule rs i (f .which) (f .stands) in
       (g .0, ap (λ (r : Rule). not (fits r)) (g .1) ∙ ap not (f .is-false))
 
   no-fails : leastUnfit rs ≡ 0 → (k : ℕ) → Fails ok rs k → ⊥
@@ -64,7 +54,7 @@ module _ (rs : List Rule) where
   one-fails m h = record {
     here = record {
       which = getD rs m emptyRule;
-      stands = there rs m (h .inside);
+      stands = at-inside emptyRule rs m (h .inside);
       is-false = not-split (fits (getD rs m emptyRule)) (h .hit);
     };
     below = earlier;

@@ -2,11 +2,11 @@
 use mathlib.Core.Path.{_≡_, refl, sym, _∙_, ap}
 use mathlib.Core.Logic.{⊎-elim}
 use mathlib.Core.Bool.{Bool, true, false, not, _&&_}
-use mathlib.Core.List.{List, [], _∷_, _++_, List·Memᴰ·head, List·Memᴰ·tail, List·Memᴰ·not-nil, List·Memᴰ·cases-cons}
+use mathlib.Core.List.{List, [], _∷_, _++_, map, List·Memᴰ·head, List·Memᴰ·tail, List·Memᴰ·not-nil, List·Memᴰ·cases-cons}
 use mathlib.Core.Option.{Option, none, some, Option·none-ne-some, Option·some-ne-none, Option·some-injective}
-use Prim.Native.Nat.{ℕ, zero, suc, _+_, _≤_}
+use Prim.Native.Nat.{ℕ, zero, suc, _+_, _≤_, _<_}
 use native.Mathlib.Omega.{arith}
-use lib.ListN.{getElem?, length}
+use lib.ListN.{getElem?, getD, length}
 use Rattle.lists.specs.Lists.{_∈_, bit, countBy, anyBy, allBy, firstBy, removeBy, keepBy, nth}
 use Rattle.lists.specs.Tests.{by-bool, by-option, true-false, not-true}
 
@@ -136,6 +136,22 @@ module _ {A : Type 0} where
   nth-mem xs a zero h = absurd (Option·none-ne-some a h)
   nth-mem xs a (suc i) h = at-mem xs a i h
 
+  -- What stands at a number, from 0, is what is read there with any default.
+  pub at-inside : (d : A) (xs : List A) (i : ℕ) → i < length xs → getElem? xs i ≡ some (getD xs i d)
+  at-inside d [] i h = absurd (omega arith)
+  at-inside d (x ∷ xs) zero h = refl
+  at-inside d (x ∷ xs) (suc i) h = at-inside d xs i (omega arith)
+
+  pub at-outside : (xs : List A) (i : ℕ) → length xs ≤ i → getElem? xs i ≡ none
+  at-outside [] i h = refl
+  at-outside (x ∷ xs) zero h = absurd (omega arith)
+  at-outside (x ∷ xs) (suc i) h = at-outside xs i (omega arith)
+
+  pub at-some : (d : A) (xs : List A) (i : ℕ) (x : A) → getElem? xs i ≡ some x → (i < length xs) × (getD xs i d ≡ x)
+  at-some d [] i x h = absurd (Option·none-ne-some x h)
+  at-some d (y ∷ xs) zero x h = (omega arith, Option·some-injective y x h)
+  at-some d (y ∷ xs) (suc i) x h = let f = at-some d xs i x h in (omega (arith, f .0), f .1)
+
   -- The elements that pass a test.
   pub first-keep : (p q : A → Bool) (l : List A) → firstBy p (keepBy q l) ≡ firstBy (λ a. q a && p a) l
   first-keep p q [] = refl
@@ -165,3 +181,19 @@ module _ {A : Type 0} where
   pub count-all : (l : List A) → countBy (λ a. true) l ≡ length l
   count-all [] = refl
   count-all (x ∷ xs) = omega (arith, count-all xs)
+
+-- The element of a number of a mapped list, from 0 and from 1.
+module _ {A B : Type 0} (g : A → B) where
+  pub at-map : (xs : List A) (i : ℕ) (x : A) → getElem? xs i ≡ some x → getElem? (map g xs) i ≡ some (g x)
+  at-map [] i x h = absurd (Option·none-ne-some x h)
+  at-map (y ∷ xs) zero x h = ap {B = Option B} (λ z. some (g z)) (Option·some-injective y x h)
+  at-map (y ∷ xs) (suc i) x h = at-map xs i x h
+
+  pub map-at : (xs : List A) (i : ℕ) (y : B) → getElem? (map g xs) i ≡ some y → (x : A) × (getElem? xs i ≡ some x) × (g x ≡ y)
+  map-at [] i y h = absurd (Option·none-ne-some y h)
+  map-at (x ∷ xs) zero y h = (x, refl, Option·some-injective (g x) y h)
+  map-at (x ∷ xs) (suc i) y h = map-at xs i y h
+
+  pub map-nth : (xs : List A) (k : ℕ) (y : B) → nth (map g xs) k ≡ some y → (x : A) × (nth xs k ≡ some x) × (g x ≡ y)
+  map-nth xs zero y h = absurd (Option·none-ne-some y h)
+  map-nth xs (suc i) y h = map-at xs i y h

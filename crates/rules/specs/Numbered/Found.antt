@@ -1,8 +1,8 @@
 -- What the code finds for a rule number: the rule's bytes, written out; its place in the protocol file; or no rule.
-use Prim.Native.Nat.{ℕ, zero, suc, _+_, _-_, _≤_, _<_}
-use mathlib.Core.List.{List, [], _∷_, append-nil}
+use Prim.Native.Nat.{ℕ, _+_, _-_, _≤_, _<_}
+use mathlib.Core.List.{List, [], append-nil}
 use mathlib.Core.Option.{some, none}
-use mathlib.Core.Path.{_≡_, refl, ap, ap₂, sym, _∙_, subst}
+use mathlib.Core.Path.{_≡_, ap, ap₂, sym, _∙_, subst}
 use native.Mathlib.Omega.{arith}
 use lib.ListN.{length, getD, take, getElem?}
 use lib.Dec.{ltb}
@@ -10,6 +10,7 @@ use borrow.Author.Tests.{lt-ltb, le-ltb}
 use Rattle.lists.specs.Choice.{pick, by-size}
 use Rattle.octets.specs.Head.{Bytes}
 use Rattle.lists.specs.All.{All}
+use Rattle.lists.specs.Lists.Laws.{at-inside, at-outside}
 use Rattle.term.specs.Arity.{arity, tagArities, undeclared}
 use Rattle.term.specs.Arity.Laws.{slot-inside, arity-none, arity-some}
 use Rattle.protocol.specs.Protocol.{Rule, Protocol, emptyRule, factArities, encodeRule, rule}
@@ -63,17 +64,6 @@ module _ (places : List ℕ) (n k : ℕ) where
   unfolding placeFound
   place-none h = simp (le-ltb k n h)
 
-module _ {A : Type 0} (d : A) where
-  nth-some : (xs : List A) (k : ℕ) → k < length xs → getElem? xs k ≡ some (getD xs k d)
-  nth-some [] k h = absurd (omega arith)
-  nth-some (x ∷ xs) zero h = refl
-  nth-some (x ∷ xs) (suc k) h = nth-some xs k (omega arith)
-
-  nth-none : (xs : List A) (k : ℕ) → length xs ≤ k → getElem? xs k ≡ none
-  nth-none [] k h = refl
-  nth-none (x ∷ xs) zero h = absurd (omega arith)
-  nth-none (x ∷ xs) (suc k) h = nth-none xs k (omega arith)
-
 -- ── the rule of a number ──
 pub record WrittenAs (p : Protocol) (n len : ℕ) (out : List ℕ) : Type 0 where
   pub its : Rule
@@ -121,11 +111,11 @@ module _ (p : Protocol) (n : ℕ) where
         (λ l. subst (λ (x : FoundRule). Finds p file slots′ ars n x out) (sym (e ∙ place-found places nr (n - 31) l))
         record {
           its = getD (p .rules) (n - 31) emptyRule;
-          is = of-own h ∙ nth-some emptyRule (p .rules) (n - 31) (omega (arith, q .count));
+          is = of-own h ∙ at-inside emptyRule (p .rules) (n - 31) (omega (arith, q .count));
           here = q .each (n - 31) l;
         })
         (λ l. subst (λ (x : FoundRule). Finds p file slots′ ars n x out) (sym (e ∙ place-none places nr (n - 31) l))
-        (of-own h ∙ nth-none emptyRule (p .rules) (n - 31) (omega (arith, q .count))))
+        (of-own h ∙ at-outside (p .rules) (n - 31) (omega (arith, q .count))))
 
 -- what is written is read as that rule, like a rule of the file
 pub written-reads :

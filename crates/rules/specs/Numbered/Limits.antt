@@ -5,11 +5,12 @@ use mathlib.Core.Bool.{Bool, true, false}
 use mathlib.Core.Option.{Option, some, none}
 use mathlib.Core.Path.{_≡_, refl, ap, sym, _∙_, subst}
 use native.Mathlib.Omega.{arith}
-use lib.ListN.{length, getD, replicate, length-map, length-replicate, getElem?}
+use lib.ListN.{length, getD, replicate, length-map, length-replicate}
 use lib.Dec.{eqb}
 use Rattle.lists.specs.Choice.{pick, cut-lt, cut-eq, clash}
 use Rattle.number.specs.Groups.{numberLimit}
 use Rattle.lists.specs.All.{All}
+use Rattle.lists.specs.All.Laws.{all-nth}
 use borrow.Author.Tests.{lt-ltb}
 use Rattle.lists.specs.Lists.{anyBy}
 use Rattle.term.specs.Term.{Term, leaf, app, variable, count, symbolss, Formeds, InRanges}
@@ -211,11 +212,6 @@ module _ (arities : List ℕ) where
         }
 
 -- ── the rule of every number ──
-nth-all : {A : Type 0} (P : A → Type 0) (xs : List A) (k : ℕ) (x : A) → All P xs → getElem? xs k ≡ some x → P x
-nth-all P [] k x a h = clash (cc)
-nth-all P (y ∷ xs) zero x a h = let e : y ≡ x = cc in subst P e (a .0)
-nth-all P (y ∷ xs) (suc k) x a h = nth-all P xs k x (a .1) h
-
 module _ (p : Protocol) (w : Within p) where
   abbrev Good : Rule → Type 0
   Good = RuleWithin (tagArities (p .functions)) (factArities (p .symbols))
@@ -234,4 +230,4 @@ module _ (p : Protocol) (w : Within p) where
       (λ l e. let z : fixed n ≡ r = cc in subst Good z (fixed-within (tagArities (p .functions)) (p .symbols) n))
       (λ l e. cut-lt _ _ _ n 31 e
       (λ m e. from-arity (n - 2) r (arity (tagArities (p .functions)) (n - 2)) (omega arith) refl e)
-      (λ m e. nth-all Good (p .rules) (n - 31) r (w .rules) e))
+      (λ m e. all-nth Good (p .rules) (w .rules) (suc (n - 31)) r e))

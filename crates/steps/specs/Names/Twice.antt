@@ -11,6 +11,7 @@ use lib.ListN.{length, getElem?, take}
 use Rattle.lists.specs.Choice.{pick}
 use Rattle.term.specs.Term.{fresh, Term, leaf}
 use Rattle.lists.specs.Lists.{_∈_, nth}
+use Rattle.lists.specs.Lists.Laws.{at-map, map-at}
 use Rattle.rewriting.specs.Graph.{nameOf, namesOf}
 use Rattle.rewriting.specs.Graph as graph
 use Rattle.rewriting.specs.Causes.{NameTwice}
@@ -35,11 +36,6 @@ pub record MadeTwice (xs : List Node) (k : ℕ) : Type 0 where
 
 module _ (p : Protocol) where
   -- ── a node by its number, in the list and in its rewriting ──
-  at-map : (xs : List Node) (i : ℕ) (x : Node) → getElem? xs i ≡ some x → getElem? (rewrittens p xs) i ≡ some (rewritten p x)
-  at-map [] i x h = absurd (Option·none-ne-some x h)
-  at-map (y ∷ xs) zero x h = ap (λ (z : Node). some (rewritten p z)) (Option·some-injective y x h)
-  at-map (y ∷ xs) (suc i) x h = at-map xs i x h
-
   record FoundAt (xs : List Node) (i : ℕ) (o : Option ℕ) : Type 0 where
     its : Node
     there : getElem? xs i ≡ some its
@@ -69,12 +65,9 @@ module _ (p : Protocol) where
 
   -- ── the two say the same ──
   from-map : (xs : List Node) (i : ℕ) (o : Option ℕ) (z : graph.Node Fact) → getElem? (rewrittens p xs) i ≡ some z → z .makes ≡ o → FoundAt xs i o
-  from-map [] i o z h k = absurd (Option·none-ne-some z h)
-  from-map (y ∷ xs) zero o z h k =
-      record { its = y; there = refl; name = ap (λ (w : graph.Node Fact). w .makes) (Option·some-injective (rewritten p y) z h) ∙ k }
-  from-map (y ∷ xs) (suc i) o z h k =
-      let f = from-map xs i o z h k in
-      record { its = f .its; there = f .there; name = f .name }
+  from-map xs i o z h k =
+      let (x, stands, is) = map-at (rewritten p) xs i z h in
+      record { its = x; there = stands; name = ap (λ (w : graph.Node Fact). w .makes) is ∙ k }
 
   pub twice-made : (xs : List Node) (k : ℕ) → NameTwice (rewrittens p xs) k → MadeTwice xs k
   twice-made xs zero h = absurd (Option·none-ne-some (h .node) (h .stands))
@@ -104,7 +97,7 @@ module _ (p : Protocol) where
           record {
             node = rewritten p (h .later);
             name = h .name;
-            stands = at-map xs k (h .later) (h .stands);
+            stands = at-map (rewritten p) xs k (h .later) (h .stands);
             made = h .makes-it;
             earlier = late xs k
                 (h .name) j (h .earlier) (omega arith) s (h .made-it);

@@ -1,12 +1,13 @@
 -- An accepted graph by the equations: the two facts of an edge are of one symbol, and the ten equations make their arguments equal. For nodes
 -- within the limits this is what the test of facts says, so that nobody has to believe canonical forms.
-use Prim.Native.Nat.{ℕ, zero, suc, _≤_, _<_}
-use mathlib.Core.List.{List, [], _∷_, map}
+use Prim.Native.Nat.{ℕ, _≤_, _<_}
+use mathlib.Core.List.{List}
 use mathlib.Core.Bool.{true}
 use mathlib.Core.Logic.{_↔_}
-use mathlib.Core.Option.{Option, some, none, Option·none-ne-some, Option·some-injective}
+use mathlib.Core.Option.{Option, some, none, Option·none-ne-some}
 use mathlib.Core.Path.{_≡_, refl, sym, _∙_, ap}
 use Rattle.lists.specs.Lists.{_∈_, nth}
+use Rattle.lists.specs.Lists.Laws.{map-nth}
 use Rattle.lists.specs.All.{All}
 use Rattle.lists.specs.All.Laws.{all-nth}
 use Rattle.rewriting.specs.Graph as graph
@@ -19,14 +20,6 @@ use Rattle.steps.specs.Nodes.{Node, NodeWithin}
 use Rattle.steps.specs.Facts.{factsOf, SameFact, isLinear}
 use Rattle.steps.specs.Facts.Formed.{FactFormed, facts-formed, formed-decides}
 use Rattle.steps.specs.Runs.{protocolFacts, rewritten, rewrittens, Accepted, NamesOnce}
-
--- ── the element of a number of a mapped list ──
-module _ {A B : Type 0} (g : A → B) where
-  pub map-nth : (xs : List A) (k : ℕ) (y : B) → nth (map g xs) k ≡ some y → (x : A) × (nth xs k ≡ some x) × (g x ≡ y)
-  map-nth xs zero y h = absurd (Option·none-ne-some y h)
-  map-nth [] (suc k) y h = absurd (Option·none-ne-some y h)
-  map-nth (x ∷ xs) (suc zero) y h = (x, refl, Option·some-injective (g x) y h)
-  map-nth (x ∷ xs) (suc (suc k)) y h = map-nth xs (suc k) y h
 
 module _ (p : Protocol) (xs : List Node) where
   -- "each edge from an earlier node, its two facts equal"
