@@ -1,5 +1,5 @@
 -- The sections of a prepared protocol, one behind the other: their lengths, their starts, and that they are apart.
-use Prim.Native.Nat.{ℕ, _+_, _*_, _≤_, _<_}
+use Prim.Native.Nat.{ℕ, _+_, _*_, _≤_}
 use native.Mathlib.Omega.{arith}
 use Rattle.term.specs.Tags.{tagCount}
 use Rattle.protocol.specs.Figures.{symbolCount, mostRules}
