@@ -13,6 +13,8 @@ use Rattle.steps.specs.Facts.Laws.{fact-refl, fact-sym, fact-trans, fact
 pub mod Theorems
 -- an accepted graph by the ten equations
 pub mod Equations
+-- the machine's counts by any test of facts that decides the equations
+pub mod AnyTest
 
 -- the facts of a protocol
 abbrev pub protocolFacts : Protocol → Facts

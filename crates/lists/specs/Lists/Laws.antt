@@ -189,11 +189,11 @@ module _ {A B : Type 0} (g : A → B) where
   at-map (y ∷ xs) zero x h = ap {B = Option B} (λ z. some (g z)) (Option·some-injective y x h)
   at-map (y ∷ xs) (suc i) x h = at-map xs i x h
 
-  pub map-at : (xs : List A) (i : ℕ) (y : B) → getElem? (map g xs) i ≡ some y → (x : A) × (getElem? xs i ≡ some x) × (g x ≡ y)
-  map-at [] i y h = absurd (Option·none-ne-some y h)
-  map-at (x ∷ xs) zero y h = (x, refl, Option·some-injective (g x) y h)
-  map-at (x ∷ xs) (suc i) y h = map-at xs i y h
+  pub mapped-at : (xs : List A) (i : ℕ) (y : B) → getElem? (map g xs) i ≡ some y → (x : A) × (getElem? xs i ≡ some x) × (g x ≡ y)
+  mapped-at [] i y h = absurd (Option·none-ne-some y h)
+  mapped-at (x ∷ xs) zero y h = (x, refl, Option·some-injective (g x) y h)
+  mapped-at (x ∷ xs) (suc i) y h = mapped-at xs i y h
 
   pub map-nth : (xs : List A) (k : ℕ) (y : B) → nth (map g xs) k ≡ some y → (x : A) × (nth xs k ≡ some x) × (g x ≡ y)
   map-nth xs zero y h = absurd (Option·none-ne-some y h)
-  map-nth xs (suc i) y h = map-at xs i y h
+  map-nth xs (suc i) y h = mapped-at xs i y h

@@ -11,7 +11,7 @@ use lib.ListN.{length, getElem?, take}
 use Rattle.lists.specs.Choice.{pick}
 use Rattle.term.specs.Term.{fresh, Term, leaf}
 use Rattle.lists.specs.Lists.{_∈_, nth}
-use Rattle.lists.specs.Lists.Laws.{at-map, map-at}
+use Rattle.lists.specs.Lists.Laws.{at-map, mapped-at}
 use Rattle.rewriting.specs.Graph.{nameOf, namesOf}
 use Rattle.rewriting.specs.Graph as graph
 use Rattle.rewriting.specs.Causes.{NameTwice}
@@ -66,7 +66,7 @@ module _ (p : Protocol) where
   -- ── the two say the same ──
   from-map : (xs : List Node) (i : ℕ) (o : Option ℕ) (z : graph.Node Fact) → getElem? (rewrittens p xs) i ≡ some z → z .makes ≡ o → FoundAt xs i o
   from-map xs i o z h k =
-      let (x, stands, is) = map-at (rewritten p) xs i z h in
+      let (x, stands, is) = mapped-at (rewritten p) xs i z h in
       record { its = x; there = stands; name = ap (λ (w : graph.Node Fact). w .makes) is ∙ k }
 
   pub twice-made : (xs : List Node) (k : ℕ) → NameTwice (rewrittens p xs) k → MadeTwice xs k
