@@ -33,11 +33,11 @@ module _ {A : Type 0} (P : A → Type 0) (d : A) (most : ℕ) where
   }
 
 -- ── facts and their arguments ──
-abbrev pub noPlace : FactId
-noPlace = record { node = 0; list = 0; number = 0 }
+abbrev pub noFactId : FactId
+noFactId = record { node = 0; list = 0; number = 0 }
 
 abbrev pub noArgument : Argument
-noArgument = record { place = noPlace; number = 0 }
+noArgument = record { place = noFactId; number = 0 }
 
 module _ (protocol arities rules : List ℕ) (nr : ℕ) (file : List ℕ) where
   -- each fact of the table is one of such a node
@@ -45,7 +45,7 @@ module _ (protocol arities rules : List ℕ) (nr : ℕ) (file : List ℕ) where
   IsFact a = Asks₂ (WholeFact protocol arities rules nr file a)
 
   abbrev pub FactsListed : Facts → Type 0
-  FactsListed t = Filled IsFact noPlace 64 (t .places) (t .n)
+  FactsListed t = Filled IsFact noFactId 64 (t .places) (t .n)
 
   -- likewise each argument
   abbrev pub IsArgument : Argument → Type 0

@@ -13,42 +13,42 @@ use Rattle.protocol.specs.Places.Laws.{symbol-law}
 use Rattle.rules.specs.Numbered.{ruleOf}
 use Rattle.steps.specs.Nodes.{Node}
 use Rattle.lists.specs.All.Laws.{map-at}
-use Rattle.steps.specs.Facts.{filledFact, filledPart, factsOf}
+use Rattle.steps.specs.Facts.{filledFact, filledList, factsOf}
 use Rattle.steps.specs.Index.{IndexOf}
 use Rattle.steps.specs.Values.Loops.{NodeAt, number-read, from-rule}
 use Rattle.steps.specs.Values.Parts.{list-there, facts-many, fact-there, lists-many}
 
 -- ── a rule at a place ──
-part-inside : (u : Rule) (w i : ℕ) → i < length (listOf w u) → w < length (u .lists)
-part-inside u w i l =
-    by-size w (length (u .lists)) (λ h. h)
+part-inside : (u : Rule) (list i : ℕ) → i < length (listOf list u) → list < length (u .lists)
+part-inside u list i l =
+    by-size list (length (u .lists)) (λ h. h)
     (λ h. absurd (omega (arith, ap length (List·getD-eq-default (u .lists) [] h))))
 
 module _ (src arities ars : List ℕ) (place : ℕ) (u : Rule) (h : Here (rule src arities ars) u place) where
-  pub rule-counted : (w list r : ℕ) → w < 3 → list ≡ listPlace src arities ars place w → r ≡ valueOf (below src 9 list) → r ≡ length (listOf w u)
-  rule-counted w list r l hl hr = hr ∙ facts-many src arities ars list (listOf w u) (list-there src arities ars place u h w list l hl)
+  pub rule-counted : (list start r : ℕ) → list < 3 → start ≡ listPlace src arities ars place list → r ≡ valueOf (below src 9 start) → r ≡ length (listOf list u)
+  rule-counted list start r l hl hr = hr ∙ facts-many src arities ars start (listOf list u) (list-there src arities ars place u h list start l hl)
 
-  module _ (w i list f : ℕ) (l : i < length (listOf w u)) (hl : list ≡ listPlace src arities ars place w) (hf : f ≡ factPlace src arities ars list i) where
-    pub part-fact : Here (fact src arities ars) (getD (listOf w u) i noFact) f
+  module _ (list i start f : ℕ) (l : i < length (listOf list u)) (hl : start ≡ listPlace src arities ars place list) (hf : f ≡ factPlace src arities ars start i) where
+    pub part-fact : Here (fact src arities ars) (getD (listOf list u) i noFact) f
     part-fact =
-        let m : w < 3 = omega (arith, part-inside u w i l, lists-many src arities ars place u h) in
-        fact-there src arities ars list (listOf w u) (list-there src arities ars place u h w list m hl) i f l hf
+        let m : list < 3 = omega (arith, part-inside u list i l, lists-many src arities ars place u h) in
+        fact-there src arities ars start (listOf list u) (list-there src arities ars place u h list start m hl) i f l hf
 
-    pub rule-symbol : (y : ℕ) → y ≡ valueOf (below src (length ars) f) → y ≡ getD (listOf w u) i noFact .symbol
-    rule-symbol y hy = hy ∙ symbol-law src arities ars f (getD (listOf w u) i noFact) part-fact
+    pub rule-symbol : (y : ℕ) → y ≡ valueOf (below src (length ars) f) → y ≡ getD (listOf list u) i noFact .symbol
+    rule-symbol y hy = hy ∙ symbol-law src arities ars f (getD (listOf list u) i noFact) part-fact
 
 -- ── a node's facts are its rule's, filled in ──
-module _ (p : Protocol) (x : Node) (u : Rule) (known : ruleOf p (x .rule) ≡ some u) (w : ℕ) where
-  facts-are : factsOf p w x ≡ map (filledFact (x .values)) (listOf w u)
-  facts-are = ap (filledPart w (x .values)) known
+module _ (p : Protocol) (x : Node) (u : Rule) (known : ruleOf p (x .rule) ≡ some u) (list : ℕ) where
+  facts-are : factsOf p list x ≡ map (filledFact (x .values)) (listOf list u)
+  facts-are = ap (filledList list (x .values)) known
 
-  pub facts-counted : length (factsOf p w x) ≡ length (listOf w u)
-  facts-counted = ap length facts-are ∙ length-map (listOf w u) (filledFact (x .values))
+  pub facts-counted : length (factsOf p list x) ≡ length (listOf list u)
+  facts-counted = ap length facts-are ∙ length-map (listOf list u) (filledFact (x .values))
 
-  pub fact-filled : (i : ℕ) → i < length (factsOf p w x) → getD (factsOf p w x) i noFact ≡ filledFact (x .values) (getD (listOf w u) i noFact)
+  pub fact-filled : (i : ℕ) → i < length (factsOf p list x) → getD (factsOf p list x) i noFact ≡ filledFact (x .values) (getD (listOf list u) i noFact)
   fact-filled i l =
       ap (λ (fs : List Fact). getD fs i noFact) facts-are
-      ∙ map-at (filledFact (x .values)) (listOf w u) i noFact noFact (omega (arith, facts-counted))
+      ∙ map-at (filledFact (x .values)) (listOf list u) i noFact noFact (omega (arith, facts-counted))
 
 -- ── the rule of a number, under the tables of its protocol ──
 pub record NumberedRule (protocol arities rules : List ℕ) (nr number : ℕ) (p : Protocol) (u : Rule) : Type 0 where

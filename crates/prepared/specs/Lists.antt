@@ -52,43 +52,43 @@ entryAt t at k = getD t (at + 2 * k) 0 * placeBase + getD t (at + 2 * k + 1) 0
 abbrev pub ListAt : List ℕ → Rule → ℕ → ℕ → Type 0
 ListAt q u w place = Here (facts q (slotsOf q) (aritiesOf q)) (listOf w u) place
 
--- a prepared protocol and the places of its rules' lists: list w of rule n is entry 3 n + w
+-- a prepared protocol and the places of its rules' lists: a list of rule n is entry 3 n + its number
 pub record Tabled (p : List ℕ) (P : Protocol) : Type 0 where
   pub long : length p ≡ wholeLength
   pub body : Prepared (bodyOf p) P
-  pub lists : (n w : ℕ) (u : Rule) → n < ruleCount → w < listCount → ruleOf P n ≡ some u → ListAt (bodyOf p) u w (entryAt p preparedLength (listCount * n + w))
+  pub lists : (n list : ℕ) (u : Rule) → n < ruleCount → list < listCount → ruleOf P n ≡ some u → ListAt (bodyOf p) u list (entryAt p preparedLength (listCount * n + list))
 
 -- ── one list ──
-pub record ListOf (q : List ℕ) (n w r : ℕ) : Type 0 where
+pub record ListOf (q : List ℕ) (n list r : ℕ) : Type 0 where
   pub small : r < placeLimit
-  pub is : (P : Protocol) (u : Rule) → Prepared q P → ruleOf P n ≡ some u → ListAt q u w r
+  pub is : (P : Protocol) (u : Rule) → Prepared q P → ruleOf P n ≡ some u → ListAt q u list r
 
 module _ (q : List ℕ) (P : Protocol) (f : Prepared q P) where
-  list-there : (w : ℕ) → w < listCount → (u : Rule) (place r : ℕ) → RuleAt q u place → r ≡ listPlace q (slotsOf q) (aritiesOf q) place w → ListAt q u w r
-  list-there w small u place r h e =
-      subst (ListAt q u w) (sym e)
-      (list-law q (slotsOf q) (aritiesOf q) place u (rule-layout q (slotsOf q) (aritiesOf q) place u h) w small)
+  list-there : (list : ℕ) → list < listCount → (u : Rule) (place r : ℕ) → RuleAt q u place → r ≡ listPlace q (slotsOf q) (aritiesOf q) place list → ListAt q u list r
+  list-there list small u place r h e =
+      subst (ListAt q u list) (sym e)
+      (list-law q (slotsOf q) (aritiesOf q) place u (rule-layout q (slotsOf q) (aritiesOf q) place u h) list small)
 
-  list-small : Bytes q → (u : Rule) (w r : ℕ) → ListAt q u w r → r < placeLimit
-  list-small bytes u w r h =
-      let s = facts-exact q bytes (slotsOf q) (aritiesOf q) (omega (arith, arities-length q (f .long))) .form (listOf w u) r (h .next) (h .reads) .1 in
-      omega (arith, f .long, s .ends, stands-within s (listed-some (listOf w u)))
+  list-small : Bytes q → (u : Rule) (list r : ℕ) → ListAt q u list r → r < placeLimit
+  list-small bytes u list r h =
+      let s = facts-exact q bytes (slotsOf q) (aritiesOf q) (omega (arith, arities-length q (f .long))) .form (listOf list u) r (h .next) (h .reads) .1 in
+      omega (arith, f .long, s .ends, stands-within s (listed-some (listOf list u)))
     where
       listed-some : (fs : List Fact) → 0 < length (listed encodeFact fs)
       listed-some fs = omega (arith, groups-some (length fs), length-append (groups (length fs)) (flat encodeFact fs))
 
-module _ (q : List ℕ) (ready : Asks (Prepared q)) (bytes : Bytes q) (n w : ℕ) (small : w < listCount) {found : Found}
+module _ (q : List ℕ) (ready : Asks (Prepared q)) (bytes : Bytes q) (n list : ℕ) (small : list < listCount) {found : Found}
     (x : (P : Protocol) → Prepared q P → Finds q P n found) where
-  pub list-found : (place r : ℕ) → found ≡ fd.At place → r ≡ listPlace q (slotsOf q) (aritiesOf q) place w → ListOf q n w r
+  pub list-found : (place r : ℕ) → found ≡ fd.At place → r ≡ listPlace q (slotsOf q) (aritiesOf q) place list → ListOf q n list r
   list-found place r e h =
       let y : (P : Protocol) → Prepared q P → RuleFound q P n place = λ P f. subst (Finds q P n) e (x P f) in
       let g = y (ready .0) (ready .1) in
       record {
-        small = list-small q (ready .0) (ready .1) bytes (g .its) w r (list-there q (ready .0) (ready .1) w small (g .its) place r (g .here) h);
-        is = λ P u f is. list-there q P f w small u place r (found-here q P n place (y P f) u is) h;
+        small = list-small q (ready .0) (ready .1) bytes (g .its) list r (list-there q (ready .0) (ready .1) list small (g .its) place r (g .here) h);
+        is = λ P u f is. list-there q P f list small u place r (found-here q P n place (y P f) u is) h;
       }
 
-  pub list-none : found ≡ fd.Nothing → ListOf q n w 0
+  pub list-none : found ≡ fd.Nothing → ListOf q n list 0
   list-none e = record {
     small = omega arith;
     is = λ P u f is. absurd (Option·none-ne-some u (sym (subst (Finds q P n) e (x P f)) ∙ is));

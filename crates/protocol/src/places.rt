@@ -68,7 +68,7 @@ pub fn list_at(file: &[u8], arities: &[u8], ars: &[u8], at: usize, list: usize) 
     ensures { λ r. ⌜ r ≡ listPlace (now (file .entry)) (now (arities .entry)) (now (ars .entry)) at list ⌝ }
 {
     match walks::sorts_at(file, at) {
-        Number::Value(_, e) => end_of(walks::some_parts(
+        Number::Value(_, e) => end_of(walks::some_lists(
             file,
             arities,
             ars,

@@ -139,7 +139,7 @@ pub fn some_facts(
 }
 
 // A count and that many facts: the premises, the actions or the conclusions of a rule.
-pub fn one_part(
+pub fn one_list(
     file: &[u8],
     arities: &[u8],
     ars: &[u8],
@@ -158,7 +158,7 @@ pub fn one_part(
 }
 
 // n lists of facts.
-pub fn some_parts(
+pub fn some_lists(
     file: &[u8],
     arities: &[u8],
     ars: &[u8],
@@ -175,7 +175,7 @@ pub fn some_parts(
     let mut j: usize = 0;
     let mut found = false;
     while j < n {
-        match one_part(file, arities, ars, i, kind, lo, hi) {
+        match one_list(file, arities, ars, i, kind, lo, hi) {
             Seen::End(e, h) => {
                 i = e;
                 found = found | h;
@@ -233,17 +233,17 @@ pub fn one_layout(
     ensures { λ r. ⌜ r ≡ seen (ruleAsks kind lo hi) (layout (now (file .entry)) (now (arities .entry)) (now (ars .entry)) at) ⌝ }
 {
     match sorts_at(file, at) {
-        Number::Value(_, e) => some_parts(file, arities, ars, e, figures::LISTS, kind, lo, hi),
+        Number::Value(_, e) => some_lists(file, arities, ars, e, figures::LISTS, kind, lo, hi),
         Number::Fault => Seen::Fault,
     }
 }
 
 // The three lists of a rule of n variables: no variable from n on stands in them.
-fn closed_parts(file: &[u8], arities: &[u8], ars: &[u8], at: usize, n: usize) -> Seen
+fn closed_lists(file: &[u8], arities: &[u8], ars: &[u8], at: usize, n: usize) -> Seen
     requires { ⌜ length (now file) ≤ longest ⌝ }
     ensures { λ r. ⌜ r ≡ closed (seen (anyBy (anyBy (asks variableTag n numberLimit))) (many (facts (now (file .entry)) (now (arities .entry)) (now (ars .entry))) listCount at)) ⌝ }
 {
-    match some_parts(
+    match some_lists(
         file,
         arities,
         ars,
@@ -269,7 +269,7 @@ pub fn one_rule(file: &[u8], arities: &[u8], ars: &[u8], at: usize) -> Seen
     ensures { λ r. ⌜ r ≡ ended (rule (now (file .entry)) (now (arities .entry)) (now (ars .entry)) at) ⌝ }
 {
     match sorts_at(file, at) {
-        Number::Value(n, e) => closed_parts(file, arities, ars, e, n as usize),
+        Number::Value(n, e) => closed_lists(file, arities, ars, e, n as usize),
         Number::Fault => Seen::Fault,
     }
 }

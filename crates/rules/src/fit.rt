@@ -56,7 +56,7 @@ fn list_asks(
     ensures { λ b. ⌜ OfRule (now (file .entry)) (now (arities .entry)) (now (ars .entry)) at (λ (r : Rule). b ≡ anyBy (asks kind lo hi) (listOf list r)) ⌝ }
 {
     let start = places::list_at(file, arities, ars, at, list);
-    hit_of(walks::one_part(file, arities, ars, start, kind, lo, hi))
+    hit_of(walks::one_list(file, arities, ars, start, kind, lo, hi))
 }
 
 // Whether a fact of the rule at a place meets the test.

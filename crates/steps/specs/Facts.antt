@@ -33,9 +33,9 @@ abbrev pub filledFact : List Term → Fact → Fact
 filledFact vs f = fact-of (f .symbol) (map (sub (valueAt vs)) (f .terms))
 
 -- where there is a rule, its list of a number
-abbrev pub filledPart : ℕ → List Term → Option Rule → List Fact
-filledPart list vs none = []
-filledPart list vs (some u) = map (filledFact vs) (listOf list u)
+abbrev pub filledList : ℕ → List Term → Option Rule → List Fact
+filledList list vs none = []
+filledList list vs (some u) = map (filledFact vs) (listOf list u)
 
 -- the number of a fresh name
 abbrev pub freshNumber : Term → Option ℕ
@@ -47,7 +47,7 @@ freshNumber (app f ts) = none
 module _ (p : Protocol) where
   -- "A node's facts are its rule's, with the node's values in place of the variables": 0 premises, 1 actions, 2 conclusions
   abbrev pub factsOf : ℕ → Node → List Fact
-  factsOf list x = filledPart list (x .values) (ruleOf p (x .rule))
+  factsOf list x = filledList list (x .values) (ruleOf p (x .rule))
 
   -- "The trace gives each node number, from 1, the actions of that node, perhaps none ..; other numbers have none."
   abbrev pub actionsOf : Option Node → List Fact

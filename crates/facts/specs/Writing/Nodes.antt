@@ -30,7 +30,7 @@ use Rattle.rules.specs.Numbered.Limits.{rule-within}
 use Rattle.lists.specs.All.Laws.{all-map, all-both, all-at, map-all, none-all}
 use Rattle.steps.specs.Nodes.{Node, NodeWithin}
 use Rattle.steps.specs.Facts.{valueAt}
-use Rattle.steps.specs.Facts.Formed.{part-within}
+use Rattle.steps.specs.Facts.Formed.{list-within}
 use Rattle.facts.specs.Writing.{FactJob, factRoom}
 use Rattle.facts.specs.Writing.Asked.{fillable-job}
 use Rattle.steps.specs.Values.{ValueFits, NodeRight}
@@ -94,25 +94,25 @@ module _ (p : Protocol) (fit : Within p) (x : Node) (b : NodeWithin p x) (r : No
       (λ fs h. none-all (leafIn 0 (length (b .is .sorts)) numberLimit) fs h) (b .is .lists)
       (none-all (anyBy (leafIn 0 (length (b .is .sorts)) numberLimit)) (b .is .lists) (not-split _ (lawful .bound)))
 
-  node-few : (w : ℕ) → All (λ f. length (f .terms) ≤ 8) (listOf w (b .is))
-  node-few w =
+  node-few : (list : ℕ) → All (λ f. length (f .terms) ≤ 8) (listOf list (b .is))
+  node-few list =
       all-map (FactWithin (tagArities (p .functions)) (factArities (p .symbols))) (λ f. length (f .terms) ≤ 8)
-      (λ f q. omega (arith, q .takes, arities-few (p .symbols) (fit .symbols) (f .symbol))) (listOf w (b .is)) (part-within p (b .is) lawful w)
+      (λ f q. omega (arith, q .takes, arities-few (p .symbols) (fit .symbols) (f .symbol))) (listOf list (b .is)) (list-within p (b .is) lawful list)
 
-  -- fact i of its list w, which stands at a place of src, can be written with its values, which stand at their places in file
+  -- fact i of one of its lists, which stands at a place of src, can be written with its values, which stand at their places in file
   pub node-job :
-      (arities ars file starts src : List ℕ) (place w i n o : ℕ) → arities ≡ tagArities (p .functions) → Bytes file → Bytes src
-      → Placed (term file arities) noTerm starts (x .values) (length (b .is .sorts)) → Here (fact src arities ars) (getD (listOf w (b .is)) i noFact) place
+      (arities ars file starts src : List ℕ) (place list i n o : ℕ) → arities ≡ tagArities (p .functions) → Bytes file → Bytes src
+      → Placed (term file arities) noTerm starts (x .values) (length (b .is .sorts)) → Here (fact src arities ars) (getD (listOf list (b .is)) i noFact) place
       → length (b .is .sorts) ≤ length starts → length file ≤ longest → length src ≤ longest → o + factRoom ≤ n → n ≤ longest
-      → FactJob arities ars file starts src place n o (x .values) (getD (listOf w (b .is)) i noFact)
-  node-job arities ars file starts src place w i n o same bs bsrc placed here many short short-src room short-out =
-      fillable-job arities ars file starts src place (x .values) (length (b .is .sorts)) (getD (listOf w (b .is)) i noFact)
+      → FactJob arities ars file starts src place n o (x .values) (getD (listOf list (b .is)) i noFact)
+  node-job arities ars file starts src place list i n o same bs bsrc placed here many short short-src room short-out =
+      fillable-job arities ars file starts src place (x .values) (length (b .is .sorts)) (getD (listOf list (b .is)) i noFact)
       (record { table = subst Builtins (sym same) (declared (p .functions)); bytes = bs; short = short; placed = placed; many = many; own = node-own })
       (record {
         bytes = bsrc;
         short = short-src;
         here = here;
-        bound = all-at Bound noFact refl (listOf w (b .is)) (all-at (All Bound) [] tt (b .is .lists) node-bound w) i;
-        few = all-at (λ f. length (f .terms) ≤ 8) noFact (omega arith) (listOf w (b .is)) (node-few w) i;
-        small = all-at Small noFact tt (listOf w (b .is)) (all-at (All Small) [] tt (b .is .lists) node-small w) i;
+        bound = all-at Bound noFact refl (listOf list (b .is)) (all-at (All Bound) [] tt (b .is .lists) node-bound list) i;
+        few = all-at (λ f. length (f .terms) ≤ 8) noFact (omega arith) (listOf list (b .is)) (node-few list) i;
+        small = all-at Small noFact tt (listOf list (b .is)) (all-at (All Small) [] tt (b .is .lists) node-small list) i;
       }) n o room short-out

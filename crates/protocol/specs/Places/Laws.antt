@@ -83,14 +83,14 @@ module _ (file arities ars : List ℕ) where
         (then-got (below file variableLimit at) _ hn ∙ then-got (many (below file sortCount) v c) _ (y .before)
         ∙ ap (below file sortCount) (sym (ap placeOf (y .before))) ∙ z .reads))
 
-    -- list w stands at its place
-    pub list-law : (w : ℕ) → w < listCount → Here (facts file arities ars) (listOf w r) (listPlace file arities ars at w)
+    -- a list stands at its place
+    pub list-law : (list : ℕ) → list < listCount → Here (facts file arities ars) (listOf list r) (listPlace file arities ars at list)
     unfolding listPlace
-    list-law w l =
-        let h = nth-here (facts file arities ars) [] 3 (rule-parts .behind) (stands .next) w (r .lists) (rule-parts .lists) l in
+    list-law list l =
+        let h = nth-here (facts file arities ars) [] 3 (rule-parts .behind) (stands .next) list (r .lists) (rule-parts .lists) l in
         record {
           next = h .next;
-          reads = ap (λ (o : Read ℕ). facts file arities ars (placeOf (andThen o (λ n e. many (facts file arities ars) w e)))) sorts-are ∙ h .reads;
+          reads = ap (λ (o : Read ℕ). facts file arities ars (placeOf (andThen o (λ n e. many (facts file arities ars) list e)))) sorts-are ∙ h .reads;
         }
 
   -- ── what stands in a list ──

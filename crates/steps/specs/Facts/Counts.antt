@@ -14,12 +14,12 @@ use Rattle.protocol.specs.Protocol.{Rule, Protocol, fact-of, listOf, frSymbol, 
 use Rattle.protocol.specs.Protocol.Limits.{FactsWithin, Within}
 use Rattle.rules.specs.Numbered.Limits.{rule-within}
 use Rattle.steps.specs.Nodes.{Node, NodeWithin}
-use Rattle.steps.specs.Facts.{filledFact, filledPart, factsOf, isLinear}
+use Rattle.steps.specs.Facts.{filledFact, filledList, factsOf, isLinear}
 
 -- "each a count (8) and facts": of built-in rules too
 pub facts-few : (p : Protocol) → Within p → (x : Node) → NodeWithin p x → (list : ℕ) → length (factsOf p list x) ≤ mostFacts
 facts-few p fit x b list =
-    subst (λ (o : Option Rule). length (filledPart list (x .values) o) ≤ mostFacts) (sym (b .known))
+    subst (λ (o : Option Rule). length (filledList list (x .values) o) ≤ mostFacts) (sym (b .known))
     (omega (arith, length-map (listOf list (b .is)) (filledFact (x .values)), few))
   where
     few : length (listOf list (b .is)) ≤ mostFacts

@@ -24,7 +24,7 @@ use Rattle.rules.specs.Numbered.Limits.{rule-within}
 use Rattle.protocol.specs.Protocol.Limits.{TermWithin, FactWithin, FactsWithin, RuleWithin, Within}
 use Rattle.lists.specs.All.Laws.{all-map, all-both, all-at, map-all, none-all}
 use Rattle.steps.specs.Nodes.{Node, NodeWithin}
-use Rattle.steps.specs.Facts.{valueAt, filledFact, filledPart, factsOf, SameFact, sameFact}
+use Rattle.steps.specs.Facts.{valueAt, filledFact, filledList, factsOf, SameFact, sameFact}
 use Rattle.steps.specs.Facts.Laws.{fact-decides}
 
 -- a symbol that is there, as many arguments as it takes, each well formed
@@ -61,34 +61,34 @@ module _ (p : Protocol) where
         (λ t b. sub-formed ar (valueAt vs) t (b .formed) (λ v o. value-formed vs w v)) (f .terms) (g .each);
   }
 
-  pub part-within : (u : Rule) → RuleWithin (tagArities (p .functions)) (factArities (p .symbols)) u → (w : ℕ) → All Fitting (listOf w u)
-  part-within u r w =
+  pub list-within : (u : Rule) → RuleWithin (tagArities (p .functions)) (factArities (p .symbols)) u → (list : ℕ) → All Fitting (listOf list u)
+  list-within u r list =
       all-at (All Fitting) [] tt (u .lists) (all-map (FactsWithin (tagArities (p .functions)) (factArities (p .symbols))) (All Fitting) (λ fs b. b .each)
       (u .lists)
-      (r .laid .each)) w
+      (r .laid .each)) list
 
 module _ (p : Protocol) (fit : Within p) where
-  pub facts-formed : (x : Node) → NodeWithin p x → (w : ℕ) → All (FactFormed p) (factsOf p w x)
-  facts-formed x b w =
-      subst (λ (o : Option Rule). All (FactFormed p) (filledPart w (x .values) o)) (sym (b .known))
-      (map-all (Fitting p) (FactFormed p) (filledFact (x .values)) (fact-formed p (x .values) (b .each)) (listOf w (b .is))
-      (part-within p (b .is) (rule-within p fit (x .rule) (b .is) (b .known)) w))
+  pub facts-formed : (x : Node) → NodeWithin p x → (list : ℕ) → All (FactFormed p) (factsOf p list x)
+  facts-formed x b list =
+      subst (λ (o : Option Rule). All (FactFormed p) (filledList list (x .values) o)) (sym (b .known))
+      (map-all (Fitting p) (FactFormed p) (filledFact (x .values)) (fact-formed p (x .values) (b .each)) (listOf list (b .is))
+      (list-within p (b .is) (rule-within p fit (x .rule) (b .is) (b .known)) list))
 
   -- of two such facts the test decides whether they are the same
   pub formed-decides : (f g : Fact) → FactFormed p f → FactFormed p g → (sameFact f g ≡ true) ↔ SameFact (arity (tagArities (p .functions))) f g
   formed-decides f g a b = fact-decides (arity (tagArities (p .functions))) (declared (p .functions)) f g (a .each) (b .each)
 
   -- without variables, if the values are
-  pub facts-ground : (x : Node) → NodeWithin p x → All Ground (x .values) → (w : ℕ) → All (λ f. All Ground (f .terms)) (factsOf p w x)
-  facts-ground x b g w =
-      subst (λ (o : Option Rule). All (λ f. All Ground (f .terms)) (filledPart w (x .values) o)) (sym (b .known))
+  pub facts-ground : (x : Node) → NodeWithin p x → All Ground (x .values) → (list : ℕ) → All (λ f. All Ground (f .terms)) (factsOf p list x)
+  facts-ground x b g list =
+      subst (λ (o : Option Rule). All (λ f. All Ground (f .terms)) (filledList list (x .values) o)) (sym (b .known))
       (map-all (λ f. Fitting p f × (leafIn 0 (length (b .is .sorts)) numberLimit f ≡ false)) (λ f. All Ground (f .terms)) (filledFact (x .values))
-      (λ f h. fact-ground (x .values) (length (b .is .sorts)) g (omega (arith, b .takes)) f (h .0) (h .1)) (listOf w (b .is))
-      (all-both (Fitting p) (λ f. leafIn 0 (length (b .is .sorts)) numberLimit f ≡ false) (listOf w (b .is)) (part-within p (b .is) fits w)
+      (λ f h. fact-ground (x .values) (length (b .is .sorts)) g (omega (arith, b .takes)) f (h .0) (h .1)) (listOf list (b .is))
+      (all-both (Fitting p) (λ f. leafIn 0 (length (b .is .sorts)) numberLimit f ≡ false) (listOf list (b .is)) (list-within p (b .is) fits list)
       (all-at (All (λ f. leafIn 0 (length (b .is .sorts)) numberLimit f ≡ false)) [] tt (b .is .lists)
       (all-map (λ fs. anyBy (leafIn 0 (length (b .is .sorts)) numberLimit) fs ≡ false) (All (λ f. leafIn 0 (length (b .is .sorts)) numberLimit f ≡ false))
       (λ fs h. none-all (leafIn 0 (length (b .is .sorts)) numberLimit) fs h)
-      (b .is .lists) (none-all (anyBy (leafIn 0 (length (b .is .sorts)) numberLimit)) (b .is .lists) (not-split _ (fits .bound)))) w)))
+      (b .is .lists) (none-all (anyBy (leafIn 0 (length (b .is .sorts)) numberLimit)) (b .is .lists) (not-split _ (fits .bound)))) list)))
     where
       fits : RuleWithin (tagArities (p .functions)) (factArities (p .symbols)) (b .is)
       fits = rule-within p fit (x .rule) (b .is) (b .known)

@@ -1,7 +1,7 @@
 use borrow.Author.Needs.{needs}
 use native.Mathlib.Omega.{arith}
 use Prim.Native.Nat.{_-_, _≤_}
-use Rattle.cases_facts.specs.Table.{IsFact, FactsListed, noPlace, filled-none}
+use Rattle.cases_facts.specs.Table.{IsFact, FactsListed, noFactId, filled-none}
 use Rattle.facts.specs.Owed.{right-node}
 use Rattle.cases_facts.proofs.table.facts_of.Statement.{statement}
 use Rattle.cases_facts.proofs.table.facts_of.Tie as tie
@@ -16,7 +16,7 @@ abbrev μ-loop : tie.MeasureT-loop
 
 loop-holds : tie.Need-loop-holds Inv-loop μ-loop
 loop-holds c =
-    (omega arith, filled-none (IsFact _ _ _ _ _) noPlace 64)
+    (omega arith, filled-none (IsFact _ _ _ _ _) noFactId 64)
 
 mul-with-node : tie.Need-mul-with-node Inv-loop μ-loop
 mul-with-node c = search needs

@@ -15,8 +15,8 @@ sorts-at-requires c κs = search needs
 enum-known-e : tie.Need-enum-known-e
 enum-known-e c = search needs
 
-some-parts-requires : tie.Need-some-parts-requires
-some-parts-requires c κs = search needs
+some-lists-requires : tie.Need-some-lists-requires
+some-lists-requires c κs = search needs
 
 end-of-requires : tie.Need-end-of-requires
 end-of-requires c κs = search needs
@@ -31,7 +31,7 @@ returns c =
     let c9 = c5 .before .before .before .before in
     end-walk (anyBy (anyBy (asks 0 0 0))) (many (facts (now (c9 .args .file)) (now (c9 .args .arities)) (now (c9 .args .ars))) (c9 .args .list)
     (c3 .e .given .0 .1 .0))
-    (c .end-of .ensures) (c .before .some-parts .ensures) ∙ sym (list-got _ (now (c9 .args .arities)) (now (c9 .args .ars)) _ (c9 .args .list)
+    (c .end-of .ensures) (c .before .some-lists .ensures) ∙ sym (list-got _ (now (c9 .args .arities)) (now (c9 .args .ars)) _ (c9 .args .list)
     (sym (c5 .sorts-at .ensures) ∙ ap asRead (c3 .e .given .1)))
 
 returns-2 : tie.Need-returns-2
@@ -46,7 +46,7 @@ list-at-spec =
     (tie.spec
     sorts-at-requires
     enum-known-e
-    some-parts-requires
+    some-lists-requires
     end-of-requires
     enum-told
     returns

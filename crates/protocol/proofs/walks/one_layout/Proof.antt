@@ -12,8 +12,8 @@ sorts-at-requires c κs = search needs
 enum-known-e : tie.Need-enum-known-e
 enum-known-e c = search needs
 
-some-parts-requires : tie.Need-some-parts-requires
-some-parts-requires c κs = search needs
+some-lists-requires : tie.Need-some-lists-requires
+some-lists-requires c κs = search needs
 
 enum-told : tie.Need-enum-told
 enum-told c = search needs
@@ -22,7 +22,7 @@ returns : tie.Need-returns
 returns c =
     let c4 = c .before .before .before .before in
     let c8 = c4 .before .before .before .before in
-    c .some-parts .ensures ∙ sym (layout-got _ (now (c8 .args .arities)) (now (c8 .args .ars)) _ (c8 .args .kind) (c8 .args .lo) (c8 .args .hi)
+    c .some-lists .ensures ∙ sym (layout-got _ (now (c8 .args .arities)) (now (c8 .args .ars)) _ (c8 .args .kind) (c8 .args .lo) (c8 .args .hi)
     (sym (c4 .sorts-at .ensures) ∙ ap asRead (c .before .before .e .given .1)))
 
 returns-2 : tie.Need-returns-2
@@ -34,4 +34,4 @@ returns-2 c =
 pub one-layout-spec : {M : Type 1} → statement M
 one-layout-spec =
     tie.close
-    (tie.spec sorts-at-requires enum-known-e some-parts-requires enum-told returns returns-2)
+    (tie.spec sorts-at-requires enum-known-e some-lists-requires enum-told returns returns-2)

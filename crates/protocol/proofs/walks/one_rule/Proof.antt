@@ -12,11 +12,11 @@ sorts-at-requires c κs = search needs
 enum-known-n : tie.Need-enum-known-n
 enum-known-n c = search needs
 
-cast-closed-parts : tie.Need-cast-closed-parts
-cast-closed-parts c = search needs
+cast-closed-lists : tie.Need-cast-closed-lists
+cast-closed-lists c = search needs
 
-closed-parts-requires : tie.Need-closed-parts-requires
-closed-parts-requires c κs = search needs
+closed-lists-requires : tie.Need-closed-lists-requires
+closed-lists-requires c κs = search needs
 
 enum-told : tie.Need-enum-told
 enum-told c = search needs
@@ -25,7 +25,7 @@ returns : tie.Need-returns
 returns c =
     let c4 = c .before .before .before .before in
     let c8 = c4 .before .before .before .before in
-    c .closed-parts .ensures ∙ sym (rule-got _ (now (c8 .args .arities)) (now (c8 .args .ars)) _
+    c .closed-lists .ensures ∙ sym (rule-got _ (now (c8 .args .arities)) (now (c8 .args .ars)) _
     (sym (c4 .sorts-at .ensures) ∙ ap asRead (c .before .before .n .given .1)))
 
 returns-2 : tie.Need-returns-2
@@ -40,8 +40,8 @@ one-rule-spec =
     (tie.spec
     sorts-at-requires
     enum-known-n
-    cast-closed-parts
-    closed-parts-requires
+    cast-closed-lists
+    closed-lists-requires
     enum-told
     returns
     returns-2)

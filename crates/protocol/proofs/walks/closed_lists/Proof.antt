@@ -8,11 +8,11 @@ use mathlib.Core.Path.{ap, sym, _∙_}
 use mathlib.Core.Bool.{Bool, false}
 use denote.Ref.{now}
 use borrow.Author.Needs.{needs}
-use Rattle.protocol.proofs.walks.closed_parts.Statement.{statement}
-use Rattle.protocol.proofs.walks.closed_parts.Tie as tie
+use Rattle.protocol.proofs.walks.closed_lists.Statement.{statement}
+use Rattle.protocol.proofs.walks.closed_lists.Tie as tie
 
-some-parts-requires : tie.Need-some-parts-requires
-some-parts-requires c κs = search needs
+some-lists-requires : tie.Need-some-lists-requires
+some-lists-requires c κs = search needs
 
 enum-known-e : tie.Need-enum-known-e
 enum-known-e c = search needs
@@ -23,7 +23,7 @@ returns c =
     let c4 = c .before .before .before .before in
     let c8 = c4 .before .before .before .before in
     ap (λ (b : Bool). pick b sn.Fault (sn.End (c .before .before .e .given .0 .0) false)) (sym (c .if1 .taken)) ∙ parts-by (c8 .args .n)
-    (many (facts (now (c8 .args .file)) (now (c8 .args .arities)) (now (c8 .args .ars))) 3 (c8 .args .at)) (c4 .some-parts .ensures) _ _
+    (many (facts (now (c8 .args .file)) (now (c8 .args .arities)) (now (c8 .args .ars))) 3 (c8 .args .at)) (c4 .some-lists .ensures) _ _
     (c .before .before .e .given .1)
 
 enum-told : tie.Need-enum-told
@@ -35,7 +35,7 @@ returns-2 c =
     let c4 = c .before .before .before .before in
     let c8 = c4 .before .before .before .before in
     ap (λ (b : Bool). pick b sn.Fault (sn.End (c .before .before .e .given .0 .0) false)) (sym (c .if1 .left)) ∙ parts-by (c8 .args .n)
-    (many (facts (now (c8 .args .file)) (now (c8 .args .arities)) (now (c8 .args .ars))) 3 (c8 .args .at)) (c4 .some-parts .ensures) _ _
+    (many (facts (now (c8 .args .file)) (now (c8 .args .arities)) (now (c8 .args .ars))) 3 (c8 .args .at)) (c4 .some-lists .ensures) _ _
     (c .before .before .e .given .1)
 
 returns-3 : tie.Need-returns-3
@@ -43,8 +43,8 @@ unfolding numberLimit
 returns-3 c =
     let c6 = c .before .before .before .before .before .before in
     ap closed (sym (c .enum-told .given .1)) ∙ parts-closed (c6 .args .n) (many (facts (now (c6 .args .file)) (now (c6 .args .arities)) (now (c6 .args .ars))) 3
-    (c6 .args .at)) (c .before .before .some-parts .ensures)
+    (c6 .args .at)) (c .before .before .some-lists .ensures)
 
-pub closed-parts-spec : {M : Type 1} → statement M
-closed-parts-spec =
-    tie.close (tie.spec some-parts-requires enum-known-e returns enum-told returns-2 returns-3)
+pub closed-lists-spec : {M : Type 1} → statement M
+closed-lists-spec =
+    tie.close (tie.spec some-lists-requires enum-known-e returns enum-told returns-2 returns-3)

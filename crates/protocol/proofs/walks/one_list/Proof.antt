@@ -4,8 +4,8 @@ use Rattle.lists.specs.Lists.{anyBy}
 use mathlib.Core.Path.{ap, sym, _∙_}
 use denote.Ref.{now}
 use borrow.Author.Needs.{needs}
-use Rattle.protocol.proofs.walks.one_part.Statement.{statement}
-use Rattle.protocol.proofs.walks.one_part.Tie as tie
+use Rattle.protocol.proofs.walks.one_list.Statement.{statement}
+use Rattle.protocol.proofs.walks.one_list.Tie as tie
 
 below-requires : tie.Need-below-requires
 below-requires c κs = search needs
@@ -35,8 +35,8 @@ returns-2 c =
     sym (ap (seen (anyBy (asks (c6 .args .kind) (c6 .args .lo) (c6 .args .hi)))) (facts-fault _ (now (c6 .args .arities)) (now (c6 .args .ars)) _
     (sym (c .before .before .below .ensures) ∙ ap asRead (c .enum-told .given .1))))
 
-pub one-part-spec : {M : Type 1} → statement M
-one-part-spec =
+pub one-list-spec : {M : Type 1} → statement M
+one-list-spec =
     tie.close
     (tie.spec
     below-requires

@@ -9,8 +9,8 @@ use mathlib.Core.Path.{_≡_, ap, sym, _∙_}
 use Prim.Native.Nat.{ℕ, _-_, _≤_}
 use denote.Ref.{now}
 use native.Mathlib.Omega.{arith}
-use Rattle.protocol.proofs.walks.some_parts.Statement.{statement}
-use Rattle.protocol.proofs.walks.some_parts.Tie as tie
+use Rattle.protocol.proofs.walks.some_lists.Statement.{statement}
+use Rattle.protocol.proofs.walks.some_lists.Tie as tie
 
 abbrev Inv-loop : tie.InvT-loop
 Inv-loop file arities ars at n kind lo hi i₀ j₀ found₀ i j found =
@@ -24,8 +24,8 @@ loop-holds : tie.Need-loop-holds Inv-loop μ-loop
 loop-holds c =
     (search needs, walk-none _ _ _)
 
-one-part-requires : tie.Need-one-part-requires Inv-loop μ-loop
-one-part-requires c κs = search needs
+one-list-requires : tie.Need-one-list-requires Inv-loop μ-loop
+one-list-requires c κs = search needs
 
 enum-known-e : tie.Need-enum-known-e Inv-loop μ-loop
 enum-known-e c = search needs
@@ -43,7 +43,7 @@ loop-again c =
     let c9 = c5 .before .before .before .before in (
       search needs,
       walk-more (facts (now (c9 .args .file)) (now (c9 .args .arities)) (now (c9 .args .ars)))
-          (anyBy (asks (c9 .args .kind) (c9 .args .lo) (c9 .args .hi))) _ _ _ _ _ _ (c5 .loop .inv .1) (sym (c3 .one-part .ensures) ∙ c .before .e .given .1),
+          (anyBy (asks (c9 .args .kind) (c9 .args .lo) (c9 .args .hi))) _ _ _ _ _ _ (c5 .loop .inv .1) (sym (c3 .one-list .ensures) ∙ c .before .e .given .1),
     )
 
 enum-told : tie.Need-enum-told Inv-loop μ-loop
@@ -56,7 +56,7 @@ returns c =
     let c8 = c4 .before .before .before .before in
     sym (walk-stop (facts (now (c8 .args .file)) (now (c8 .args .arities)) (now (c8 .args .ars))) (anyBy (asks (c8 .args .kind) (c8 .args .lo) (c8 .args .hi)))
     _ _
-    _ _ _ (c4 .loop .inv .1) (sym (c .before .before .one-part .ensures) ∙ c .enum-told .given .1) (c3 .loop-test .taken))
+    _ _ _ (c4 .loop .inv .1) (sym (c .before .before .one-list .ensures) ∙ c .enum-told .given .1) (c3 .loop-test .taken))
 
 returns-2 : tie.Need-returns-2 Inv-loop μ-loop
 returns-2 c =
@@ -65,14 +65,14 @@ returns-2 c =
     sym (ap (λ (k : ℕ). seen (anyBy (anyBy (asks (c5 .args .kind) (c5 .args .lo) (c5 .args .hi))))
     (many (facts (now (c5 .args .file)) (now (c5 .args .arities)) (now (c5 .args .ars))) k (c5 .args .at))) (sym m) ∙ c .before .loop .inv .1)
 
-pub some-parts-spec : {M : Type 1} → statement M
-some-parts-spec =
+pub some-lists-spec : {M : Type 1} → statement M
+some-lists-spec =
     tie.close
     (tie.spec
     Inv-loop
     μ-loop
     loop-holds
-    one-part-requires
+    one-list-requires
     enum-known-e
     add-j
     loop-less
