@@ -20,6 +20,15 @@ const TWO_GROUPS: u32 = 128;
 // The least whose number takes three groups.
 const THREE_GROUPS: u32 = 16384;
 
+// Their numbers, and what stands for none of them.
+const FIRST: usize = 1;
+
+const SECOND: usize = 2;
+
+const THIRD: usize = 3;
+
+const NO_NAME: usize = 0;
+
 // Ends a list of numbers.
 pub fn show_bar() {
     case_file::show_text(b" |");
@@ -154,15 +163,15 @@ fn public_name(
     let two = Public(TWO_GROUPS);
     let three = Public(THREE_GROUPS);
     if compare::is_public(out, file, protocol, arities, ars, rules, nr, x, i, one) {
-        return 1;
+        return FIRST;
     }
     if compare::is_public(out, file, protocol, arities, ars, rules, nr, x, i, two) {
-        return 2;
+        return SECOND;
     }
     if compare::is_public(out, file, protocol, arities, ars, rules, nr, x, i, three) {
-        return 3;
+        return THIRD;
     }
-    0
+    NO_NAME
 }
 
 // Of each argument.

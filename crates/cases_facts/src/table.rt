@@ -2,6 +2,7 @@
 ghost use Prim.Native.Nat.{_≤_, _<_};
 ghost use lib.ListN.{length};
 ghost use Rattle.lists.specs.Asks.{Asks, Asks₂};
+ghost use Rattle.protocol.specs.Figures.{listCount};
 ghost use Rattle.steps.specs.Values.Filled.{ArityTable};
 ghost use Rattle.facts.specs.Owed.{RightNode, RightNodes};
 ghost use Rattle.cases_facts.specs.Table.{IsFact, FactsListed, IsArgument, ArgumentsListed};
@@ -61,7 +62,7 @@ fn with_list(
     node: usize,
     list: usize,
 ) -> Facts
-    requires { ⌜ (list < 3) × Asks₂ (RightNode (now protocol) (now arities) (now rules) nr (now file) node) × ArityTable (now protocol) (now arities) (now rules) nr (now ars) × FactsListed (now protocol) (now arities) (now rules) nr (now file) before ⌝ }
+    requires { ⌜ (list < listCount) × Asks₂ (RightNode (now protocol) (now arities) (now rules) nr (now file) node) × ArityTable (now protocol) (now arities) (now rules) nr (now ars) × FactsListed (now protocol) (now arities) (now rules) nr (now file) before ⌝ }
     ensures { λ r. ⌜ FactsListed (now (protocol .entry)) (now (arities .entry)) (now (rules .entry)) nr (now (file .entry)) r ⌝ }
 {
     let count = counts::fact_count(file, protocol, arities, ars, rules, nr, node, list);
