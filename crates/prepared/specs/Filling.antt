@@ -13,7 +13,7 @@ use Rattle.rules.specs.declared.fit.FitVerdict.{FitVerdict}
 use Rattle.rules.specs.declared.fit.FitVerdict.the-variants as jd
 use Rattle.rules.specs.Numbered.{ruleRoom}
 use Rattle.prepared.specs.Sections.{builtinCount, fileLimit, placesAt, rulesAt, fileAt, cellAt, builtinAt, placeBase}
-use Rattle.prepared.specs.Prepared.{placeAt, Prepared}
+use Rattle.prepared.specs.Prepared.{placeAt, Body}
 -- bytes that stand somewhere; lists filled up with 255
 pub mod Lists
 -- one rule number after another
@@ -73,12 +73,12 @@ pub record Rows {arities places : List ℕ} {nr : ℕ} (f : Source arities place
   pub before : (i : ℕ) → i < placesAt → getD p′ i 0 ≡ getD p i 0
 
 -- ── what is promised ──
-pub record PreparedAs (file p : List ℕ) : Type 0 where
+pub record BodyAs (file p : List ℕ) : Type 0 where
   pub its : Protocol
   pub reads : protocol file ≡ got its (length file)
-  pub is : Prepared p its
+  pub is : Body p its
 
-abbrev pub WhereSound : List ℕ → FitVerdict → List ℕ → Type 0
-WhereSound file (jd.Sound ns nr) p = PreparedAs file p
-WhereSound file (jd.Broken k) p = Unit {0}
-WhereSound file jd.Fault p = Unit {0}
+abbrev pub WhereBody : List ℕ → FitVerdict → List ℕ → Type 0
+WhereBody file (jd.Sound ns nr) p = BodyAs file p
+WhereBody file (jd.Broken k) p = Unit {0}
+WhereBody file jd.Fault p = Unit {0}

@@ -4,6 +4,7 @@ use mathlib.Core.List.{List}
 use mathlib.Core.Option.{Option, some, none, Option·some-injective, Option·none-ne-some}
 use mathlib.Core.Path.{_≡_, refl, sym, _∙_, subst}
 use native.Mathlib.Omega.{arith}
+use Rattle.lists.specs.Choice.{by-size}
 use Rattle.lists.specs.Lists.Laws.{at-outside}
 use Rattle.protocol.specs.Protocol.{Rule, Protocol}
 use Rattle.protocol.specs.Protocol.Limits.{Within}
@@ -12,7 +13,7 @@ use Rattle.rules.specs.Numbered.Found.{of-own}
 use Rattle.prepared.specs.declared.finding.Found.{Found}
 use Rattle.prepared.specs.declared.finding.Found.the-variants as fd
 use Rattle.prepared.specs.Sections.{ruleCount}
-use Rattle.prepared.specs.Prepared.{placeAt, RuleAt, Entry, Prepared}
+use Rattle.prepared.specs.Prepared.{placeAt, RuleAt, Entry, Body}
 
 pub record RuleFound (p : List ℕ) (P : Protocol) (n place : ℕ) : Type 0 where
   pub its : Rule
@@ -27,8 +28,16 @@ Finds p P n fd.Nothing = ruleOf P n ≡ none
 pub rule-past : (P : Protocol) → Within P → (n : ℕ) → ruleCount ≤ n → ruleOf P n ≡ none
 rule-past P w n h = of-own P n (omega arith) ∙ at-outside (P .rules) (n - 31) (omega (arith, w .few-rules))
 
+pub rule-listed : (P : Protocol) → Within P → (n : ℕ) (u : Rule) → ruleOf P n ≡ some u → n < ruleCount
+rule-listed P w n u is =
+    by-size n ruleCount (λ h. h) (λ h. absurd (Option·none-ne-some u (sym (rule-past P w n h) ∙ is)))
+
+-- a rule stands at the place of its number
+pub rule-at : (p : List ℕ) (P : Protocol) → Body p P → (n : ℕ) (u : Rule) → ruleOf P n ≡ some u → RuleAt p u (placeAt p n)
+rule-at p P f n u is = subst (Entry p n) is (f .rules n (rule-listed P (f .within) n u is)) .here
+
 -- ── the answers ──
-module _ (p : List ℕ) (P : Protocol) (f : Prepared p P) (n : ℕ) (small : n < ruleCount) where
+module _ (p : List ℕ) (P : Protocol) (f : Body p P) (n : ℕ) (small : n < ruleCount) where
   by-entry : {C : Option Rule → Type 0} → ((o : Option Rule) → ruleOf P n ≡ o → Entry p n o → C o) → C (ruleOf P n)
   by-entry k = k (ruleOf P n) refl (f .rules n small)
 

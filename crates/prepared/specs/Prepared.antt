@@ -1,5 +1,5 @@
 -- What a prepared protocol says of its protocol.
-use Prim.Native.Nat.{ℕ, _+_, _*_, _<_}
+use Prim.Native.Nat.{ℕ, _+_, _*_, _≤_, _<_}
 use mathlib.Core.List.{List, map}
 use mathlib.Core.Option.{Option, some, none}
 use mathlib.Core.Path.{_≡_}
@@ -7,14 +7,16 @@ use lib.ListN.{length, getD, take, drop}
 use lib.Dec.{eqb}
 use Rattle.lists.specs.Choice.{pick}
 use Rattle.term.specs.Arity.{tagArities, padded}
-use Rattle.protocol.specs.Protocol.{Rule, Own, Protocol, factArities, factFlags, rule}
+use Rattle.protocol.specs.Protocol.{Rule, Own, Protocol, listOf, factArities, factFlags, facts, rule}
 use Rattle.protocol.specs.Protocol.Limits.{Within}
 use Rattle.protocol.specs.Places.{Here}
 use Rattle.rules.specs.Numbered.{ruleOf}
-use Rattle.protocol.specs.Figures.{symbolCount}
-use Rattle.prepared.specs.Sections.{slotCount, ruleCount, aritiesAt, linearsAt, cellAt, preparedLength, placeBase}
+use Rattle.protocol.specs.Figures.{symbolCount, listCount}
+use Rattle.prepared.specs.Sections.{slotCount, ruleCount, aritiesAt, linearsAt, cellAt, bodyLength, preparedLength, placeBytes, placeBase}
 -- its laws
 pub mod Laws
+-- with more bytes behind it
+pub mod Longer
 
 -- ── the sections ──
 abbrev pub slotsOf : List ℕ → List ℕ
@@ -50,10 +52,27 @@ abbrev pub Entry : List ℕ → ℕ → Option Rule → Type 0
 Entry p n (some u) = Some p u (placeAt p n)
 Entry p n none = placeAt p n ≡ 0
 
-pub record Prepared (p : List ℕ) (P : Protocol) : Type 0 where
+-- all but the places of the rules' lists
+pub record Body (p : List ℕ) (P : Protocol) : Type 0 where
   pub within : Within P
-  pub long : length p ≡ preparedLength
+  pub long : bodyLength ≤ length p
   pub slotted : slotsOf p ≡ tagArities (P .functions)
   pub tabled : aritiesOf p ≡ padded symbolCount (factArities (P .symbols))
   pub flagged : linearsOf p ≡ padded symbolCount (linears (P .symbols))
   pub rules : (n : ℕ) → n < ruleCount → Entry p n (ruleOf P n)
+
+-- entry k of a table of places that starts at a place
+abbrev pub entryAt : List ℕ → ℕ → ℕ → ℕ
+entryAt t at k = getD t (at + placeBytes * k) 0 * placeBase + getD t (at + placeBytes * k + 1) 0
+
+-- a list of rule n has entry 3 n + its number
+abbrev pub listEntry : List ℕ → ℕ → ℕ → ℕ
+listEntry p n list = entryAt p bodyLength (listCount * n + list)
+
+abbrev pub ListAt : List ℕ → Rule → ℕ → ℕ → Type 0
+ListAt p u list place = Here (facts p (slotsOf p) (aritiesOf p)) (listOf list u) place
+
+pub record Prepared (p : List ℕ) (P : Protocol) : Type 0 where
+  pub long : length p ≡ preparedLength
+  pub body : Body p P
+  pub lists : (n list : ℕ) (u : Rule) → n < ruleCount → list < listCount → ruleOf P n ≡ some u → ListAt p u list (listEntry p n list)

@@ -2,7 +2,7 @@
 use Prim.Native.Nat.{ℕ, _+_, _*_, _≤_}
 use native.Mathlib.Omega.{arith}
 use Rattle.term.specs.Tags.{tagCount}
-use Rattle.protocol.specs.Figures.{symbolCount, mostRules}
+use Rattle.protocol.specs.Figures.{symbolCount, mostRules, listCount}
 use Rattle.rules.specs.Numbered.{ruleRoom, firstOwnRule}
 
 -- ── how many ──
@@ -15,6 +15,10 @@ ruleCount = firstOwnRule + mostRules
 
 abbrev pub builtinCount : ℕ
 builtinCount = firstOwnRule
+
+-- three lists of each rule number
+abbrev pub entryCount : ℕ
+entryCount = listCount * ruleCount
 
 -- "Protocol (4,096 bytes)"
 abbrev pub fileLimit : ℕ
@@ -48,8 +52,15 @@ rulesAt = placesAt + placeBytes * ruleCount
 abbrev pub fileAt : ℕ
 fileAt = rulesAt + ruleRoom * builtinCount
 
+-- all but the places of the rules' lists, which stand behind it in two bytes each
+abbrev pub bodyLength : ℕ
+bodyLength = fileAt + fileLimit
+
+abbrev pub tableLength : ℕ
+tableLength = placeBytes * entryCount
+
 abbrev pub preparedLength : ℕ
-preparedLength = fileAt + fileLimit
+preparedLength = bodyLength + tableLength
 
 -- the two bytes of rule number n
 abbrev pub cellAt : ℕ → ℕ
@@ -66,7 +77,8 @@ pub record Apart : Type 0 where
   pub linears-end : linearsAt + symbolCount ≤ placesAt
   pub places-end : cellAt ruleCount ≤ rulesAt
   pub rules-end : builtinAt builtinCount ≤ fileAt
-  pub file-end : fileAt + fileLimit ≤ preparedLength
+  pub file-end : fileAt + fileLimit ≤ bodyLength
+  pub lists-end : bodyLength + placeBytes * entryCount ≤ preparedLength
 
 pub apart : Apart
 apart = record {
@@ -76,4 +88,5 @@ apart = record {
   places-end = omega arith;
   rules-end = omega arith;
   file-end = omega arith;
+  lists-end = omega arith;
 }

@@ -10,16 +10,13 @@ ghost use Rattle.rules.specs.Fit.{judged};
 ghost use Rattle.rules.specs.Fit.Laws.{verdictOf};
 ghost use Rattle.protocol.specs.Figures.{symbolCount};
 ghost use Rattle.rules.specs.Numbered.{ruleRoom};
-ghost use Rattle.prepared.specs.Sections.{slotCount, ruleCount, builtinCount, fileLimit, linearsAt, builtinAt, preparedLength, placeLimit};
-ghost use Rattle.prepared.specs.Prepared.{linear, Prepared};
-ghost use Rattle.prepared.specs.Filling.{Source, Laid, placed, Enters, Rows, WhereSound};
+ghost use Rattle.prepared.specs.Sections.{slotCount, ruleCount, builtinCount, fileLimit, linearsAt, builtinAt, bodyLength, placeLimit};
+ghost use Rattle.prepared.specs.Prepared.{linear, Body};
+ghost use Rattle.prepared.specs.Filling.{Source, Laid, placed, Enters, Rows, WhereBody};
 use crate::sections;
 use protocol::figures;
 use rules::fit::FitVerdict;
 use rules::numbered::FoundRule;
-
-// The last number below those of the protocol's own rules.
-const LAST_BUILTIN: usize = sections::BUILTIN_COUNT - 1;
 
 // Copies a table to a place, and 255 behind it where it is shorter than 36.
 fn put_padded(p: &mut [u8], at: usize, table: &[u8])
@@ -51,7 +48,7 @@ fn linears_into(out: &mut [u8], flags: &[u8])
 
 // Which fact symbols are linear.
 fn put_linears(p: &mut [u8], flags: &[u8])
-    requires { ⌜ (length (now p) ≡ preparedLength) × (length (now flags) ≤ symbolCount) ⌝ }
+    requires { ⌜ (length (now p) ≡ bodyLength) × (length (now flags) ≤ symbolCount) ⌝ }
     ensures { λ r. ⌜ now (p .exit) ≡ splice (now (p .entry)) linearsAt (padded symbolCount (map linear (now (flags .entry)))) ⌝ }
 {
     let mut table = [0u8; figures::SYMBOLS];
@@ -62,7 +59,7 @@ fn put_linears(p: &mut [u8], flags: &[u8])
 
 // The place of rule number n; 0 for none.
 fn put_place(p: &mut [u8], n: usize, place: usize)
-    requires { ⌜ (n < ruleCount) × (length (now p) ≡ preparedLength) × (place < placeLimit) ⌝ }
+    requires { ⌜ (n < ruleCount) × (length (now p) ≡ bodyLength) × (place < placeLimit) ⌝ }
     ensures { λ r. ⌜ now (p .exit) ≡ placed (now (p .entry)) n place ⌝ }
 {
     let at = sections::PLACES + sections::PLACE_BYTES * n;
@@ -72,7 +69,7 @@ fn put_place(p: &mut [u8], n: usize, place: usize)
 
 // The bytes of the built-in rule n, and its place.
 fn put_rule(p: &mut [u8], n: usize, rule: &[u8])
-    requires { ⌜ (n < builtinCount) × (length (now p) ≡ preparedLength) × (length (now rule) ≤ ruleRoom) ⌝ }
+    requires { ⌜ (n < builtinCount) × (length (now p) ≡ bodyLength) × (length (now rule) ≤ ruleRoom) ⌝ }
     ensures { λ r. ⌜ now (p .exit) ≡ placed (splice (now (p .entry)) (builtinAt n) (now (rule .entry))) n (builtinAt n) ⌝ }
 {
     let at = sections::RULES + rules::numbered::RULE_ROOM * n;
@@ -80,9 +77,9 @@ fn put_rule(p: &mut [u8], n: usize, rule: &[u8])
     put_place(p, n, at);
 }
 
-// A number below those of the protocol's own rules: its rule is written out, if it has one.
-fn enter_builtin(p: &mut [u8], n: usize, arities: &[u8], places: &[usize], nr: usize)
-    requires { ⌜ (n < builtinCount) × (length (now p) ≡ preparedLength) × (length (now arities) ≡ slotCount) × (nr ≤ length (now places)) × Source (now arities) (now places) nr ⌝ }
+// A rule number: its rule is written out, or stands in the file, or there is none.
+fn enter_rule(p: &mut [u8], n: usize, arities: &[u8], places: &[usize], nr: usize)
+    requires { ⌜ (n < ruleCount) × (length (now p) ≡ bodyLength) × (length (now arities) ≡ slotCount) × (nr ≤ length (now places)) × Source (now arities) (now places) nr ⌝ }
     ensures { λ r. ⌜ ((f : Source (now (arities .entry)) (now (places .entry)) nr) → Enters f (now (p .entry)) (now (p .exit)) n) ⌝ }
 {
     let mut own = [0u8; rules::numbered::RULE_ROOM];
@@ -93,33 +90,9 @@ fn enter_builtin(p: &mut [u8], n: usize, arities: &[u8], places: &[usize], nr: u
     }
 }
 
-// The number of a rule of the protocol's own, if it has so many.
-fn enter_own(p: &mut [u8], n: usize, arities: &[u8], places: &[usize], nr: usize)
-    requires { ⌜ (builtinCount ≤ n) × (n < ruleCount) × (length (now p) ≡ preparedLength) × (nr ≤ length (now places)) × Source (now arities) (now places) nr ⌝ }
-    ensures { λ r. ⌜ ((f : Source (now (arities .entry)) (now (places .entry)) nr) → Enters f (now (p .entry)) (now (p .exit)) n) ⌝ }
-{
-    let k = n - sections::BUILTIN_COUNT;
-    if k < nr {
-        put_place(p, n, sections::FILE + places[k]);
-    } else {
-        put_place(p, n, 0);
-    }
-}
-
-// A rule number.
-fn enter_rule(p: &mut [u8], n: usize, arities: &[u8], places: &[usize], nr: usize)
-    requires { ⌜ (n < ruleCount) × (length (now p) ≡ preparedLength) × (length (now arities) ≡ slotCount) × (nr ≤ length (now places)) × Source (now arities) (now places) nr ⌝ }
-    ensures { λ r. ⌜ ((f : Source (now (arities .entry)) (now (places .entry)) nr) → Enters f (now (p .entry)) (now (p .exit)) n) ⌝ }
-{
-    match n {
-        0..=LAST_BUILTIN => enter_builtin(p, n, arities, places, nr),
-        _ => enter_own(p, n, arities, places, nr),
-    }
-}
-
 // All rule numbers.
 fn enter_rules(p: &mut [u8], arities: &[u8], places: &[usize], nr: usize)
-    requires { ⌜ (length (now p) ≡ preparedLength) × (length (now arities) ≡ slotCount) × (nr ≤ length (now places)) × Source (now arities) (now places) nr ⌝ }
+    requires { ⌜ (length (now p) ≡ bodyLength) × (length (now arities) ≡ slotCount) × (nr ≤ length (now places)) × Source (now arities) (now places) nr ⌝ }
     ensures { λ r. ⌜ ((f : Source (now (arities .entry)) (now (places .entry)) nr) → Rows f (now (p .entry)) (now (p .exit)) ruleCount) ⌝ }
 {
     let mut n: usize = 0;
@@ -139,8 +112,8 @@ fn lay(
     places: &[usize],
     nr: usize,
 )
-    requires { ⌜ (length (now p) ≡ preparedLength) × (nr ≤ length (now places)) × Laid (now file) (now arities) (now ars) (now flags) (now places) nr ⌝ }
-    ensures { λ r. ⌜ ((l : Laid (now (file .entry)) (now (arities .entry)) (now (ars .entry)) (now (flags .entry)) (now (places .entry)) nr) → Prepared (now (p .exit)) (l .source .entries .is)) ⌝ }
+    requires { ⌜ (length (now p) ≡ bodyLength) × (nr ≤ length (now places)) × Laid (now file) (now arities) (now ars) (now flags) (now places) nr ⌝ }
+    ensures { λ r. ⌜ ((l : Laid (now (file .entry)) (now (arities .entry)) (now (ars .entry)) (now (flags .entry)) (now (places .entry)) nr) → Body (now (p .exit)) (l .source .entries .is)) ⌝ }
 {
     octets::copy_into(p, 0, arities);
     put_padded(p, sections::ARITIES, ars);
@@ -149,11 +122,11 @@ fn lay(
     octets::copy_into(p, sections::FILE, file);
 }
 
-// Judges a protocol file, and prepares it where it is fit.
-pub fn prepare(file: &[u8], p: &mut [u8]) -> FitVerdict
-    requires { ⌜ (length (now file) ≤ fileLimit) × (length (now p) ≡ preparedLength) ⌝ }
+// Judges a protocol file, and prepares it where it is fit, but for the places of its rules' lists.
+pub fn prepare_body(file: &[u8], p: &mut [u8]) -> FitVerdict
+    requires { ⌜ (length (now file) ≤ fileLimit) × (length (now p) ≡ bodyLength) ⌝ }
     ensures told { λ r. ⌜ verdictOf r ≡ judged (protocol (now (file .entry))) ⌝ }
-    ensures made { λ r. ⌜ WhereSound (now (file .entry)) r (now (p .exit)) ⌝ }
+    ensures made { λ r. ⌜ WhereBody (now (file .entry)) r (now (p .exit)) ⌝ }
 {
     let mut arities = [0u8; term::TAGS];
     let mut ars = [0u8; figures::SYMBOLS];

@@ -1,13 +1,14 @@
 // The rule of a number in a prepared protocol.
 ghost use mathlib.Core.Path.{_≡_};
-ghost use Prim.Native.Nat.{_<_};
+ghost use Prim.Native.Nat.{_≤_, _<_};
 ghost use lib.ListN.{length};
 ghost use Rattle.lists.specs.Asks.{Asks, Promises};
+ghost use Rattle.octets.specs.Limits.{longest};
 ghost use Rattle.number.specs.Reading.{below};
-ghost use Rattle.protocol.specs.Protocol.{Protocol};
-ghost use Rattle.protocol.specs.Places.{valueOf, listPlace, factPlace};
-ghost use Rattle.prepared.specs.Sections.{ruleCount, preparedLength, placeBase};
-ghost use Rattle.prepared.specs.Prepared.{slotsOf, aritiesOf, placeAt, Prepared};
+ghost use Rattle.protocol.specs.Protocol.{Protocol, facts};
+ghost use Rattle.protocol.specs.Places.{placeOf, valueOf, listPlace, factPlace, termPlace};
+ghost use Rattle.prepared.specs.Sections.{ruleCount, bodyLength, placeBase};
+ghost use Rattle.prepared.specs.Prepared.{slotsOf, aritiesOf, placeAt, Body};
 ghost use Rattle.prepared.specs.Finding.{Finds};
 use crate::sections;
 
@@ -24,8 +25,8 @@ fn wide(x: u8) -> usize
 }
 
 // The place in the table; 0 for none.
-fn place_of(p: &[u8], number: usize) -> usize
-    requires { ⌜ (number < ruleCount) × (length (now p) ≡ preparedLength) ⌝ }
+pub fn place_of(p: &[u8], number: usize) -> usize
+    requires { ⌜ (number < ruleCount) × (bodyLength ≤ length (now p)) ⌝ }
     ensures { λ r. ⌜ r ≡ placeAt (now (p .entry)) number ⌝ }
 {
     let at = sections::PLACES + sections::PLACE_BYTES * number;
@@ -34,8 +35,8 @@ fn place_of(p: &[u8], number: usize) -> usize
 
 // The place of the rule of a number.
 pub fn rule_place(p: &[u8], number: usize) -> Found
-    requires { ⌜ Asks (Prepared (now p)) ⌝ }
-    ensures { λ r. ⌜ Promises (Prepared (now (p .entry))) (λ (P : Protocol). Finds (now (p .entry)) P number r) ⌝ }
+    requires { ⌜ Asks (Body (now p)) ⌝ }
+    ensures { λ r. ⌜ Promises (Body (now (p .entry))) (λ (P : Protocol). Finds (now (p .entry)) P number r) ⌝ }
 {
     if sections::RULE_COUNT <= number {
         return Found::Nothing;
@@ -49,7 +50,7 @@ pub fn rule_place(p: &[u8], number: usize) -> Found
 
 // The place of a list of the rule at a place: 0 premises, 1 actions, 2 conclusions.
 pub fn list_at(p: &[u8], place: usize, list: usize) -> usize
-    requires { ⌜ length (now p) ≡ preparedLength ⌝ }
+    requires { ⌜ (bodyLength ≤ length (now p)) × (length (now p) ≤ longest) ⌝ }
     ensures { λ r. ⌜ r ≡ listPlace (now (p .entry)) (slotsOf (now (p .entry))) (aritiesOf (now (p .entry))) place list ⌝ }
 {
     protocol::places::list_at(
@@ -61,9 +62,22 @@ pub fn list_at(p: &[u8], place: usize, list: usize) -> usize
     )
 }
 
+// The place behind the list at a place.
+pub fn list_end(p: &[u8], list: usize) -> usize
+    requires { ⌜ (bodyLength ≤ length (now p)) × (length (now p) ≤ longest) ⌝ }
+    ensures { λ r. ⌜ r ≡ placeOf (facts (now (p .entry)) (slotsOf (now (p .entry))) (aritiesOf (now (p .entry))) list) ⌝ }
+{
+    protocol::places::list_end(
+        p,
+        &p[..sections::ARITIES],
+        &p[sections::ARITIES..sections::LINEARS],
+        list,
+    )
+}
+
 // The place of fact i of the list at a place.
 pub fn fact_at(p: &[u8], list: usize, i: usize) -> usize
-    requires { ⌜ length (now p) ≡ preparedLength ⌝ }
+    requires { ⌜ (bodyLength ≤ length (now p)) × (length (now p) ≤ longest) ⌝ }
     ensures { λ r. ⌜ r ≡ factPlace (now (p .entry)) (slotsOf (now (p .entry))) (aritiesOf (now (p .entry))) list i ⌝ }
 {
     protocol::places::fact_at(
@@ -77,8 +91,22 @@ pub fn fact_at(p: &[u8], list: usize, i: usize) -> usize
 
 // The symbol of the fact at a place.
 pub fn symbol_of(p: &[u8], fact: usize) -> usize
-    requires { ⌜ length (now p) ≡ preparedLength ⌝ }
+    requires { ⌜ bodyLength ≤ length (now p) ⌝ }
     ensures { λ r. ⌜ r ≡ valueOf (below (now (p .entry)) (length (aritiesOf (now (p .entry)))) fact) ⌝ }
 {
     protocol::places::symbol_of(p, &p[sections::ARITIES..sections::LINEARS], fact)
+}
+
+// The place of term j of the fact at a place.
+pub fn term_at(p: &[u8], fact: usize, j: usize) -> usize
+    requires { ⌜ (bodyLength ≤ length (now p)) × (length (now p) ≤ longest) ⌝ }
+    ensures { λ r. ⌜ r ≡ termPlace (now (p .entry)) (slotsOf (now (p .entry))) (aritiesOf (now (p .entry))) fact j ⌝ }
+{
+    protocol::places::term_at(
+        p,
+        &p[..sections::ARITIES],
+        &p[sections::ARITIES..sections::LINEARS],
+        fact,
+        j,
+    )
 }

@@ -26,11 +26,11 @@ pub const RULES: usize = PLACES + PLACE_BYTES * RULE_COUNT;
 
 pub const FILE: usize = RULES + rules::numbered::RULE_ROOM * BUILTIN_COUNT;
 
-pub const PREPARED: usize = FILE + FILE_LIMIT;
+pub const BODY: usize = FILE + FILE_LIMIT;
 
-// Behind it the places of each rule's lists.
+// Behind that body the places of each rule's lists.
 pub const LIST_COUNT: usize = figures::LISTS * RULE_COUNT;
 
 pub const LIST_BYTES: usize = PLACE_BYTES * LIST_COUNT;
 
-pub const WHOLE: usize = PREPARED + LIST_BYTES;
+pub const PREPARED: usize = BODY + LIST_BYTES;

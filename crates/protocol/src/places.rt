@@ -5,8 +5,9 @@ ghost use lib.ListN.{length};
 ghost use Rattle.octets.specs.Limits.{longest};
 ghost use Rattle.protocol.specs.Figures.{factLimit};
 ghost use Rattle.number.specs.Reading.{below};
+ghost use Rattle.protocol.specs.Protocol.{facts};
 ghost use Rattle.protocol.specs.Protocol.Walks.{sortsAt};
-ghost use Rattle.protocol.specs.Places.{valueOf, sortOf, listPlace, factPlace, termPlace};
+ghost use Rattle.protocol.specs.Places.{placeOf, valueOf, sortOf, listPlace, factPlace, termPlace};
 ghost use Rattle.protocol.specs.Places.Ends.{endOf, sortFrom};
 use crate::figures;
 use crate::walks;
@@ -80,6 +81,14 @@ pub fn list_at(file: &[u8], arities: &[u8], ars: &[u8], at: usize, list: usize) 
         )),
         Number::Fault => 0,
     }
+}
+
+// The place behind the list at a place.
+pub fn list_end(file: &[u8], arities: &[u8], ars: &[u8], at: usize) -> usize
+    requires { ⌜ length (now file) ≤ longest ⌝ }
+    ensures { λ r. ⌜ r ≡ placeOf (facts (now (file .entry)) (now (arities .entry)) (now (ars .entry)) at) ⌝ }
+{
+    end_of(walks::one_list(file, arities, ars, at, term::VARIABLE, 0, 0))
 }
 
 // How many facts the list at a place has.

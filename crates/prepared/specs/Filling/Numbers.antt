@@ -1,6 +1,6 @@
 -- One rule number after another.
 use Prim.Native.Nat.{ℕ, _+_, _*_, _/_, _%_, _-_, _≤_, _<_}
-use mathlib.Core.List.{List, []}
+use mathlib.Core.List.{List}
 use mathlib.Core.Option.{none}
 use mathlib.Core.Path.{_≡_, refl, ap, ap₂, sym, _∙_, subst}
 use native.Mathlib.Omega.{arith}
@@ -12,11 +12,11 @@ use Rattle.octets.specs.Splice.Laws.{length-splice, splice-before}
 use Rattle.protocol.specs.Protocol.{Protocol, encodeRule}
 use Rattle.protocol.specs.Protocol.Exact.{rule-exact, rule-inside, few-arities}
 use Rattle.rules.specs.Numbered.{ruleOf}
-use Rattle.rules.specs.Numbered.Found.{WrittenAs, PlacedAs, Finds, placeFound, place-found, place-none, finds-own}
+use Rattle.rules.specs.Numbered.Found.{WrittenAs, PlacedAs, Finds}
 use Rattle.rules.specs.declared.numbered.FoundRule.{FoundRule}
 use Rattle.rules.specs.declared.numbered.FoundRule.the-variants as fd
 use Rattle.rules.specs.Numbered.{ruleRoom}
-use Rattle.prepared.specs.Sections.{builtinCount, ruleCount, fileAt, cellAt, builtinAt, preparedLength, placeBase, placeLimit}
+use Rattle.prepared.specs.Sections.{builtinCount, ruleCount, fileAt, cellAt, builtinAt, bodyLength, placeBase, placeLimit}
 use Rattle.prepared.specs.Prepared.{placeAt}
 use Rattle.prepared.specs.Filling.{Source, placed, Row, written, in-file, missing, Kept, Enters, Rows}
 use Rattle.prepared.specs.Filling.Lists.{splice-lies, lies-kept}
@@ -28,7 +28,7 @@ module _ (p : List ℕ) (n v : ℕ) where
       getD-set-other (set p (cellAt n) (v / placeBase)) (cellAt n + 1) i (v % placeBase) 0 k
       ∙ getD-set-other p (cellAt n) i (v / placeBase) 0 h
 
-  module _ (small : n < ruleCount) (long : length p ≡ preparedLength) where
+  module _ (small : n < ruleCount) (long : length p ≡ bodyLength) where
     high-byte : getD (placed p n v) (cellAt n) 0 ≡ v / placeBase
     high-byte =
         getD-set-other (set p (cellAt n) (v / placeBase)) (cellAt n + 1) (cellAt n) (v % placeBase) 0 (λ e. omega arith)
@@ -88,7 +88,7 @@ module _ {arities places : List ℕ} {nr : ℕ} (f : Source arities places nr) w
     pub place-small : (k : ℕ) → InFile k → fileAt + k < placeLimit
     place-small k w = omega (arith, in-file-small k w, f .short)
 
-    module _ (p : List ℕ) (long : length p ≡ preparedLength) (p′ : List ℕ) where
+    module _ (p : List ℕ) (long : length p ≡ bodyLength) (p′ : List ℕ) where
       pub enters-own : (k : ℕ) → InFile k → p′ ≡ placed p n (fileAt + k) → Enters f p p′ n
       enters-own k w h =
           let s = rule-exact (f .file) (f .bytes) arities (take (f .ns) (f .ars)) (omega (arith, few)) .form (w .its) k (w .here .next) (w .here .reads) in
@@ -104,19 +104,19 @@ module _ {arities places : List ℕ} {nr : ℕ} (f : Source arities places nr) w
           record { row = missing is (place-read p n 0 small long); kept = place-kept p n 0 small long }
 
       pub enters-written :
-          (len : ℕ) (out : List ℕ) → n < builtinCount → length out ≡ ruleRoom → (w : WrittenAs (f .entries .is) n len out)
+          (len : ℕ) (out : List ℕ) → length out ≡ ruleRoom → (w : WrittenAs (f .entries .is) n len out)
           → p′ ≡ placed (splice p (builtinAt n) (take len out)) n (builtinAt n) → Enters f p p′ n
-      enters-written len out low room w h =
+      enters-written len out room w h =
           let q : List ℕ = encodeRule (w .its) in
           let b : take len out ≡ q = w .holds .bytes in
           let l : length q ≤ ruleRoom = omega (arith, ap length b, w .holds .short, length-take-le len out (w .holds .short)) in
           let p₁ : List ℕ = splice p (builtinAt n) q in
-          let n₁ : length p₁ ≡ preparedLength = length-splice p (builtinAt n) q (omega arith) ∙ long in
+          let n₁ : length p₁ ≡ bodyLength = length-splice p (builtinAt n) q (omega arith) ∙ long in
           let z : p′ ≡ placed p₁ n (builtinAt n) = h ∙ ap (λ (r : List ℕ). placed (splice p (builtinAt n) r) n (builtinAt n)) b in
           let k = place-kept p₁ n (builtinAt n) small n₁ in
           subst (λ (r : List ℕ). Enters f p r n) (sym z)
           record {
-            row = written (w .its) (w .is) low (place-read p₁ n (builtinAt n) small n₁) l
+            row = written (w .its) (w .is) (w .low) (place-read p₁ n (builtinAt n) small n₁) l
                 (lies-kept p₁ (builtinAt n) q (placed p₁ n (builtinAt n))
                 (λ j m. place-other p₁ n (builtinAt n) (builtinAt n + j) (λ e. omega arith) (λ e. omega arith))
                 (splice-lies p (builtinAt n) q (omega arith)));
@@ -139,21 +139,6 @@ module _ {arities places : List ℕ} {nr : ℕ} (f : Source arities places nr) w
 
       pub as-none : r ≡ fd.Nothing → ruleOf (f .entries .is) n ≡ none
       as-none e = subst (λ (q : FoundRule). FoundAs q out) e x
-
-    module _ (own : builtinCount ≤ n) where
-      own-found : FoundAs (placeFound places nr (n - 31)) []
-      own-found =
-          finds-own (f .entries .is) n (f .file) arities (take (f .ns) (f .ars)) [] places nr (f .entries .placed) own
-          (placeFound places nr (n - 31)) refl
-
-      pub own-placed : n - 31 < nr → InFile (getD places (n - 31) 0)
-      own-placed l = as-placed (placeFound places nr (n - 31)) [] own-found (place-found places nr (n - 31) l)
-
-      pub own-none : nr ≤ n - 31 → ruleOf (f .entries .is) n ≡ none
-      own-none l = as-none (placeFound places nr (n - 31)) [] own-found (place-none places nr (n - 31) l)
-
-pub small : {n : ℕ} → n < builtinCount → n < ruleCount
-small h = omega arith
 
 pub written-few :
     {P : Protocol} {n len : ℕ} {out : List ℕ} → WrittenAs P n len out → length out ≡ ruleRoom → length (take len out) ≤ ruleRoom

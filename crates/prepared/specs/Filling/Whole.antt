@@ -21,10 +21,10 @@ use Rattle.rules.specs.declared.fit.FitVerdict.the-variants as jd
 use Rattle.rules.specs.Numbered.{ruleOf}
 use Rattle.rules.specs.Numbered.Limits.{rule-within}
 use Rattle.protocol.specs.Figures.{symbolCount}
-use Rattle.prepared.specs.Sections.{slotCount, ruleCount, aritiesAt, linearsAt, placesAt, fileAt, fileLimit, cellAt, builtinAt, preparedLength}
-use Rattle.prepared.specs.Prepared.{slotsOf, aritiesOf, linearsOf, linears, linear, placeAt, RuleAt, Some, Entry, Prepared}
+use Rattle.prepared.specs.Sections.{slotCount, ruleCount, aritiesAt, linearsAt, placesAt, fileAt, fileLimit, cellAt, builtinAt, bodyLength}
+use Rattle.prepared.specs.Prepared.{slotsOf, aritiesOf, linearsOf, linears, linear, placeAt, RuleAt, Some, Entry, Body}
 use Rattle.prepared.specs.Prepared.Laws.{length-padded, tag-arities-length, padded-in, arities-length}
-use Rattle.prepared.specs.Filling.{Laid, Lies, Row, written, in-file, missing, Rows, PreparedAs}
+use Rattle.prepared.specs.Filling.{Laid, Lies, Row, written, in-file, missing, Rows, BodyAs}
 use Rattle.prepared.specs.Filling.Lists.{splice-lies, lies-kept, lies-section, lies-there}
 use Rattle.prepared.specs.Filling.Numbers.{row-kept}
 
@@ -51,7 +51,7 @@ module _ (arities ars : List ℕ) (n : ℕ) (room : length ars ≤ n) where
   }
 
 -- ── the rules ──
-module _ (P : Protocol) (within : Within P) (p : List ℕ) (bytes : Bytes p) (long : length p ≡ preparedLength)
+module _ (P : Protocol) (within : Within P) (p : List ℕ) (bytes : Bytes p) (long : length p ≡ bodyLength)
     (slotted : slotsOf p ≡ tagArities (P .functions)) (tabled : aritiesOf p ≡ padded symbolCount (factArities (P .symbols))) where
   -- a rule of the protocol whose bytes stand somewhere
   rule-there : (n : ℕ) (u : Rule) → ruleOf P n ≡ some u → (at : ℕ) (rest : List ℕ) → drop at p ≡ encodeRule u ++ rest → RuleAt p u at
@@ -62,7 +62,7 @@ module _ (P : Protocol) (within : Within P) (p : List ℕ) (bytes : Bytes p) (lo
       (rule-wider (tagArities (P .functions)) (factArities (P .symbols)) symbolCount few u (rule-within P within n u is)) in
       record {
         next = at + length (encodeRule u);
-        reads = rule-exact p bytes (slotsOf p) (aritiesOf p) (omega (arith, arities-length p long)) .back u at rest good there;
+        reads = rule-exact p bytes (slotsOf p) (aritiesOf p) (omega (arith, arities-length p (omega arith))) .back u at rest good there;
       }
 
   entry-some : (n : ℕ) (u : Rule) → ruleOf P n ≡ some u → (at : ℕ) (rest : List ℕ) → drop at p ≡ encodeRule u ++ rest → placeAt p n ≡ at → 0 < at → Entry p n
@@ -73,7 +73,7 @@ module _ (P : Protocol) (within : Within P) (p : List ℕ) (bytes : Bytes p) (lo
 
 -- ── all sections ──
 module _ {file arities ars flags places : List ℕ} {nr : ℕ} (l : Laid file arities ars flags places nr) (p₀ p₁ p₂ p₃ p₄ p₅ : List ℕ)
-    (long : length p₀ ≡ preparedLength) (first : p₁ ≡ splice p₀ 0 arities) (second : p₂ ≡ splice p₁ aritiesAt (padded symbolCount ars))
+    (long : length p₀ ≡ bodyLength) (first : p₁ ≡ splice p₀ 0 arities) (second : p₂ ≡ splice p₁ aritiesAt (padded symbolCount ars))
     (third : p₃ ≡ splice p₂ linearsAt (padded symbolCount (map linear flags))) (fourth : Rows (l .source) p₃ p₄ ruleCount) (kept : length p₄ ≡ length p₃)
     (fifth : p₅ ≡ splice p₄ fileAt file) (bytes : Bytes p₅) where
   abbrev P : Protocol
@@ -85,7 +85,7 @@ module _ {file arities ars flags places : List ℕ} {nr : ℕ} (l : Laid file ar
   slots-many : length arities ≡ slotCount
   slots-many = ap length arities-are ∙ tag-arities-length (P .functions)
 
-  long₁ : length p₁ ≡ preparedLength
+  long₁ : length p₁ ≡ bodyLength
   long₁ = ap length first ∙ length-splice p₀ 0 arities (omega (arith, slots-many)) ∙ long
 
   ars-long : length (padded symbolCount ars) ≡ symbolCount
@@ -94,19 +94,19 @@ module _ {file arities ars flags places : List ℕ} {nr : ℕ} (l : Laid file ar
   linears-long : length (padded symbolCount (map linear flags)) ≡ symbolCount
   linears-long = length-padded symbolCount (map linear flags)
 
-  long₂ : length p₂ ≡ preparedLength
+  long₂ : length p₂ ≡ bodyLength
   long₂ = ap length second ∙ length-splice p₁ aritiesAt (padded symbolCount ars) (omega (arith, ars-long, long₁)) ∙ long₁
 
-  long₃ : length p₃ ≡ preparedLength
+  long₃ : length p₃ ≡ bodyLength
   long₃ = ap length third ∙ length-splice p₂ linearsAt (padded symbolCount (map linear flags)) (omega (arith, linears-long, long₂)) ∙ long₂
 
-  long₄ : length p₄ ≡ preparedLength
+  long₄ : length p₄ ≡ bodyLength
   long₄ = kept ∙ long₃
 
   file-short : length file ≤ fileLimit
   file-short = omega (arith, ap length (l .file-is), l .source .short)
 
-  long₅ : length p₅ ≡ preparedLength
+  long₅ : length p₅ ≡ bodyLength
   long₅ = ap length fifth ∙ length-splice p₄ fileAt file (omega (arith, file-short, long₄)) ∙ long₄
 
   -- what each later step leaves of the sections before it
@@ -183,10 +183,10 @@ module _ {file arities ars flags places : List ℕ} {nr : ℕ} (l : Laid file ar
       entry-some P (l .source .entries .within) p₅ bytes long₅ slotted tabled n u is (fileAt + k) rest there e (omega arith)
   entry n (missing is e) = subst (Entry p₅ n) (sym is) e
 
-  pub all-prepared : Prepared p₅ (l .source .entries .is)
-  all-prepared = record {
+  pub body-laid : Body p₅ (l .source .entries .is)
+  body-laid = record {
     within = l .source .entries .within;
-    long = long₅;
+    long = omega (arith, long₅);
     slotted = slotted;
     tabled = tabled;
     flagged = flagged;
@@ -229,7 +229,7 @@ module _ (s arities ars flags places : List ℕ) (r : FitVerdict) (ns nr : ℕ) 
     flags-are = entries .flagged;
   }
 
-  pub sound-prepared :
-      (p : List ℕ) → ((l : Laid s arities (take ns ars) (take ns flags) places nr) → Prepared p (l .source .entries .is)) → PreparedAs s p
+  pub sound-body :
+      (p : List ℕ) → ((l : Laid s arities (take ns ars) (take ns flags) places nr) → Body p (l .source .entries .is)) → BodyAs s p
   unfolding entries sound-laid
-  sound-prepared p h = record { its = entries .is; reads = entries .reads; is = h sound-laid }
+  sound-body p h = record { its = entries .is; reads = entries .reads; is = h sound-laid }

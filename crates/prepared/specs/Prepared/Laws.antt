@@ -9,8 +9,8 @@ use Rattle.term.specs.Tags.{tagCount, mostFunctions}
 use Rattle.term.specs.Arity.{padded, tagArities, builtin}
 use Rattle.protocol.specs.Protocol.{Own, Protocol, factArities, factFlags}
 use Rattle.protocol.specs.Figures.{symbolCount}
-use Rattle.prepared.specs.Sections.{slotCount, aritiesAt, linearsAt, preparedLength}
-use Rattle.prepared.specs.Prepared.{slotsOf, aritiesOf, linears, Prepared}
+use Rattle.prepared.specs.Sections.{slotCount, aritiesAt, linearsAt, bodyLength}
+use Rattle.prepared.specs.Prepared.{slotsOf, aritiesOf, linears, Body}
 
 -- ── a list with 255 behind it ──
 pub length-padded : (n : ℕ) (l : List ℕ) → length (padded n l) ≡ n
@@ -29,7 +29,7 @@ padded-in (suc n) (a ∷ l) zero h k = refl
 padded-in (suc n) (a ∷ l) (suc j) h k = padded-in n l j (omega arith) (omega arith)
 
 -- ── the parts that are lent ──
-module _ (p : List ℕ) (long : length p ≡ preparedLength) where
+module _ (p : List ℕ) (long : bodyLength ≤ length p) where
   pub slots-length : length (slotsOf p) ≡ slotCount
   slots-length = length-take-le slotCount p (omega arith)
 
@@ -40,7 +40,7 @@ module _ (p : List ℕ) (long : length p ≡ preparedLength) where
 part-at : (p : List ℕ) (at n i : ℕ) → i < n → getD (take n (drop at p)) i 0 ≡ getD p (at + i) 0
 part-at p at n i h = getD-take n (drop at p) i 0 h ∙ getD-drop at p i 0
 
-module _ (p : List ℕ) (P : Protocol) (f : Prepared p P) (y : ℕ) (known : y < length (factArities (P .symbols))) where
+module _ (p : List ℕ) (P : Protocol) (f : Body p P) (y : ℕ) (known : y < length (factArities (P .symbols))) where
   few : length (factArities (P .symbols)) ≤ symbolCount
   few = omega (arith, length-map (P .symbols) (λ (o : Own). o .arity), f .within .few-symbols)
 

@@ -8,7 +8,7 @@ use Rattle.protocol.specs.Figures.{mostVariables, sortCount, listCount, 
 use Rattle.lists.specs.Choice.{cut, clash}
 use Rattle.number.specs.Reading.{Read, got, andThen, below, many, counted}
 use Rattle.number.specs.Reading.Laws.{cut-got, then-got}
-use Rattle.number.specs.Reading.Many.{many-nth, many-length}
+use Rattle.number.specs.Reading.Many.{many-snoc, many-nth, many-length}
 use Rattle.term.specs.Term.{Term}
 use Rattle.protocol.specs.Protocol.{Fact, Rule, rule-of, fact-of, listOf, noFact, declared, ruleTerm, fact, facts, layout, rule}
 use Rattle.protocol.specs.Protocol.Walks.{sortsAt}
@@ -92,6 +92,21 @@ module _ (file arities ars : List ℕ) where
           next = h .next;
           reads = ap (λ (o : Read ℕ). facts file arities ars (placeOf (andThen o (λ n e. many (facts file arities ars) list e)))) sorts-are ∙ h .reads;
         }
+
+    -- the next list stands behind it
+    pub list-next :
+        (list : ℕ) → list + 1 < listCount
+        → listPlace file arities ars at (list + 1) ≡ placeOf (facts file arities ars (listPlace file arities ars at list))
+    unfolding listPlace
+    list-next list l =
+        let r = many-nth (facts file arities ars) 3 (rule-parts .behind) (stands .next) list (r .lists) (rule-parts .lists) (omega arith) in
+        let next : (k : ℕ) → Read ℕ → Read (List (List Fact)) = λ k o. andThen o (λ n e. many (facts file arities ars) k e) in
+        let here : placeOf (next list (sortsAt file at)) ≡ r .place = ap (λ (o : Read ℕ). placeOf (next list o)) sorts-are ∙ ap placeOf (r .before) in
+        let more : list + 1 ≡ suc list = omega arith in
+        ap (λ (o : Read ℕ). placeOf (next (list + 1) o)) sorts-are
+        ∙ ap (λ (k : ℕ). placeOf (many (facts file arities ars) k (rule-parts .behind))) more
+        ∙ ap placeOf (many-snoc (facts file arities ars) list (rule-parts .behind) (r .place) (r .next) (r .front) (r .item) (r .before) (r .here))
+        ∙ sym (ap placeOf (ap (facts file arities ars) here ∙ r .here))
 
   -- ── what stands in a list ──
   module _ (at : ℕ) (fs : List Fact) (stands : Here (facts file arities ars) fs at) where

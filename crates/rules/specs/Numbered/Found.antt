@@ -20,7 +20,7 @@ use Rattle.protocol.specs.Places.{Here}
 use Rattle.protocol.specs.Index.{Entries, Placed}
 use Rattle.rules.specs.declared.numbered.FoundRule.{FoundRule}
 use Rattle.rules.specs.declared.numbered.FoundRule.the-variants as fd
-use Rattle.rules.specs.Numbered.{fixed, applies, applied, ruleOf}
+use Rattle.rules.specs.Numbered.{fixed, applies, applied, ruleOf, firstOwnRule}
 use Rattle.rules.specs.Numbered.Limits.{Slot, takes, empty, slot-at, rule-within}
 use Rattle.rules.specs.Numbered.Writing.{Holds}
 
@@ -68,6 +68,7 @@ module _ (places : List ℕ) (n k : ℕ) where
 pub record WrittenAs (p : Protocol) (n len : ℕ) (out : List ℕ) : Type 0 where
   pub its : Rule
   pub is : ruleOf p n ≡ some its
+  pub low : n < firstOwnRule
   pub holds : Holds out len (encodeRule its)
 
 pub record PlacedAs (p : Protocol) (file arities ars : List ℕ) (n place : ℕ) : Type 0 where
@@ -99,7 +100,7 @@ module _ (p : Protocol) (n : ℕ) where
     pub finds-applied :
         (t : ℕ) → n ≡ t + 2 → 5 ≤ n → n < 31 → (r : FoundRule) → Applies (tagArities (p .functions)) t r out → Finds p file slots′ ars n r out
     finds-applied t e h k (fd.Written len) a =
-        record { its = applies t (a .arguments); is = of-applied t e h k ∙ ap (applied t) (a .declared); holds = a .holds }
+        record { its = applies t (a .arguments); is = of-applied t e h k ∙ ap (applied t) (a .declared); low = k; holds = a .holds }
     finds-applied t e h k (fd.At place) a = absurd a
     finds-applied t e h k fd.Nothing a = of-applied t e h k ∙ ap (applied t) a
 

@@ -1,4 +1,4 @@
-use Rattle.prepared.specs.Filling.Whole.{laid-slots, laid-symbols, laid-flags, laid-file, all-prepared}
+use Rattle.prepared.specs.Filling.Whole.{laid-slots, laid-symbols, laid-flags, laid-file, body-laid}
 use native.Mathlib.Omega.{arith}
 use denote.Ref.{now}
 use borrow.Author.Needs.{needs}
@@ -49,7 +49,7 @@ returns c =
     let c14 = c10 .before .before .before .before in
     let c18 = c14 .before .before .before .before in
     let c26 = c18 .before .before .before .before .before .before .before .before in
-    λ l. all-prepared l (now (c26 .args .p)) _ _ _ _ _ (c26 .pre .0) (c18 .copy-into .ensures .1) (c14 .put-padded .ensures) (c10 .put-linears .ensures)
+    λ l. body-laid l (now (c26 .args .p)) _ _ _ _ _ (c26 .pre .0) (c18 .copy-into .ensures .1) (c14 .put-padded .ensures) (c10 .put-linears .ensures)
     (c6 .enter-rules .ensures (l .source)) (omega (arith, c6 .enter-rules .kept)) (c .before .before .copy-into2 .ensures .1)
     (λ k. c .slice-known6 .given k .fits)
 

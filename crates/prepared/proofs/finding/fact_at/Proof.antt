@@ -7,7 +7,7 @@ use Rattle.prepared.proofs.finding.fact_at.Tie as tie
 
 slice-aggregate-fact-at : tie.Need-slice-aggregate-fact-at
 slice-aggregate-fact-at c =
-    sym (slots-length (now (c .before .before .args .p)) (c .before .before .pre))
+    sym (slots-length (now (c .before .before .args .p)) (c .before .before .pre .0))
 
 sub-fact-at : tie.Need-sub-fact-at
 sub-fact-at c = search needs

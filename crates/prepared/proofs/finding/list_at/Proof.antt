@@ -7,7 +7,7 @@ use Rattle.prepared.proofs.finding.list_at.Tie as tie
 
 slice-aggregate-list-at : tie.Need-slice-aggregate-list-at
 slice-aggregate-list-at c =
-    sym (slots-length (now (c .before .before .args .p)) (c .before .before .pre))
+    sym (slots-length (now (c .before .before .args .p)) (c .before .before .pre .0))
 
 sub-list-at : tie.Need-sub-list-at
 sub-list-at c = search needs

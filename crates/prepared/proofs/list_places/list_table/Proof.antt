@@ -1,74 +1,49 @@
 use borrow.Author.Needs.{needs}
-use Rattle.prepared.specs.Lists.{entryCount, Listing, listing-more}
-use lib.ListN.{length, length-set}
+use Rattle.prepared.specs.Lists.{Listing}
+use Rattle.prepared.specs.Sections.{ruleCount, entryCount}
+use lib.ListN.{length}
 use native.Mathlib.Omega.{arith}
-use Prim.Native.Nat.{_-_, _≤_}
+use Prim.Native.Nat.{_-_, _≤_, _*_}
 use mathlib.Core.Path.{_≡_, subst}
 use denote.Ref.{now}
 use Rattle.prepared.proofs.list_places.list_table.Statement.{statement}
 use Rattle.prepared.proofs.list_places.list_table.Tie as tie
 
 abbrev Inv-loop : tie.InvT-loop
-Inv-loop q table₀ k₀ table k =
-    (k ≤ entryCount) × (length table ≡ length table₀) × Listing q table k
+Inv-loop q table₀ n₀ table n =
+    (n ≤ ruleCount) × (length table ≡ length table₀) × Listing q table (3 * n)
 
 abbrev μ-loop : tie.MeasureT-loop
-μ-loop q table₀ k₀ table k =
-    entryCount - k
+μ-loop q table₀ n₀ table n =
+    ruleCount - n
 
 loop-holds : tie.Need-loop-holds Inv-loop μ-loop
 loop-holds c =
     (search needs, search needs, λ j h P u f is. absurd (omega arith))
 
-list-of-requires : tie.Need-list-of-requires Inv-loop μ-loop
-list-of-requires c κs =
-    (omega arith, c .before .before .before .before .pre .0)
+enter-number-requires : tie.Need-enter-number-requires Inv-loop μ-loop
+enter-number-requires c κs =
+    let c5 = c .before .before .before .before .before in
+    (c .before .loop-test .taken, c5 .pre .1, omega (arith, c .before .before .loop .inv .1), c5 .pre .0)
 
-cast-table : tie.Need-cast-table Inv-loop μ-loop
-cast-table c =
-    omega (arith, c .list-of .ensures .small)
-
-mul-table : tie.Need-mul-table Inv-loop μ-loop
-mul-table c = search needs
-
-slice-write-table : tie.Need-slice-write-table Inv-loop μ-loop
-slice-write-table c = search needs
-
-cast-table-2 : tie.Need-cast-table-2 Inv-loop μ-loop
-cast-table-2 c = search needs
-
-mul-table-2 : tie.Need-mul-table-2 Inv-loop μ-loop
-mul-table-2 c = search needs
-
-add-table : tie.Need-add-table Inv-loop μ-loop
-add-table c = search needs
-
-slice-write-table-2 : tie.Need-slice-write-table-2 Inv-loop μ-loop
-slice-write-table-2 c =
-    simp length-set (omega arith)
-
-add-k : tie.Need-add-k Inv-loop μ-loop
-add-k c = search needs
+add-n : tie.Need-add-n Inv-loop μ-loop
+add-n c = search needs
 
 loop-less : tie.Need-loop-less Inv-loop μ-loop
 loop-less c = search needs
 
 loop-again : tie.Need-loop-again Inv-loop μ-loop
-loop-again c = (
-  search needs,
-  simp length-set (c .before .before .loop .inv .1),
-  listing-more (now (c .before .before .before .before .before .args .q))
-      (c .before .before .loop .table) (c .before .before .loop .k) (c .list-of .result) (c .before .loop-test .taken) (omega arith)
-      (c .before .before .loop .inv .2) (c .list-of .ensures),
-)
+loop-again c =
+    let c5 = c .before .before .before .before .before in
+    (search needs, omega (arith, c .before .before .enter-number .kept, c5 .loop .inv .1), c .before .before .enter-number .ensures (c5 .loop .inv .2))
 
 same-length : tie.Need-same-length Inv-loop μ-loop
 same-length c = search needs
 
 returns : tie.Need-returns Inv-loop μ-loop
 returns c =
-    let e : c .before .loop .k ≡ entryCount = omega arith in subst (Listing (now (c .before .before .before .before .args .q)) (c .before .loop .table)) e
-    (c .before .loop .inv .2)
+    let e : 3 * c .before .loop .n ≡ entryCount = omega arith in subst (Listing (now (c .before .before .before .before .args .q)) (c .before .loop .table)) e
+        (c .before .loop .inv .2)
 
 pub list-table-spec : {M : Type 1} → statement M
 list-table-spec =
@@ -77,15 +52,8 @@ list-table-spec =
     Inv-loop
     μ-loop
     loop-holds
-    list-of-requires
-    cast-table
-    mul-table
-    slice-write-table
-    cast-table-2
-    mul-table-2
-    add-table
-    slice-write-table-2
-    add-k
+    enter-number-requires
+    add-n
     loop-less
     loop-again
     same-length

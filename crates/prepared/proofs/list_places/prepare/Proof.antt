@@ -1,4 +1,5 @@
-use Rattle.prepared.specs.Lists.{joined-long, joined-part, joined-as, joined-ready, all-tabled}
+use Rattle.prepared.specs.Lists.{joined-long, joined-part, joined-as, joined-ready, all-prepared}
+use Rattle.prepared.specs.Sections.{bodyLength}
 use Rattle.rules.specs.Fit.Laws.{verdictOf}
 use lib.Seq.{length-take-le}
 use native.Mathlib.Omega.{arith}
@@ -8,17 +9,17 @@ use borrow.Author.Needs.{needs}
 use Rattle.prepared.proofs.list_places.prepare.Statement.{statement}
 use Rattle.prepared.proofs.list_places.prepare.Tie as tie
 
-slice-relend-prefix-prepare : tie.Need-slice-relend-prefix-prepare
-slice-relend-prefix-prepare c = search needs
+slice-relend-prefix-prepare-body : tie.Need-slice-relend-prefix-prepare-body
+slice-relend-prefix-prepare-body c = search needs
 
-slice-aggregate-prepare : tie.Need-slice-aggregate-prepare
-slice-aggregate-prepare c =
-    sym (length-take-le 5317 (now (c .before .before .before .args .p)) (omega arith))
+slice-aggregate-prepare-body : tie.Need-slice-aggregate-prepare-body
+slice-aggregate-prepare-body c =
+    sym (length-take-le bodyLength (now (c .before .before .before .args .p)) (omega arith))
 
-prepare-requires : tie.Need-prepare-requires
-prepare-requires c κs =
+prepare-body-requires : tie.Need-prepare-body-requires
+prepare-body-requires c κs =
     let c3 = c .before .before .before in
-    (c3 .pre .0, length-take-le 5317 (now (c3 .args .p)) (omega arith))
+    (c3 .pre .0, length-take-le bodyLength (now (c3 .args .p)) (omega arith))
 
 enum-known-ns : tie.Need-enum-known-ns
 enum-known-ns c = search needs
@@ -30,8 +31,8 @@ slice-aggregate-list-table : tie.Need-slice-aggregate-list-table
 slice-aggregate-list-table c =
     let c6 = c .before .before .before .before .before .before in
     let c10 = c6 .before .before .before .before in
-    joined-part (c6 .prepare .last .1 .0) (now (c10 .args .p)) (omega (arith, c6 .prepare .kept .1 .0, length-take-le 5317 (now (c10 .args .p)) (omega arith)))
-    (c10 .pre .1)
+    joined-part (c6 .prepare-body .last .1 .0) (now (c10 .args .p)) (omega (arith, c6 .prepare-body .kept .1 .0, length-take-le bodyLength (now (c10 .args .p))
+        (omega arith))) (c10 .pre .1)
 
 slice-aggregate-list-table-2 : tie.Need-slice-aggregate-list-table-2
 slice-aggregate-list-table-2 c = search needs
@@ -40,15 +41,11 @@ list-table-requires : tie.Need-list-table-requires
 list-table-requires c κs =
     let c3 = c .before .before .before in
     let c7 = c3 .before .before .before .before in
-    let c11 = c7 .before .before .before .before in (
-      joined-ready (c7 .prepare .last .1 .0) (now (c11 .args .p)) (omega (
-        arith,
-        c7 .prepare .kept .1 .0,
-        length-take-le 5317 (now (c11 .args .p))
-            (omega arith),
-      )) (c11 .pre .1) (now (c11 .args .file)) (c3 .ns .given .1) (c7 .prepare .ensures .1),
-      refl,
-    )
+    let c11 = c7 .before .before .before .before in
+    let n = joined-part (c7 .prepare-body .last .1 .0) (now (c11 .args .p)) (omega
+        (arith, c7 .prepare-body .kept .1 .0, length-take-le bodyLength (now (c11 .args .p)) (omega arith))) (c11 .pre .1) in
+    (joined-ready (c7 .prepare-body .last .1 .0) (now (c11 .args .p)) (omega (arith, c7 .prepare-body .kept .1 .0, length-take-le bodyLength
+        (now (c11 .args .p)) (omega arith))) (c11 .pre .1) (now (c11 .args .file)) (c3 .ns .given .1) (c7 .prepare-body .ensures .1), sym n, refl)
 
 slice-aggregate-copy-into : tie.Need-slice-aggregate-copy-into
 slice-aggregate-copy-into c = search needs
@@ -70,44 +67,35 @@ returns c =
     let c6 = c .before .before .before .before .before .before in
     let c10 = c6 .before .before .before .before in
     let c14 = c10 .before .before .before .before in
-    let c18 = c14 .before .before .before .before in (
-      sym (ap verdictOf (c10 .ns .given .1)) ∙ c14 .prepare .ensures .0,
-      all-tabled (now (c18 .args .file)) _ _ _ _
-          (joined-long (c14 .prepare .last .1 .0) (now (c18 .args .p)) (omega (
-            arith,
-            c14 .prepare .kept .1 .0,
-            length-take-le 5317 (now (c18 .args .p))
-                (omega arith),
-          )) (c18 .pre .1)) refl (search needs) (c6 .list-table .ensures) (c .before .before .copy-into .ensures .1)
-          (joined-as (c14 .prepare .last .1 .0) (now (c18 .args .p)) (omega (
-            arith,
-            c14 .prepare .kept .1 .0,
-            length-take-le 5317 (now (c18 .args .p))
-                (omega arith),
-          )) (c18 .pre .1) (now (c18 .args .file)) (c10 .ns .given .1) (c14 .prepare .ensures .1)),
-    )
+    let c18 = c14 .before .before .before .before in
+    (sym (ap verdictOf (c10 .ns .given .1)) ∙ c14 .prepare-body .ensures .0, all-prepared (now (c18 .args .file)) _ _ _ _
+        (joined-long (c14 .prepare-body .last .1 .0) (now (c18 .args .p)) (omega (arith, c14 .prepare-body .kept .1 .0, length-take-le bodyLength
+        (now (c18 .args .p)) (omega arith))) (c18 .pre .1)) refl (search needs) (c6 .list-table .ensures) (c .before .before .copy-into .ensures .1)
+        (joined-as (c14 .prepare-body .last .1 .0) (now (c18 .args .p)) (omega (arith, c14 .prepare-body .kept .1 .0, length-take-le bodyLength
+        (now (c18 .args .p)) (omega arith))) (c18 .pre .1) (now (c18 .args .file)) (c10 .ns .given .1) (c14 .prepare-body .ensures .1))
+        (λ k. c .slice-known3 .given k .fits))
 
 same-length-2 : tie.Need-same-length-2
 same-length-2 c = search needs
 
 returns-2 : tie.Need-returns-2
 returns-2 c =
-    (sym (ap verdictOf (c .before .k .given .1)) ∙ c .before .before .before .before .before .prepare .ensures .0, tt)
+    (sym (ap verdictOf (c .before .k .given .1)) ∙ c .before .before .before .before .before .prepare-body .ensures .0, tt)
 
 same-length-3 : tie.Need-same-length-3
 same-length-3 c = search needs
 
 returns-3 : tie.Need-returns-3
 returns-3 c =
-    (sym (ap verdictOf (c .enum-told .given .1)) ∙ c .before .before .before .before .prepare .ensures .0, tt)
+    (sym (ap verdictOf (c .enum-told .given .1)) ∙ c .before .before .before .before .prepare-body .ensures .0, tt)
 
 pub prepare-spec : {M : Type 1} → statement M
 prepare-spec =
     tie.close
     (tie.spec
-    slice-relend-prefix-prepare
-    slice-aggregate-prepare
-    prepare-requires
+    slice-relend-prefix-prepare-body
+    slice-aggregate-prepare-body
+    prepare-body-requires
     enum-known-ns
     slice-reshare-prefix-list-table
     slice-aggregate-list-table

@@ -38,6 +38,7 @@ returns c =
     record {
       its = fixed (c8 .args .number);
       is = of-fixed (i .is) (c8 .args .number) l;
+      low = omega arith;
       holds = put-holds (c .before .before .put-fixed .ensures);
     }
 

@@ -1,10 +1,10 @@
-use Rattle.prepared.specs.Filling.Numbers.{small, written-few, place-small, as-written, as-placed, as-none, enters-written, enters-own, enters-none}
+use Rattle.prepared.specs.Filling.Numbers.{written-few, place-small, as-written, as-placed, as-none, enters-written, enters-own, enters-none}
 use lib.Seq.{length-take-le}
 use mathlib.Core.Path.{sym}
 use native.Mathlib.Omega.{arith}
 use borrow.Author.Needs.{needs}
-use Rattle.prepared.proofs.filling.enter_builtin.Statement.{statement}
-use Rattle.prepared.proofs.filling.enter_builtin.Tie as tie
+use Rattle.prepared.proofs.filling.enter_rule.Statement.{statement}
+use Rattle.prepared.proofs.filling.enter_rule.Tie as tie
 
 slice-aggregate-find-rule : tie.Need-slice-aggregate-find-rule
 slice-aggregate-find-rule c = search needs
@@ -20,9 +20,8 @@ array-share-prefix-own c =
     let c5 = c .before .before .before .before .before in
     let c10 = c5 .before .before .before .before .before in
     let f = c10 .pre .4 in
-    let m = small (c10 .pre .0) in
-    let w = as-written f (c10 .args .n) m (c5 .find-rule .result) (c5 .find-rule .last .1 .1 .1 .1 .0)
-    (c5 .find-rule .ensures (f .file) (f .ns) (f .ars) (f .flags) (f .entries)) (c .before .before .len .given .1) in
+    let w = as-written f (c10 .args .n) (c10 .pre .0) (c5 .find-rule .result) (c5 .find-rule .last .1 .1 .1 .1 .0)
+        (c5 .find-rule .ensures (f .file) (f .ns) (f .ars) (f .flags) (f .entries)) (c .before .before .len .given .1) in
     omega (arith, w .holds .short, c5 .find-rule .kept .1 .1 .1 .1 .0)
 
 slice-aggregate-put-rule : tie.Need-slice-aggregate-put-rule
@@ -31,9 +30,8 @@ slice-aggregate-put-rule c =
     let c6 = c3 .before .before .before in
     let c11 = c6 .before .before .before .before .before in
     let f = c11 .pre .4 in
-    let m = small (c11 .pre .0) in
-    let w = as-written f (c11 .args .n) m (c6 .find-rule .result) (c6 .find-rule .last .1 .1 .1 .1 .0)
-    (c6 .find-rule .ensures (f .file) (f .ns) (f .ars) (f .flags) (f .entries)) (c3 .len .given .1) in
+    let w = as-written f (c11 .args .n) (c11 .pre .0) (c6 .find-rule .result) (c6 .find-rule .last .1 .1 .1 .1 .0)
+        (c6 .find-rule .ensures (f .file) (f .ns) (f .ars) (f .flags) (f .entries)) (c3 .len .given .1) in
     sym (length-take-le _ _ (w .holds .short))
 
 put-rule-requires : tie.Need-put-rule-requires
@@ -42,10 +40,9 @@ put-rule-requires c κs =
     let c6 = c3 .before .before .before in
     let c11 = c6 .before .before .before .before .before in
     let f = c11 .pre .4 in
-    let m = small (c11 .pre .0) in
-    let w = as-written f (c11 .args .n) m (c6 .find-rule .result) (c6 .find-rule .last .1 .1 .1 .1 .0)
-    (c6 .find-rule .ensures (f .file) (f .ns) (f .ars) (f .flags) (f .entries)) (c3 .len .given .1) in
-    (c11 .pre .0, c11 .pre .1, written-few w (c6 .find-rule .kept .1 .1 .1 .1 .0))
+    let w = as-written f (c11 .args .n) (c11 .pre .0) (c6 .find-rule .result) (c6 .find-rule .last .1 .1 .1 .1 .0)
+        (c6 .find-rule .ensures (f .file) (f .ns) (f .ars) (f .flags) (f .entries)) (c3 .len .given .1) in
+    (w .low, c11 .pre .1, written-few w (c6 .find-rule .kept .1 .1 .1 .1 .0))
 
 enum-known-k : tie.Need-enum-known-k
 enum-known-k c = search needs
@@ -55,9 +52,8 @@ add-put-place c =
     let c5 = c .before .before .before .before .before in
     let c10 = c5 .before .before .before .before .before in
     let f = c10 .pre .4 in
-    let m = small (c10 .pre .0) in
-    let k = place-small f (c10 .args .n) m _ (as-placed f (c10 .args .n) m (c5 .find-rule .result) (c5 .find-rule .last .1 .1 .1 .1 .0)
-    (c5 .find-rule .ensures (f .file) (f .ns) (f .ars) (f .flags) (f .entries)) (c .before .before .k .given .1)) in
+    let k = place-small f (c10 .args .n) (c10 .pre .0) _ (as-placed f (c10 .args .n) (c10 .pre .0) (c5 .find-rule .result) (c5 .find-rule .last .1 .1 .1 .1 .0)
+        (c5 .find-rule .ensures (f .file) (f .ns) (f .ars) (f .flags) (f .entries)) (c .before .before .k .given .1)) in
     omega (arith, k)
 
 put-place-requires : tie.Need-put-place-requires
@@ -65,10 +61,9 @@ put-place-requires c κs =
     let c5 = c .before .before .before .before .before in
     let c10 = c5 .before .before .before .before .before in
     let f = c10 .pre .4 in
-    let m = small (c10 .pre .0) in
-    let k = place-small f (c10 .args .n) m _ (as-placed f (c10 .args .n) m (c5 .find-rule .result) (c5 .find-rule .last .1 .1 .1 .1 .0)
-    (c5 .find-rule .ensures (f .file) (f .ns) (f .ars) (f .flags) (f .entries)) (c .before .before .k .given .1)) in
-    (m, c10 .pre .1, k)
+    let k = place-small f (c10 .args .n) (c10 .pre .0) _ (as-placed f (c10 .args .n) (c10 .pre .0) (c5 .find-rule .result) (c5 .find-rule .last .1 .1 .1 .1 .0)
+        (c5 .find-rule .ensures (f .file) (f .ns) (f .ars) (f .flags) (f .entries)) (c .before .before .k .given .1)) in
+    (c10 .pre .0, c10 .pre .1, k)
 
 enum-told : tie.Need-enum-told
 enum-told c = search needs
@@ -85,10 +80,9 @@ returns c =
     let c9 = c6 .before .before .before in
     let c14 = c9 .before .before .before .before .before in
     λ f.
-    let m = small (c14 .pre .0) in
-    enters-written f (c14 .args .n) m _ (c14 .pre .1) _ _ (c9 .find-rule .last .1 .1 .1 .1 .0) (c14 .pre .0) (c9 .find-rule .kept .1 .1 .1 .1 .0)
-    (as-written f (c14 .args .n) m (c9 .find-rule .result) (c9 .find-rule .last .1 .1 .1 .1 .0)
-    (c9 .find-rule .ensures (f .file) (f .ns) (f .ars) (f .flags) (f .entries)) (c6 .len .given .1)) (c .before .before .put-rule .ensures)
+    enters-written f (c14 .args .n) (c14 .pre .0) _ (c14 .pre .1) _ _ (c9 .find-rule .last .1 .1 .1 .1 .0) (c9 .find-rule .kept .1 .1 .1 .1 .0)
+        (as-written f (c14 .args .n) (c14 .pre .0) (c9 .find-rule .result) (c9 .find-rule .last .1 .1 .1 .1 .0)
+        (c9 .find-rule .ensures (f .file) (f .ns) (f .ars) (f .flags) (f .entries)) (c6 .len .given .1)) (c .before .before .put-rule .ensures)
 
 same-length-2 : tie.Need-same-length-2
 same-length-2 c = search needs
@@ -99,9 +93,9 @@ returns-2 c =
     let c8 = c5 .before .before .before in
     let c13 = c8 .before .before .before .before .before in
     λ f.
-    let m = small (c13 .pre .0) in
-    enters-own f (c13 .args .n) m _ (c13 .pre .1) _ _ (as-placed f (c13 .args .n) m (c8 .find-rule .result) (c8 .find-rule .last .1 .1 .1 .1 .0)
-    (c8 .find-rule .ensures (f .file) (f .ns) (f .ars) (f .flags) (f .entries)) (c5 .k .given .1)) (c .before .before .put-place .ensures)
+    enters-own f (c13 .args .n) (c13 .pre .0) _ (c13 .pre .1) _ _ (as-placed f (c13 .args .n) (c13 .pre .0) (c8 .find-rule .result)
+        (c8 .find-rule .last .1 .1 .1 .1 .0) (c8 .find-rule .ensures (f .file) (f .ns) (f .ars) (f .flags) (f .entries)) (c5 .k .given .1))
+        (c .before .before .put-place .ensures)
 
 same-length-3 : tie.Need-same-length-3
 same-length-3 c = search needs
@@ -112,12 +106,12 @@ returns-3 c =
     let c7 = c4 .before .before .before in
     let c12 = c7 .before .before .before .before .before in
     λ f.
-    let m = small (c12 .pre .0) in
-    enters-none f (c12 .args .n) m _ (c12 .pre .1) _ (as-none f (c12 .args .n) m (c7 .find-rule .result) (c7 .find-rule .last .1 .1 .1 .1 .0)
-    (c7 .find-rule .ensures (f .file) (f .ns) (f .ars) (f .flags) (f .entries)) (c4 .enum-told .given .1)) (c .before .before .put-place2 .ensures)
+    enters-none f (c12 .args .n) (c12 .pre .0) _ (c12 .pre .1) _ (as-none f (c12 .args .n) (c12 .pre .0) (c7 .find-rule .result)
+        (c7 .find-rule .last .1 .1 .1 .1 .0) (c7 .find-rule .ensures (f .file) (f .ns) (f .ars) (f .flags) (f .entries)) (c4 .enum-told .given .1))
+        (c .before .before .put-place2 .ensures)
 
-pub enter-builtin-spec : {M : Type 1} → statement M
-enter-builtin-spec =
+pub enter-rule-spec : {M : Type 1} → statement M
+enter-rule-spec =
     tie.close
     (tie.spec
     slice-aggregate-find-rule

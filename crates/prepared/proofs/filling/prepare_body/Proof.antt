@@ -1,12 +1,12 @@
-use Rattle.prepared.specs.Filling.Whole.{sound-symbols, sound-rules, sound-laid, sound-prepared}
+use Rattle.prepared.specs.Filling.Whole.{sound-symbols, sound-rules, sound-laid, sound-body}
 use Rattle.rules.specs.Fit.Laws.{verdictOf}
 use lib.ListN.{length-take}
 use native.Mathlib.Omega.{arith}
 use mathlib.Core.Path.{ap, sym, _∙_}
 use denote.Ref.{now}
 use borrow.Author.Needs.{needs}
-use Rattle.prepared.proofs.filling.prepare.Statement.{statement}
-use Rattle.prepared.proofs.filling.prepare.Tie as tie
+use Rattle.prepared.proofs.filling.prepare_body.Statement.{statement}
+use Rattle.prepared.proofs.filling.prepare_body.Tie as tie
 
 slice-aggregate-judge : tie.Need-slice-aggregate-judge
 slice-aggregate-judge c = search needs
@@ -111,7 +111,7 @@ returns c =
     let c21 = c15 .before .before .before .before .before .before in
     let c22 = c21 .before in (
       sym (ap verdictOf (c9 .ns .given .1)) ∙ c15 .judge .ensures .0,
-      sound-prepared (now (c22 .args .file)) (c15 .judge .last .1 .0)
+      sound-body (now (c22 .args .file)) (c15 .judge .last .1 .0)
           (c15 .judge .last .1 .1 .0) (c15 .judge .last .1 .1 .1 .0) (c15 .judge .last .1 .1 .1 .1 .0) (c15 .judge .result) _ _ (c9 .ns .given .1)
           (c15 .judge .ensures .1) (λ k. c21 .shared-slice-known .given k .fits) (c22 .pre .0) _ (c .before .before .lay .ensures),
     )
@@ -124,8 +124,8 @@ returns-3 : tie.Need-returns-3
 returns-3 c =
     (sym (ap verdictOf (c .enum-told .given .1)) ∙ c .before .before .before .before .before .before .judge .ensures .0, tt)
 
-pub prepare-spec : {M : Type 1} → statement M
-prepare-spec =
+pub prepare-body-spec : {M : Type 1} → statement M
+prepare-body-spec =
     tie.close
     (tie.spec
     slice-aggregate-judge

@@ -1,0 +1,45 @@
+use Rattle.prepared.specs.Lists.{lists-of, none-found, lists-none}
+use denote.Ref.{now}
+use borrow.Author.Needs.{needs}
+use Rattle.prepared.proofs.list_places.enter_number.Statement.{statement}
+use Rattle.prepared.proofs.list_places.enter_number.Tie as tie
+
+rule-place-requires : tie.Need-rule-place-requires
+rule-place-requires c κs = search needs
+
+enum-known-place : tie.Need-enum-known-place
+enum-known-place c = search needs
+
+enter-lists-requires : tie.Need-enter-lists-requires
+enter-lists-requires c κs =
+    let c4 = c .before .before .before .before in
+    let c7 = c4 .before .before .before in
+    (c7 .pre .0, c7 .pre .1, c7 .pre .2, lists-of (now (c7 .args .q)) (c7 .pre .3) (c7 .args .n) (c4 .rule-place .ensures) _
+        (c .before .before .place .given .1))
+
+enum-told : tie.Need-enum-told
+enum-told c = search needs
+
+same-length : tie.Need-same-length
+same-length c = search needs
+
+returns : tie.Need-returns
+returns c = search needs
+
+returns-2 : tie.Need-returns-2
+returns-2 c =
+    let c5 = c .before .before .before .before .before in
+    lists-none (now (c5 .args .q)) (now (c5 .args .table)) (c5 .args .n) (c5 .pre .0)
+        (none-found (now (c5 .args .q)) (c5 .pre .3) (c5 .args .n) (c .before .before .rule-place .ensures) (c .enum-told .given .1))
+
+pub enter-number-spec : {M : Type 1} → statement M
+enter-number-spec =
+    tie.close
+    (tie.spec
+    rule-place-requires
+    enum-known-place
+    enter-lists-requires
+    enum-told
+    same-length
+    returns
+    returns-2)
