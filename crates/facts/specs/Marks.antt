@@ -6,16 +6,13 @@ use mathlib.Core.Path.{_≡_, refl, ap, ap₂, sym, _∙_}
 use native.Mathlib.Omega.{arith}
 use lib.ListN.{length, getD, drop, drop-of-length-le, take, length-map}
 use lib.Seq.{drop-cons}
-use lib.Dec.{eqb}
-use borrow.Author.Tests.{eqb-true}
-use Rattle.lists.specs.Tests.{and-split}
 use Rattle.protocol.specs.Protocol.{Fact, Protocol, Own}
 use Rattle.protocol.specs.Protocol.Limits.{Within}
-use Rattle.steps.specs.Facts.{sameFact, sameTerms}
+use Rattle.steps.specs.Facts.{sameFact}
+use Rattle.steps.specs.Facts.Bytes.{canonBytes, same-symbols, same-bytes}
 use Rattle.steps.specs.Facts.Formed.{FactFormed}
 use Rattle.facts.specs.declared.writing.Wanted.the-variants as want
-use Rattle.facts.specs.Writing.{canonBytes, wantedBytes, factRoom, Put}
-use Rattle.facts.specs.Calls.Bytes.{join-bytes}
+use Rattle.facts.specs.Writing.{wantedBytes, factRoom, Put}
 
 abbrev pub markBase : ℕ
 markBase = 257
@@ -33,9 +30,7 @@ markOf f = markFrom (f .symbol) (canonBytes (f .terms))
 
 -- ── facts whose marks differ are not the same ──
 same-marks : (f g : Fact) → sameFact f g ≡ true → markOf f ≡ markOf g
-same-marks f g h =
-    let (a, b) = and-split (eqb (f .symbol) (g .symbol)) (sameTerms (f .terms) (g .terms)) h in
-    ap₂ markFrom (eqb-true (f .symbol) (g .symbol) a) (join-bytes (f .terms) (g .terms) b)
+same-marks f g h = ap₂ markFrom (same-symbols f g h) (same-bytes f g h)
 
 pub marks-differ : (f g : Fact) → (markOf f ≡ markOf g → ⊥) → sameFact f g ≡ false
 marks-differ f g n = go (sameFact f g) refl

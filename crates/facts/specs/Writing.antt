@@ -11,12 +11,12 @@ use Rattle.lists.specs.All.{All}
 use Rattle.term.specs.Term.{Term, encode, symbols, variable, Occurss}
 use Rattle.term.specs.Reader.{terms}
 use Rattle.message.specs.Substitution.{sub}
-use Rattle.message.specs.Canon.{canon}
 use Rattle.canonical.specs.Builtins.{Builtins}
 use Rattle.canonical.specs.Contract.{Value}
 use Rattle.protocol.specs.Protocol.{Fact, fact}
 use Rattle.protocol.specs.Places.{Here}
 use Rattle.steps.specs.Facts.{valueAt, filledFact}
+use Rattle.steps.specs.Facts.Bytes.{canonBytes}
 use Rattle.steps.specs.Values.Parts.{noTerm}
 use Rattle.facts.specs.declared.writing.Wanted.{Wanted}
 use Rattle.facts.specs.declared.writing.Wanted.the-variants as want
@@ -43,9 +43,6 @@ Has (want.One x) f = x < length (f .terms)
 -- the bytes of all arguments as they are; of the canonical forms of those that are wanted
 abbrev pub plainBytes : Fact → List ℕ
 plainBytes f = flat encode (f .terms)
-
-abbrev pub canonBytes : List Term → List ℕ
-canonBytes ts = flat (λ t. encode (canon t)) ts
 
 abbrev pub wantedBytes : Wanted → Fact → List ℕ
 wantedBytes q f = canonBytes (wantedTerms q (f .terms))

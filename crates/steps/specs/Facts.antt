@@ -21,6 +21,8 @@ use Rattle.steps.specs.Nodes.{Node}
 pub mod Laws
 -- the facts of a node within the limits are well formed, and its terms without variables
 pub mod Formed
+-- the test of facts by the bytes of all their arguments, as code compares them
+pub mod Bytes
 -- how many a node has, and which symbols are linear
 pub mod Counts
 
@@ -74,17 +76,17 @@ pub record SameFact (ar : ℕ → Option ℕ) (f g : Fact) : Type 0 where
   pub symbols : f .symbol ≡ g .symbol
   pub terms : Sames ar (f .terms) (g .terms)
 
--- by the bytes of the canonical forms
-abbrev pub sameTerm : Term → Term → Bool
+-- by the bytes of the canonical forms; the three tests are opaque, so that no goal of a caller has canonical forms in it
+unfoldable pub sameTerm : Term → Term → Bool
 sameTerm t u = isEqual (compareBytes (encode (canon t)) (encode (canon u)))
 
-abbrev pub sameTerms : List Term → List Term → Bool
+unfoldable pub sameTerms : List Term → List Term → Bool
 sameTerms [] [] = true
 sameTerms [] (u ∷ us) = false
 sameTerms (t ∷ ts) [] = false
 sameTerms (t ∷ ts) (u ∷ us) = sameTerm t u && sameTerms ts us
 
-abbrev pub sameFact : Fact → Fact → Bool
+unfoldable pub sameFact : Fact → Fact → Bool
 sameFact f g = eqb (f .symbol) (g .symbol) && sameTerms (f .terms) (g .terms)
 
 -- "Symbols 0 Fr, 1 In, 2 Out are linear, 3 K persistent", an own one as declared

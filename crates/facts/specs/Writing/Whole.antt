@@ -32,10 +32,11 @@ use Rattle.protocol.specs.Protocol.Exact.{rule-term-exact}
 use Rattle.protocol.specs.Places.{placeOf, valueOf, Here, termPlace}
 use Rattle.protocol.specs.Places.Laws.{fact-fields}
 use Rattle.steps.specs.Facts.{valueAt, filledFact}
+use Rattle.steps.specs.Facts.Bytes.{canonBytes}
 use Rattle.steps.specs.Values.Parts.{terms-many}
 use Rattle.facts.specs.declared.writing.Wanted.{Wanted}
 use Rattle.facts.specs.declared.writing.Wanted.the-variants as want
-use Rattle.facts.specs.Writing.{canonBytes, factRoom, FactJob, WantedJob, Put, wantedBytes}
+use Rattle.facts.specs.Writing.{factRoom, FactJob, WantedJob, Put, wantedBytes}
 
 -- ── the two kinds of lists of terms ──
 filled-bytes : (θ : ℕ → Term) (ts : List Term) → encodes (subs θ (terms ts)) ≡ flat encode (map (sub θ) ts)

@@ -39,6 +39,7 @@ abbrev forms : List Term → List (List ℕ)
 forms ts = map (λ t. encode (canon t)) ts
 
 terms-forms : (ts us : List Term) → sameTerms ts us ≡ true → forms ts ≡ forms us
+unfolding sameTerms sameTerm
 terms-forms [] [] h = refl
 terms-forms [] (u ∷ us) h = clash (cc)
 terms-forms (t ∷ ts) [] h = clash (cc)
@@ -47,6 +48,7 @@ terms-forms (t ∷ ts) (u ∷ us) h =
     ap₂ _∷_ (equal-bytes (encode (canon t)) (encode (canon u)) .0 a) (terms-forms ts us b)
 
 forms-terms : (ts us : List Term) → forms ts ≡ forms us → sameTerms ts us ≡ true
+unfolding sameTerms sameTerm
 forms-terms [] [] h = refl
 forms-terms [] (u ∷ us) h = clash (cc)
 forms-terms (t ∷ ts) [] h = clash (cc)
@@ -60,11 +62,13 @@ record Alike (f g : Fact) : Type 0 where
   terms : forms (f .terms) ≡ forms (g .terms)
 
 fact-alike : (f g : Fact) → sameFact f g ≡ true → Alike f g
+unfolding sameFact
 fact-alike f g h =
     let (a, b) = and-split (eqb (f .symbol) (g .symbol)) (sameTerms (f .terms) (g .terms)) h in
     record { symbols = eqb-eq (f .symbol) (g .symbol) a; terms = terms-forms (f .terms) (g .terms) b }
 
 alike-fact : (f g : Fact) → Alike f g → sameFact f g ≡ true
+unfolding sameFact
 alike-fact f g h =
     and-both (eqb (f .symbol) (g .symbol)) (sameTerms (f .terms) (g .terms))
     (ap (eqb (f .symbol)) (sym (h .symbols)) ∙ eqb-self (f .symbol)) (forms-terms (f .terms) (g .terms) (h .terms))
@@ -88,12 +92,14 @@ fact-linear p f g h = ap (λ (y : ℕ). eqb (getD (factFlags (p .symbols)) y 0) 
 -- ── of well-formed facts: equal messages, argument by argument ──
 module _ (ar : ℕ → Option ℕ) (fit : FitArities ar) where
   pub term-decides : (t u : Term) → Formed ar t → Formed ar u → (sameTerm t u ≡ true) ↔ Same ar t u
+  unfolding sameTerm
   term-decides t u w v =
       let b = same-bytes ar fit t u w v in
       let e = equal-bytes (encode (canon t)) (encode (canon u)) in
       ((λ h. b .1 (e .0 h)), (λ d. e .1 (b .0 d)))
 
   to-sames : (ts us : List Term) → All (Formed ar) ts → All (Formed ar) us → sameTerms ts us ≡ true → Sames ar ts us
+  unfolding sameTerms
   to-sames [] [] w v h = tt
   to-sames [] (u ∷ us) w v h = clash (cc)
   to-sames (t ∷ ts) [] w v h = clash (cc)
@@ -102,6 +108,7 @@ module _ (ar : ℕ → Option ℕ) (fit : FitArities ar) where
       (term-decides t u (w .0) (v .0) .0 a, to-sames ts us (w .1) (v .1) b)
 
   of-sames : (ts us : List Term) → All (Formed ar) ts → All (Formed ar) us → Sames ar ts us → sameTerms ts us ≡ true
+  unfolding sameTerms
   of-sames [] [] w v h = refl
   of-sames [] (u ∷ us) w v h = absurd h
   of-sames (t ∷ ts) [] w v h = absurd h
@@ -110,6 +117,7 @@ module _ (ar : ℕ → Option ℕ) (fit : FitArities ar) where
 
   -- the test is true exactly when the symbols are equal and the arguments are equal messages one by one
   pub fact-decides : (f g : Fact) → All (Formed ar) (f .terms) → All (Formed ar) (g .terms) → (sameFact f g ≡ true) ↔ SameFact ar f g
+  unfolding sameFact
   fact-decides f g w v = (
     (λ h.
         let (a, b) = and-split (eqb (f .symbol) (g .symbol)) (sameTerms (f .terms) (g .terms)) h in
