@@ -25,6 +25,8 @@ pub mod Formed
 pub mod Bytes
 -- how many a node has, and which symbols are linear
 pub mod Counts
+-- the facts of a node and the trace as messages
+pub mod Messages
 
 -- ── the facts of a node ──
 -- the value of variable v; one without a value stays

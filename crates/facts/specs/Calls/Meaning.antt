@@ -16,13 +16,12 @@ use Rattle.protocol.specs.Protocol.Limits.{Within}
 use Rattle.steps.specs.Nodes.{Node, NodeWithin}
 use Rattle.lists.specs.All.Laws.{all-inside}
 use Rattle.steps.specs.Facts.{factsOf, sameFact, sameTerm, SameFact}
-use Rattle.steps.specs.Facts.Formed.{FactFormed, facts-formed, formed-decides, facts-ground}
+use Rattle.steps.specs.Facts.Formed.{FactFormed, facts-formed, formed-decides, node-ground, facts-ground}
 use Rattle.steps.specs.Facts.Laws.{term-decides}
 use Rattle.steps.specs.Values.Parts.{noTerm}
 use Rattle.facts.specs.declared.writing.Wanted.{Wanted}
 use Rattle.facts.specs.declared.writing.Wanted.the-variants as want
 use Rattle.facts.specs.declared.nodes.FactId.{FactId}
-use Rattle.facts.specs.Writing.Nodes.{node-ground}
 use Rattle.facts.specs.Calls.{factAt, argumentAt, FactOf}
 use Rattle.facts.specs.Calls.Laws.{fact-within}
 
@@ -37,7 +36,7 @@ module _ (p : Protocol) (file : List ℕ) (fit : Within p) (bytes : Bytes file) 
     pub fact-of-ground : All Ground (factAt p (a .list) (a .number) x .terms)
     fact-of-ground =
         all-inside (λ (g : Fact). All Ground (g .terms)) noFact (factsOf p (a .list) x)
-        (facts-ground p fit x within (node-ground p fit x within (f .right)) (a .list)) (a .number) (f .listed)
+        (facts-ground p fit x within (node-ground p x within (f .right)) (a .list)) (a .number) (f .listed)
 
   -- an argument is a message
   abbrev pub argument : (a : FactId) (j : ℕ) (x : Node) → FactOf p file a (want.One j) x → Message (arity (tagArities (p .functions)))

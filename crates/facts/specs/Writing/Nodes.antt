@@ -1,24 +1,23 @@
 -- The facts of a node of which 7 and 8 are absent are such as the code can write.
-use Prim.Native.Nat.{ℕ, suc, _+_, _≤_}
+use Prim.Native.Nat.{ℕ, _+_, _≤_}
 use mathlib.Core.List.{List, [], _∷_, List·Memᴰ·head, List·Memᴰ·tail}
 use mathlib.Core.Bool.{false}
-use mathlib.Core.Option.{some, Option·some-injective}
-use mathlib.Core.Path.{_≡_, refl, ap, sym, _∙_, subst}
+use mathlib.Core.Path.{_≡_, refl, sym, subst}
 use native.Mathlib.Omega.{arith}
-use lib.ListN.{length, getD, getElem?}
+use lib.ListN.{length, getD}
 use Rattle.octets.specs.Limits.{longest}
 use Rattle.term.specs.Sizes.{mostSymbols}
 use Rattle.octets.specs.Head.{Bytes}
 use Rattle.number.specs.Groups.{numberLimit}
 use Rattle.lists.specs.Lists.{anyBy, _∈_}
 use Rattle.lists.specs.All.{All}
-use Rattle.term.specs.Term.{Term, symbols}
+use Rattle.term.specs.Term.{symbols}
 use Rattle.term.specs.Arity.{tagArities}
 use Rattle.term.specs.Reader.{term}
 use Rattle.term.specs.Reader.Exact.{Good}
 use Rattle.lists.specs.Tests.{not-split}
 use Rattle.message.specs.Canonical.{Canonical}
-use Rattle.message.specs.Substitution.{sub, Ground}
+use Rattle.message.specs.Substitution.{sub}
 use Rattle.message.specs.Canon.{canon}
 use Rattle.canonical.specs.Builtins.{Builtins, declared}
 use Rattle.canonical.specs.Contract.Laws.{own-canonical}
@@ -30,10 +29,10 @@ use Rattle.rules.specs.Numbered.Limits.{rule-within}
 use Rattle.lists.specs.All.Laws.{all-map, all-both, all-at, map-all, none-all}
 use Rattle.steps.specs.Nodes.{Node, NodeWithin}
 use Rattle.steps.specs.Facts.{valueAt}
-use Rattle.steps.specs.Facts.Formed.{list-within}
+use Rattle.steps.specs.Facts.Formed.{same-rule, node-fits, list-within}
 use Rattle.facts.specs.Writing.{FactJob, factRoom}
 use Rattle.facts.specs.Writing.Asked.{fillable-job}
-use Rattle.steps.specs.Values.{ValueFits, NodeRight}
+use Rattle.steps.specs.Values.{NodeRight}
 use Rattle.steps.specs.Values.Parts.{noTerm}
 
 each-member : {A : Type 0} (P : A → Type 0) (xs : List A) → ((x : A) → x ∈ xs → P x) → All P xs
@@ -46,35 +45,16 @@ arities-few os w y =
     all-at (λ (a : ℕ). a ≤ 8) 0 (omega arith) (factArities os)
     (omega arith, (omega arith, (omega arith, (omega arith, map-all OwnWithin (λ (a : ℕ). a ≤ 8) (λ o. o .arity) (λ o q. omega (arith, q .small)) os w)))) y
 
-each-sorted :
-    (P : Term → Type 0) (ss : List ℕ) (vs : List Term) → length vs ≡ length ss
-    → ((i sort : ℕ) (v : Term) → getElem? ss i ≡ some sort → getElem? vs i ≡ some v → P v) → All P vs
-each-sorted P ss [] n h = tt
-each-sorted P [] (v ∷ vs) n h = absurd (omega arith)
-each-sorted P (file ∷ ss) (v ∷ vs) n h = (h 0 file v refl refl, each-sorted P ss vs (omega arith) (λ i t u a c. h (suc i) t u a c))
-
 module _ (p : Protocol) (fit : Within p) (x : Node) (b : NodeWithin p x) (r : NodeRight p x) where
-  same-rule : r .is ≡ b .is
-  same-rule = Option·some-injective (r .is) (b .is) (sym (r .known) ∙ b .known)
-
   lawful : RuleWithin (tagArities (p .functions)) (factArities (p .symbols)) (b .is)
   lawful = rule-within p fit (x .rule) (b .is) (b .known)
-
-  -- what holds of a value that fits holds of all its values
-  node-fits : (P : Term → Type 0) → ((sort : ℕ) (v : Term) → ValueFits sort v → P v) → All P (x .values)
-  node-fits P h =
-      each-sorted P (b .is .sorts) (x .values) (b .takes)
-      (λ i sort v e d. h sort v (r .fits i sort v (record { sorted = ap (λ (u : Rule). getElem? (u .sorts) i) same-rule ∙ e; valued = d })))
-
-  pub node-ground : All Ground (x .values)
-  node-ground = node-fits Ground (λ sort v f. f .ground)
 
   -- they are their own canonical forms
   node-own : All (λ t. canon t ≡ t) (x .values)
   node-own =
       all-map (λ t. Good (tagArities (p .functions)) t × Canonical t) (λ t. canon t ≡ t)
       (λ t g. own-canonical (tagArities (p .functions)) (declared (p .functions)) t (g .0 .0) .1 (g .1)) (x .values)
-      (all-both (Good (tagArities (p .functions))) Canonical (x .values) (b .each) (node-fits Canonical (λ sort v f. f .canonical)))
+      (all-both (Good (tagArities (p .functions))) Canonical (x .values) (b .each) (node-fits p x b r Canonical (λ sort v f. f .canonical)))
 
   abbrev Small : Fact → Type 0
   Small f = All (λ t. symbols (sub (valueAt (x .values)) t) ≤ mostSymbols) (f .terms)
@@ -86,7 +66,7 @@ module _ (p : Protocol) (fit : Within p) (x : Node) (b : NodeWithin p x) (r : No
   node-small =
       each-member (All Small) (b .is .lists) (λ fs m. each-member Small fs (λ f k.
       each-member (λ t. symbols (sub (valueAt (x .values)) t) ≤ mostSymbols) (f .terms) (λ t l.
-      r .small t (record { facts = fs; fact = f; of-rule = subst (λ (u : Rule). fs ∈ u .lists) (sym same-rule) m; of-facts = k; of-fact = l }))))
+      r .small t (record { facts = fs; fact = f; of-rule = subst (λ (u : Rule). fs ∈ u .lists) (sym (same-rule p x b r)) m; of-facts = k; of-fact = l }))))
 
   node-bound : All (All Bound) (b .is .lists)
   node-bound =

@@ -3,10 +3,10 @@ use Prim.Native.Nat.{ℕ, zero, suc, _<_, _≤_}
 use mathlib.Core.List.{List, [], _∷_}
 use mathlib.Core.Bool.{true, false}
 use mathlib.Core.Logic.{_↔_}
-use mathlib.Core.Option.{Option}
-use mathlib.Core.Path.{_≡_, sym, _∙_, subst}
+use mathlib.Core.Option.{Option, some, Option·some-injective}
+use mathlib.Core.Path.{_≡_, refl, ap, sym, _∙_, subst}
 use native.Mathlib.Omega.{arith}
-use lib.ListN.{length, getD, length-map}
+use lib.ListN.{length, getD, getElem?, length-map}
 use Rattle.number.specs.Groups.{numberLimit}
 use Rattle.lists.specs.Lists.{anyBy}
 use Rattle.lists.specs.All.{All}
@@ -26,6 +26,7 @@ use Rattle.lists.specs.All.Laws.{all-map, all-both, all-at, map-all, none-all}
 use Rattle.steps.specs.Nodes.{Node, NodeWithin}
 use Rattle.steps.specs.Facts.{valueAt, filledFact, filledList, factsOf, SameFact, sameFact}
 use Rattle.steps.specs.Facts.Laws.{fact-decides}
+use Rattle.steps.specs.Values.{ValueFits, NodeRight}
 
 -- a symbol that is there, as many arguments as it takes, each well formed
 pub record FactFormed (p : Protocol) (f : Fact) : Type 0 where
@@ -40,6 +41,27 @@ value-ground vs g v l = go vs g v (leaf variable v) l
     go [] g i d l = absurd (omega arith)
     go (t ∷ ts) g zero d l = g .0
     go (t ∷ ts) g (suc i) d l = go ts (g .1) i d (omega arith)
+
+-- ── the values of a node of which 7 is absent ──
+each-sorted :
+    (P : Term → Type 0) (ss : List ℕ) (vs : List Term) → length vs ≡ length ss
+    → ((i sort : ℕ) (v : Term) → getElem? ss i ≡ some sort → getElem? vs i ≡ some v → P v) → All P vs
+each-sorted P ss [] n h = tt
+each-sorted P [] (v ∷ vs) n h = absurd (omega arith)
+each-sorted P (s ∷ ss) (v ∷ vs) n h = (h 0 s v refl refl, each-sorted P ss vs (omega arith) (λ i t u a c. h (suc i) t u a c))
+
+module _ (p : Protocol) (x : Node) (b : NodeWithin p x) (r : NodeRight p x) where
+  pub same-rule : r .is ≡ b .is
+  same-rule = Option·some-injective (r .is) (b .is) (sym (r .known) ∙ b .known)
+
+  -- what holds of a value that fits holds of all its values
+  pub node-fits : (P : Term → Type 0) → ((sort : ℕ) (v : Term) → ValueFits sort v → P v) → All P (x .values)
+  node-fits P h =
+      each-sorted P (b .is .sorts) (x .values) (b .takes)
+      (λ i sort v e d. h sort v (r .fits i sort v (record { sorted = ap (λ (u : Rule). getElem? (u .sorts) i) same-rule ∙ e; valued = d })))
+
+  pub node-ground : All Ground (x .values)
+  node-ground = node-fits Ground (λ sort v f. f .ground)
 
 -- ── values are well formed, and so are the terms that they fill ──
 module _ (p : Protocol) where
