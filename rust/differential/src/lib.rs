@@ -1,5 +1,8 @@
 //! The proved calls beside the independent implementation: the same outcome and the same lent bytes.
 
+/// Step lists whose cost is measured.
+pub mod step_lists;
+
 use levtosziv::{Refusal, Written};
 use reference::calls::Outcome;
 use std::collections::BTreeMap;
@@ -101,6 +104,9 @@ pub fn canonical_form_agrees(
     );
     theirs
 }
+
+/// What a test program reads at most.
+pub const MOST_INPUT: usize = 65_536;
 
 /// What a test program writes for an input.
 pub fn program(name: &str, input: &[u8]) -> String {

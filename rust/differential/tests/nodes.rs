@@ -1,7 +1,7 @@
 //! Step lists and the facts of their nodes beside the reference: the test programs over random inputs from a
 //! fixed seed, mostly good ones, some damaged.
 
-use differential::{program, Shares};
+use differential::{program, Shares, MOST_INPUT};
 use reference::calls::Outcome;
 use reference::cases::{data, expected, facts, Case, Kind};
 use reference::generate::graphs::draw_input;
@@ -9,8 +9,7 @@ use reference::random::Random;
 use reference::refusal::File;
 
 const ROUNDS: usize = 40;
-/// What a test program reads at most, and the facts and arguments that cases_facts has room for.
-const MOST_INPUT: usize = 65_536;
+/// The facts and arguments that cases_facts has room for.
 const MOST_FACTS: usize = 64;
 const MOST_ARGUMENTS: usize = 256;
 
