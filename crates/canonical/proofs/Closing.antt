@@ -1,15 +1,16 @@
 -- A function of made arguments, by its tag.
-use Prim.Native.Nat.{ℕ}
+use Prim.Native.Nat.{ℕ, _+_}
 use mathlib.Core.List.{List}
 use mathlib.Core.Path.{_≡_, refl, ap, sym, _∙_, subst}
 use mathlib.Core.Logic.{_≢_}
 use mathlib.Core.Bool.{Bool, true, false}
 use mathlib.Core.Option.{some}
 use native.Mathlib.Omega.{arith}
+use Rattle.term.specs.Sizes.{termRoom}
 use Rattle.term.specs.Tags.{decTag, fstTag, sndTag, expTag, oneTag, invTag, mulTag}
-use Rattle.lists.specs.Asks.{Promises₃, Asks, Asks₂, Promises, Promises₂, Asks₃}
+use Rattle.lists.specs.Asks.{Asks, Asks₂, Promises, Promises₂}
 use Rattle.lists.specs.Choice.{clash}
-use Rattle.octets.specs.Splice.Prefix.{Wrote}
+use Rattle.octets.specs.Splice.Prefix.{Wrote, widen}
 use Rattle.term.specs.Term.{Term, app, Terms, nil, _&_, count, encode}
 use Rattle.term.specs.Arity.{arity}
 use Rattle.message.specs.Table.{rules}
@@ -26,9 +27,10 @@ use Rattle.canonical.proofs.Parts.{two-args, stays}
 
 module _ (arities out : List ℕ) (o e : ℕ) where
   -- the function as it stands
-  as-it-stands : (f : ℕ) (us : Terms) (t : Term) → t ≡ app f us → Built arities out o e f us → Wrote e out o out e (encode t)
+  as-it-stands : (f : ℕ) (us : Terms) (t : Term) → t ≡ app f us → Built arities out o e f us → Wrote (e + termRoom) out o out e (encode t)
   as-it-stands f us t q b =
-      subst (λ (z : Term). Wrote e out o out e (encode z)) (sym q) (stays out o e (encode (app f us)) (b .here .stands))
+      subst (λ (z : Term). Wrote (e + termRoom) out o out e (encode z)) (sym q)
+      (widen (e + termRoom) (omega arith) (stays out o e (encode (app f us)) (b .here .stands)))
 
   -- as products and powers are asked for
   as-asked : (f : ℕ) (us : Terms) → Built arities out o e f us → product.Whole arities out o e (app f us)
@@ -41,6 +43,7 @@ module _ (arities out : List ℕ) (o e : ℕ) where
         stands = b .here .stands;
         few = b .small;
         small = omega (arith, bytes-few (app f us) (b .here .range), s);
+        room = b .room;
         short = b .short;
       }
 
@@ -49,9 +52,16 @@ module _ (arities out : List ℕ) (o e : ℕ) where
     pub as-tag : Asks (Built arities out o e tag) → Asks (Built arities out o e g)
     as-tag w = subst (λ (f : ℕ). (Asks (Built arities out o e f))) is w
 
-    pub by-tag : (out′ : List ℕ) (r : ℕ) → Promises (Built arities out o e g) (λ (us : Terms). Wrote e out o out′ r (encode (apply rules g us))) → Promises
-        (Built arities out o e tag) (λ (us : Terms). Wrote e out o out′ r (encode (apply rules tag us)))
-    by-tag out′ r h = subst (λ (f : ℕ). (Promises (Built arities out o e f) (λ (us : Terms). Wrote e out o out′ r (encode (apply rules f us))))) (sym is) h
+    pub by-tag : (out′ : List ℕ) (r : ℕ) → Promises (Built arities out o e g) (λ (us : Terms). Wrote (e + termRoom) out o out′ r (encode (apply rules g us))) →
+        Promises
+        (Built arities out o e tag) (λ (us : Terms). Wrote (e + termRoom) out o out′ r (encode (apply rules tag us)))
+    by-tag out′ r h = subst (λ (f : ℕ). (Promises (Built arities out o e f) (λ (us : Terms). Wrote (e + termRoom) out o out′ r (encode (apply rules f us)))))
+        (sym is) h
+
+  -- a rule leaves the room behind as it was
+  pub in-place : (g : ℕ) (out′ : List ℕ) (r : ℕ) → Promises (Built arities out o e g) (λ (us : Terms). Wrote e out o out′ r (encode (apply rules g us)))
+      → Promises (Built arities out o e g) (λ (us : Terms). Wrote (e + termRoom) out o out′ r (encode (apply rules g us)))
+  in-place g out′ r h us b = widen (e + termRoom) (omega arith) (h us b)
 
   -- ── exp ──
   record Exp (us : Terms) : Type 0 where
@@ -66,23 +76,23 @@ module _ (arities out : List ℕ) (o e : ℕ) where
       let w = two-args us (cc) in
       record { x = w .0; y = w .1; is = w .2; built = subst (Built arities out o e expTag) (w .2) b }
 
-  pub exp-asks : Asks (Built arities out o e expTag) → Asks₃ (product.WholePower arities out o)
-  exp-asks (us, b) = let p = exp-of us b in (e, p .x, p .y, as-asked expTag (p .x & (p .y & nil)) (p .built))
+  pub exp-asks : Asks (Built arities out o e expTag) → Asks₂ (product.WholePower arities out o e)
+  exp-asks (us, b) = let p = exp-of us b in (p .x, p .y, as-asked expTag (p .x & (p .y & nil)) (p .built))
 
-  pub exp-done : (out′ : List ℕ) (r : ℕ) → Promises₃ (product.WholePower arities out o)
-      (λ (e : ℕ) (x y : Term). Wrote e out o out′ r (encode (raised (asBinary expTag x) x y)))
-      → Promises (Built arities out o e expTag) (λ (us : Terms). Wrote e out o out′ r (encode (apply rules expTag us)))
+  pub exp-done : (out′ : List ℕ) (r : ℕ) → Promises₂ (product.WholePower arities out o e)
+      (λ (x y : Term). Wrote (e + termRoom) out o out′ r (encode (raised (asBinary expTag x) x y)))
+      → Promises (Built arities out o e expTag) (λ (us : Terms). Wrote (e + termRoom) out o out′ r (encode (apply rules expTag us)))
   exp-done out′ r h us b =
       let p = exp-of us b in
       let w = p .built .here .formed .1 in
       let q : apply rules expTag us ≡ raised (asBinary expTag (p .x)) (p .x) (p .y) =
       ap (apply rules expTag) (p .is) ∙ made-exp (arity arities) (group arities (b .table)) (p .x) (p .y) (w .0) (w .1 .0) in
-      subst (λ (t : Term). Wrote e out o out′ r (encode t)) (sym q) (h e (p .x) (p .y) (as-asked expTag (p .x & (p .y & nil)) (p .built)))
+      subst (λ (t : Term). Wrote (e + termRoom) out o out′ r (encode t)) (sym q) (h (p .x) (p .y) (as-asked expTag (p .x & (p .y & nil)) (p .built)))
 
   -- ── a function without a rule ──
   pub free-done :
       (tag : ℕ) → isProduct tag ≡ false → tag ≢ decTag → tag ≢ fstTag → tag ≢ sndTag → tag ≢ expTag → Promises (Built arities out o e tag)
-      (λ (us : Terms). Wrote e out o out e (encode (apply rules tag us)))
+      (λ (us : Terms). Wrote (e + termRoom) out o out e (encode (apply rules tag us)))
   free-done tag p a b c d us h =
       let other : (g : ℕ) → isProduct g ≡ true → tag ≢ g =
       λ g t q. let z : true ≡ false = sym t ∙ ap isProduct (sym q) ∙ p in clash (cc) in
@@ -99,25 +109,25 @@ module _ (arities out : List ℕ) (o e : ℕ) where
   -- ── inside a product and outside ──
   module _ (tag : ℕ) (inside : Bool) where
     pub inner-done : isProduct tag ≡ true → inside ≡ true → Promises (Built arities out o e tag)
-        (λ (us : Terms). Wrote e out o out e (encode (closed inside tag us)))
+        (λ (us : Terms). Wrote (e + termRoom) out o out e (encode (closed inside tag us)))
     inner-done p i us b =
         as-it-stands tag us (closed inside tag us) (ap (λ (z : Bool). closed z tag us) i ∙ closed-stays true tag us p) b
 
-    pub product-asks : Asks (Built arities out o e tag) → Asks₂ (product.Whole arities out o)
-    product-asks (us, b) = (e, app tag us, as-asked tag us b)
+    pub product-asks : Asks (Built arities out o e tag) → Asks (product.Whole arities out o e)
+    product-asks (us, b) = (app tag us, as-asked tag us b)
 
     pub product-done :
-        isProduct tag ≡ true → inside ≡ false → (out′ : List ℕ) (r : ℕ) → Promises₂ (product.Whole arities out o)
-        (λ (e : ℕ) (t : Term). Wrote e out o out′ r (encode (multiplied (t & nil))))
-        → Promises (Built arities out o e tag) (λ (us : Terms). Wrote e out o out′ r (encode (closed inside tag us)))
+        isProduct tag ≡ true → inside ≡ false → (out′ : List ℕ) (r : ℕ) → Promises (product.Whole arities out o e)
+        (λ (t : Term). Wrote (e + termRoom) out o out′ r (encode (multiplied (t & nil))))
+        → Promises (Built arities out o e tag) (λ (us : Terms). Wrote (e + termRoom) out o out′ r (encode (closed inside tag us)))
     product-done p i out′ r h us b =
         let q : closed inside tag us ≡ multiplied (app tag us & nil) =
         ap (λ (z : Bool). closed z tag us) i ∙ closed-product false tag us p in
-        subst (λ (t : Term). Wrote e out o out′ r (encode t)) (sym q) (h e (app tag us) (as-asked tag us b))
+        subst (λ (t : Term). Wrote (e + termRoom) out o out′ r (encode t)) (sym q) (h (app tag us) (as-asked tag us b))
 
     pub other-done :
         isProduct tag ≡ false → (out′ : List ℕ) (r : ℕ) → Promises (Built arities out o e tag)
-        (λ (us : Terms). Wrote e out o out′ r (encode (apply rules tag us)))
-        → Promises (Built arities out o e tag) (λ (us : Terms). Wrote e out o out′ r (encode (closed inside tag us)))
+        (λ (us : Terms). Wrote (e + termRoom) out o out′ r (encode (apply rules tag us)))
+        → Promises (Built arities out o e tag) (λ (us : Terms). Wrote (e + termRoom) out o out′ r (encode (closed inside tag us)))
     other-done p out′ r h us b =
-        subst (λ (t : Term). Wrote e out o out′ r (encode t)) (sym (closed-other inside tag us p)) (h us b)
+        subst (λ (t : Term). Wrote (e + termRoom) out o out′ r (encode t)) (sym (closed-other inside tag us p)) (h us b)

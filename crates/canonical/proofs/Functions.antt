@@ -12,6 +12,7 @@ use Rattle.octets.specs.Splice.Prefix.{Wrote, widen, wrote-then, wrote-there}
 use Rattle.number.specs.Groups.{groups, numberLimit}
 use Rattle.term.specs.Term.{variable, Term, app, Terms, _&_, count, encode, encodes, Occurss}
 use Rattle.term.specs.Term.Laws.{encode-some}
+use Rattle.term.specs.Sizes.{termRoom}
 use Rattle.term.specs.Arity.{arity}
 use Rattle.message.specs.Substitution.{sub, subs}
 use Rattle.message.specs.Substitution.Laws.{sub-formed}
@@ -49,12 +50,13 @@ module _ (arities vals starts src : List ℕ) (at k : ℕ) (out : List ℕ) (o :
     args-asks R = by-op _ R (λ θ args us c e J. (θ, args, arguments θ args us c e J))
 
     module _ (p : Bool) (is : p ≡ isProduct tag) (out₂ : List ℕ) (at₂ e : ℕ) (same₂ : length out₂ ≡ length out)
-        (M : Promises₂ (Job arities vals starts src next number (length out₁) a) (λ (θ : ℕ → Term) (ts : Terms). Out (a + length (encodes (subs θ ts))) next
+        (M : Promises₂ (Job arities vals starts src next number (length out₁) a) (λ (θ : ℕ → Term) (ts : Terms). Out
+        (a + length (encodes (subs θ ts)) + termRoom) next
         out₁
         a out₂ at₂ e (encodes ts) (encodes (mades p θ ts)))) where
       record Inner (θ : ℕ → Term) (args us : Terms) : Type 0 where
         built : Built arities out₂ o e tag (mades (isProduct tag) θ args)
-        wrote : Wrote (o + length (encodes (subs θ (app tag args & us)))) out o out₂ e (encode (app tag (mades (isProduct tag) θ args)))
+        wrote : Wrote (o + length (encodes (subs θ (app tag args & us))) + termRoom) out o out₂ e (encode (app tag (mades (isProduct tag) θ args)))
         read : at₂ ≡ at + length (encode (app tag args))
         smaller : (inside : Bool) → length (encode (closed inside tag (mades (isProduct tag) θ args))) ≤ length (encode (sub θ (app tag args)))
         ends : e ≤ o + length (encode (sub θ (app tag args)))
@@ -64,11 +66,11 @@ module _ (arities vals starts src : List ℕ) (at k : ℕ) (out : List ℕ) (o :
           → Job arities vals starts src at k (length out) o θ (app tag args & us) → Inner θ args us
       inner θ args us c d J =
           let vs : Terms = mades (isProduct tag) θ args in
-          let m = subst (λ (i : Bool). Out (a + length (encodes (subs θ args))) next out₁ a out₂ at₂ e (encodes args) (encodes (mades i θ args))) is
+          let m = subst (λ (i : Bool). Out (a + length (encodes (subs θ args)) + termRoom) next out₁ a out₂ at₂ e (encodes args) (encodes (mades i θ args))) is
           (M θ args (arguments θ args us c d J)) in
-          let w : ℕ = o + length (encodes (subs θ (app tag args & us))) in
-          let l : w ≡ o + (length (encode (sub θ (app tag args))) + length (encodes (subs θ us))) =
-          ap (λ (z : ℕ). o + z) (length-append (encode (sub θ (app tag args))) (encodes (subs θ us))) in
+          let w : ℕ = o + length (encodes (subs θ (app tag args & us))) + termRoom in
+          let l : w ≡ o + (length (encode (sub θ (app tag args))) + length (encodes (subs θ us))) + termRoom =
+          ap (λ (z : ℕ). o + z + termRoom) (length-append (encode (sub θ (app tag args))) (encodes (subs θ us))) in
           let h = length-append (groups tag) (encodes (subs θ args)) in
           let wrote : Wrote w out o out₂ e (encode (app tag vs)) =
           wrote-then (widen w (omega (arith, A .ends, l, h)) A) (widen w (omega (arith, A .ends, l, h)) (m .wrote)) in
@@ -87,6 +89,7 @@ module _ (arities vals starts src : List ℕ) (at k : ℕ) (out : List ℕ) (o :
                 stands = record { ends = wrote .ends; there = wrote-there (omega (arith, J .room)) wrote };
               };
               small = omega (arith, z .symbols-less, s);
+              room = omega (arith, wrote .ends, z .bytes-less, l, J .room, same₂);
               short = omega (arith, J .short, same₂);
             };
             wrote = wrote;
@@ -102,7 +105,7 @@ module _ (arities vals starts src : List ℕ) (at k : ℕ) (out : List ℕ) (o :
       onward R = by-op _ R (λ θ args us c d J. omega (arith, inner θ args us c d J .read, encode-some (app tag args)))
 
       module _ (inside : Bool) (out₃ : List ℕ) (r : ℕ) (same₃ : length out₃ ≡ length out)
-          (C : Promises (Built arities out₂ o e tag) (λ (us : Terms). Wrote e out₂ o out₃ r (encode (closed inside tag us)))) where
+          (C : Promises (Built arities out₂ o e tag) (λ (us : Terms). Wrote (e + termRoom) out₂ o out₃ r (encode (closed inside tag us)))) where
         after-job :
             (θ : ℕ → Term) (args us : Terms) → count args ≡ number → next ≡ at + length (groups tag)
             → Job arities vals starts src at k (length out) o θ (app tag args & us) → Job arities vals starts src at₂ (k - 1) (length out₃) r θ us
@@ -117,20 +120,21 @@ module _ (arities vals starts src : List ℕ) (at k : ℕ) (out : List ℕ) (o :
 
         pub op-done :
             (out′ : List ℕ) (at′ o′ : ℕ) → Promises₂ (Job arities vals starts src at₂ (k - 1) (length out₃) r)
-            (λ (θ : ℕ → Term) (ts : Terms). Out (r + length (encodes (subs θ ts))) at₂ out₃ r out′ at′ o′ (encodes ts) (encodes (mades inside θ ts)))
-            → Promises₂ (Job arities vals starts src at k (length out) o) (λ (θ : ℕ → Term) (ts : Terms). Out (o + length (encodes (subs θ ts))) at out o out′
+            (λ (θ : ℕ → Term) (ts : Terms). Out (r + length (encodes (subs θ ts)) + termRoom) at₂ out₃ r out′ at′ o′ (encodes ts) (encodes (mades inside θ ts)))
+            → Promises₂ (Job arities vals starts src at k (length out) o) (λ (θ : ℕ → Term) (ts : Terms). Out (o + length (encodes (subs θ ts)) + termRoom) at
+            out o out′
             at′ o′ (encodes ts) (encodes (mades inside θ ts)))
         op-done out′ at′ o′ N θ ts J =
             op-case arities vals starts src at k (length out) o isLeaf tag number next F more
-            (λ ts. Out (o + length (encodes (subs θ ts))) at out o out′ at′ o′ (encodes ts) (encodes (mades inside θ ts))) θ ts b J
+            (λ ts. Out (o + length (encodes (subs θ ts)) + termRoom) at out o out′ at′ o′ (encodes ts) (encodes (mades inside θ ts))) θ ts b J
             (λ args us c d J.
             let i = inner θ args us c d J in
             let x = C (mades (isProduct tag) θ args) (i .built) in
             let m = N θ us (after-job θ args us c d J) in
-            let w : ℕ = o + length (encodes (subs θ (app tag args & us))) in
-            let l : w ≡ o + (length (encode (sub θ (app tag args))) + length (encodes (subs θ us))) =
-            ap (λ (z : ℕ). o + z) (length-append (encode (sub θ (app tag args))) (encodes (subs θ us))) in
-            let y = wrote-over (omega (arith, J .room)) (omega (arith, i .ends, l)) (i .wrote) x in
+            let w : ℕ = o + length (encodes (subs θ (app tag args & us))) + termRoom in
+            let l : w ≡ o + (length (encode (sub θ (app tag args))) + length (encodes (subs θ us))) + termRoom =
+            ap (λ (z : ℕ). o + z + termRoom) (length-append (encode (sub θ (app tag args))) (encodes (subs θ us))) in
+            let y = wrote-over (omega arith) (omega (arith, J .room)) (i .wrote) (widen w (omega (arith, i .ends, l)) x) in
             record {
               read = omega (arith, m .read, i .read, length-append (encode (app tag args)) (encodes us));
               wrote = wrote-then y (widen w (omega (arith, x .ends, i .smaller inside, l)) (m .wrote));

@@ -12,6 +12,7 @@ use Rattle.lists.specs.Asks.{Asks₂, Promises₂}
 use Rattle.octets.specs.Splice.Prefix.{Wrote, widen, lent-length, wrote-lent}
 use Rattle.term.specs.Term.{Term, Terms, encodes}
 use Rattle.term.specs.Arity.{arity}
+use Rattle.term.specs.Sizes.{termRoom}
 use Rattle.message.specs.Substitution.{subs}
 use Rattle.message.specs.Substitution.Laws.{subs-formed}
 use Rattle.canonical.specs.Builtins.{group}
@@ -50,21 +51,23 @@ module _ (arities vals starts src : List ℕ) (at k : ℕ) (out : List ℕ) (o :
       (λ v i. J .values v i .own)
 
   module _ (ys : List ℕ) (at′ r : ℕ) (M : Promises₂ (Job arities vals starts src at k (length (part out o)) 0)
-      (λ (θ : ℕ → Term) (ts : Terms). Out (0 + length (encodes (subs θ ts))) at (part out o) 0 ys at′ r (encodes ts) (encodes (mades false θ ts)))) where
-    pub part-ends : Asks₂ (Job arities vals starts src at k (length out) o) → (o + r ≤ length out) × (length out ≤ longest)
-    part-ends (θ, ts, J) =
-        let m = M θ ts (part-job θ ts J) in
-        (omega (arith, m .wrote .ends, made-sounds θ ts J .sizes .bytess-less, J .room), J .short)
+      (λ (θ : ℕ → Term) (ts : Terms). Out (0 + length (encodes (subs θ ts)) + termRoom) at (part out o) 0 ys at′ r (encodes ts) (encodes (mades false θ ts))))
+    where
+      pub part-ends : Asks₂ (Job arities vals starts src at k (length out) o) → (o + r ≤ length out) × (length out ≤ longest)
+      part-ends (θ, ts, J) =
+          let m = M θ ts (part-job θ ts J) in
+          (omega (arith, m .wrote .ends, made-sounds θ ts J .sizes .bytess-less, J .room), J .short)
 
-    pub part-done : Promises₂ (Job arities vals starts src at k (length out) o) (λ (θ : ℕ → Term) (ts : Terms). Out (o + length (encodes (subs θ ts))) at out o
-        (putMid o (length out - o) out ys) at′ (o + r) (encodes ts) (encodes (filleds θ ts)))
-    part-done θ ts J =
-        let m = M θ ts (part-job θ ts J) in
-        let n : ℕ = length (encodes (subs θ ts)) in
-        let w = wrote-lent out ys (0 + n) o r (encodes (mades false θ ts)) (omega (arith, J .room)) (m .wrote) in
-        let out′ : List ℕ = putMid o (length out - o) out ys in
-        record {
-          read = m .read;
-          wrote = subst (λ (us : Terms). Wrote (o + n) out o out′ (o + r) (encodes us)) (made-sounds θ ts J .are refl)
-              (widen (o + n) (omega arith) w);
-        }
+      pub part-done : Promises₂ (Job arities vals starts src at k (length out) o) (λ (θ : ℕ → Term) (ts : Terms). Out
+          (o + length (encodes (subs θ ts)) + termRoom) at out o
+          (putMid o (length out - o) out ys) at′ (o + r) (encodes ts) (encodes (filleds θ ts)))
+      part-done θ ts J =
+          let m = M θ ts (part-job θ ts J) in
+          let n : ℕ = length (encodes (subs θ ts)) in
+          let w = wrote-lent out ys (0 + n + termRoom) o r (encodes (mades false θ ts)) (omega (arith, J .room)) (m .wrote) in
+          let out′ : List ℕ = putMid o (length out - o) out ys in
+          record {
+            read = m .read;
+            wrote = subst (λ (us : Terms). Wrote (o + n + termRoom) out o out′ (o + r) (encodes us)) (made-sounds θ ts J .are refl)
+                (widen (o + n + termRoom) (omega arith) w);
+          }

@@ -6,7 +6,7 @@ use mathlib.Core.Logic.{_≢_, inl, inr}
 use mathlib.Core.Bool.{Bool, true, false}
 use native.Mathlib.Omega.{arith}
 use lib.ListN.{length, drop, length-append}
-use Rattle.term.specs.Sizes.{mostSymbols}
+use Rattle.term.specs.Sizes.{mostSymbols, termRoom}
 use Rattle.canonical.specs.First.{FirstAt}
 use Rattle.lists.specs.Asks.{Asks₂, Promises₂}
 use Rattle.lists.specs.Choice.{clash}
@@ -39,7 +39,7 @@ module _ (arities vals starts src : List ℕ) (at k n o : ℕ) (θ : ℕ → Ter
     pub inside-source : at + length (encode t) ≤ length src
     inside-source = stands-within (here-one .stands) (encode-some t)
 
-    pub room-one : o + length (encode (sub θ t)) + length (encodes (subs θ us)) ≤ n
+    pub room-one : o + length (encode (sub θ t)) + length (encodes (subs θ us)) + termRoom ≤ n
     room-one = omega (arith, J .room, length-append (encode (sub θ t)) (encodes (subs θ us)))
 
     pub next-job :
@@ -79,7 +79,8 @@ module _ (arities vals starts src : List ℕ) (at k n o : ℕ) (θ : ℕ → Ter
 -- no term is left
 pub none-done :
     (arities vals starts src : List ℕ) (at k : ℕ) (inside : Bool) (out : List ℕ) (o : ℕ) → k ≡ 0
-    → Promises₂ (Job arities vals starts src at k (length out) o) (λ (θ : ℕ → Term) (ts : Terms). Out (o + length (encodes (subs θ ts))) at out o out at o
+    → Promises₂ (Job arities vals starts src at k (length out) o) (λ (θ : ℕ → Term) (ts : Terms). Out (o + length (encodes (subs θ ts)) + termRoom) at out o
+    out at o
     (encodes ts) (encodes (mades inside θ ts)))
 none-done arities vals starts src at k inside out o z θ nil J = record { read = omega arith; wrote = wrote-nothing _ o out }
 none-done arities vals starts src at k inside out o z θ (t & us) J = absurd (omega (arith, J .many))
@@ -141,24 +142,24 @@ leaf-made inside θ fresh m = refl
 
 leaf-job :
     (arities vals starts src : List ℕ) (at k n o tag number : ℕ) (θ : ℕ → Term) (kd : Kind) (us : Terms) → tag ≡ tagOf kd
-    → Job arities vals starts src at k n o θ (leaf kd number & us) → LeafJob arities vals starts n o tag number θ kd
+    → Job arities vals starts src at k n o θ (leaf kd number & us) → LeafJob vals starts n o tag number θ kd
 leaf-job arities vals starts src at k n o tag number θ kd us t J = record {
+  arities = arities;
   kind = t;
   range = J .range .0;
   values = λ v c. J .values v (inl c);
   room = let r = room-one arities vals starts src at k n o θ (leaf kd number) us J in omega arith;
-  values-short = J .values-short;
 }
 
 module _ (arities vals starts src : List ℕ) (at k : ℕ) (out : List ℕ) (o : ℕ) (isLeaf : Bool) (tag number next : ℕ)
     (F : Promises₂ (Here arities src at) (λ (e : ℕ) (t : Term). FirstAt t at isLeaf tag number next)) (more : k ≢ 0) (b : isLeaf ≡ true) where
-  pub leaf-asks : Asks₂ (Job arities vals starts src at k (length out) o) → Asks₂ (LeafJob arities vals starts (length out) o tag number)
+  pub leaf-asks : Asks₂ (Job arities vals starts src at k (length out) o) → Asks₂ (LeafJob vals starts (length out) o tag number)
   leaf-asks (θ, ts, J) =
       leaf-case arities vals starts src at k (length out) o isLeaf tag number next F more
-      (λ ts. (Asks₂ (LeafJob arities vals starts (length out) o tag number))) θ ts b J
+      (λ ts. (Asks₂ (LeafJob vals starts (length out) o tag number))) θ ts b J
       (λ kd us t p J. (θ, kd, leaf-job arities vals starts src at k (length out) o tag number θ kd us t J))
 
-  module _ (out₁ : List ℕ) (p : ℕ) (same : length out₁ ≡ length out) (D : Promises₂ (LeafJob arities vals starts (length out) o tag number)
+  module _ (out₁ : List ℕ) (p : ℕ) (same : length out₁ ≡ length out) (D : Promises₂ (LeafJob vals starts (length out) o tag number)
       (λ (θ : ℕ → Term) (k : Kind). Wrote p out o out₁ p (encode (sub θ (leaf k number))))) where
     rest-job :
         (θ : ℕ → Term) (kd : Kind) (us : Terms) → tag ≡ tagOf kd → next ≡ at + length (encode (leaf kd number))
@@ -176,17 +177,18 @@ module _ (arities vals starts src : List ℕ) (at k : ℕ) (out : List ℕ) (o :
 
     pub leaf-done :
         (inside : Bool) (out′ : List ℕ) (at′ o′ : ℕ) → Promises₂ (Job arities vals starts src next (k - 1) (length out₁) p)
-        (λ (θ : ℕ → Term) (ts : Terms). Out (p + length (encodes (subs θ ts))) next out₁ p out′ at′ o′ (encodes ts) (encodes (mades inside θ ts)))
-        → Promises₂ (Job arities vals starts src at k (length out) o) (λ (θ : ℕ → Term) (ts : Terms). Out (o + length (encodes (subs θ ts))) at out o out′ at′
+        (λ (θ : ℕ → Term) (ts : Terms). Out (p + length (encodes (subs θ ts)) + termRoom) next out₁ p out′ at′ o′ (encodes ts) (encodes (mades inside θ ts)))
+        → Promises₂ (Job arities vals starts src at k (length out) o) (λ (θ : ℕ → Term) (ts : Terms). Out (o + length (encodes (subs θ ts)) + termRoom) at out
+        o out′ at′
         o′
         (encodes ts) (encodes (mades inside θ ts)))
     leaf-done inside out′ at′ o′ M θ ts J =
         leaf-case arities vals starts src at k (length out) o isLeaf tag number next F more
-        (λ ts. Out (o + length (encodes (subs θ ts))) at out o out′ at′ o′ (encodes ts) (encodes (mades inside θ ts))) θ ts b J
+        (λ ts. Out (o + length (encodes (subs θ ts)) + termRoom) at out o out′ at′ o′ (encodes ts) (encodes (mades inside θ ts))) θ ts b J
         (λ kd us t e J.
         let d = D θ kd (leaf-job arities vals starts src at k (length out) o tag number θ kd us t J) in
         let m = M θ us (rest-job θ kd us t e J) in
-        let w : ℕ = o + length (encodes (subs θ (leaf kd number & us))) in
+        let w : ℕ = o + length (encodes (subs θ (leaf kd number & us))) + termRoom in
         let l = length-append (encode (sub θ (leaf kd number))) (encodes (subs θ us)) in
         record {
           read = omega (arith, m .read, e, length-append (encode (leaf kd number)) (encodes us));

@@ -12,6 +12,7 @@ use Rattle.lists.specs.Asks.{Asks, Asks₂, Promises, Promises₂}
 use Rattle.octets.specs.Compare.{compareBytes, isEqual}
 use Rattle.octets.specs.Compare.Laws.{compare-refl}
 use Rattle.octets.specs.Head.{stands-at, stands-within, stands-part, Stands}
+use Rattle.octets.specs.Limits.{longest}
 use Rattle.octets.specs.Splice.Prefix.{wrote-there}
 use Rattle.term.specs.Term.{variable, Term, leaf, nil, _&_, encode, encodes, Formed, Terms}
 use Rattle.term.specs.Term.Laws.{encode-some}
@@ -25,8 +26,7 @@ use Rattle.message.specs.Filled.{filled, filleds}
 use Rattle.message.specs.Filled.Laws.{filled-canon}
 use Rattle.canonical.specs.Builtins.{group}
 use Rattle.canonical.specs.Size.{bytes-few}
-use Rattle.canonical.specs.Contract.{Job, MessageAt, Out}
-use Rattle.canonical.specs.Inner.{Here}
+use Rattle.canonical.specs.Contract.{Job, MessageAt, MessageIn, Out, formRoom}
 use Rattle.canonical.proofs.Parts.{same-term}
 
 -- ── no variable stands in a message ──
@@ -35,8 +35,8 @@ filled-message t g = filled-canon (leaf variable) t (λ v o. absurd (g v o)) ∙
 
 -- ── its canonical form ──
 module _ (arities src starts : List ℕ) (at : ℕ) where
-  message-job : (t : Term) → MessageAt arities src at t → (n : ℕ) → n ≡ termRoom → Job arities src starts src at 1 n 0 (leaf variable) (t & nil)
-  message-job t m n l = record {
+  message-job : (t : Term) → MessageAt arities src at t → (n : ℕ) → formRoom ≤ n → n ≤ longest → Job arities src starts src at 1 n 0 (leaf variable) (t & nil)
+  message-job t m n l h = record {
     table = m .table;
     many = refl;
     formed = (m .formed, tt);
@@ -46,19 +46,19 @@ module _ (arities src starts : List ℕ) (at : ℕ) where
     values = λ v o. absurd (⊎-elim (m .ground v) (λ a. a) o);
     small = (rw (sub-same t) (m .small), tt);
     room = let k = m .small in rw (sub-same t, append-nil (encode t)) (omega (arith, bytes-few t (m .range), k));
-    short = omega arith;
+    short = h;
     values-short = m .short;
   }
 
-  pub message-ready : Asks (MessageAt arities src at) → (n : ℕ) → n ≡ termRoom → Asks₂ (Job arities src starts src at 1 n 0)
-  message-ready (t, m) n l = (leaf variable, (t & nil), message-job t m n l)
+  pub message-ready : Asks (MessageAt arities src at) → (n : ℕ) → formRoom ≤ n → n ≤ longest → Asks₂ (Job arities src starts src at 1 n 0)
+  message-ready (t, m) n l h = (leaf variable, (t & nil), message-job t m n l h)
 
   pub message-canon :
-      (out out′ : List ℕ) (at′ r : ℕ) → length out ≡ termRoom → Promises₂ (Job arities src starts src at 1 (length out) 0)
-      (λ (θ : ℕ → Term) (ts : Terms). Out (0 + length (encodes (subs θ ts))) at out 0 out′ at′ r (encodes ts) (encodes (filleds θ ts))) → Promises
+      (out out′ : List ℕ) (at′ r : ℕ) → formRoom ≤ length out → length out ≤ longest → Promises₂ (Job arities src starts src at 1 (length out) 0)
+      (λ (θ : ℕ → Term) (ts : Terms). Out (0 + length (encodes (subs θ ts)) + termRoom) at out 0 out′ at′ r (encodes ts) (encodes (filleds θ ts))) → Promises
       (MessageAt arities src at) (λ (t : Term). Stands out′ 0 (encode (canon t)) r)
-  message-canon out out′ at′ r l D t m =
-      let w = D (leaf variable) (t & nil) (message-job t m (length out) l) .wrote in
+  message-canon out out′ at′ r l h D t m =
+      let w = D (leaf variable) (t & nil) (message-job t m (length out) l h) .wrote in
       let q : encodes (filleds (leaf variable) (t & nil)) ≡ encode (canon t) =
       append-nil (encode (filled (leaf variable) t)) ∙ ap encode (filled-message t (m .ground)) in
       record {
@@ -66,8 +66,19 @@ module _ (arities src starts : List ℕ) (at : ℕ) where
         there = wrote-there (omega arith) w ∙ ap (λ (z : List ℕ). z ++ drop r out′) q;
       }
 
-  pub message-here : (t : Term) → MessageAt arities src at t → Here arities src at (at + length (encode t)) t
-  message-here t m = record { formed = m .formed; range = m .range; stands = stands-at src at (encode t) (m .rest) (m .there) }
+-- the message from `at` up to `end`, as a part of the source
+module _ (arities src : List ℕ) (at end : ℕ) where
+  message-stands : (t : Term) → MessageIn arities src at end t → Stands src at (encode t) end
+  message-stands t m = rw (m .ends) (stands-at src at (encode t) (m .is .rest) (m .is .there))
+
+  pub message-within : Asks (MessageIn arities src at end) → (at ≤ end) × (end ≤ length src)
+  message-within (t, m) = (omega (arith, m .ends), stands-within (message-stands t m) (encode-some t))
+
+  pub message-part : (t : Term) → MessageIn arities src at end t → take (end - at) (drop at src) ≡ encode t
+  message-part t m = stands-part (message-stands t m)
+
+  pub message-is : Asks (MessageIn arities src at end) → Asks (MessageAt arities src at)
+  message-is (t, m) = (t, m .is)
 
 -- ── what a comparison decides ──
 same-exactly :

@@ -3,7 +3,8 @@ use Prim.Native.Nat.{ℕ, _+_, _-_, _≤_, _<_}
 use mathlib.Core.List.{List}
 use mathlib.Core.Path.{_≡_, ap, _∙_}
 use native.Mathlib.Omega.{arith}
-use lib.ListN.{length, take, drop}
+use lib.ListN.{length, take, drop, length-drop}
+use lib.Seq.{length-take-le}
 use Rattle.lists.specs.Asks.{Promises}
 use Rattle.octets.specs.Head.{stands-part, Stands}
 use Rattle.octets.specs.Splice.{splice}
@@ -14,6 +15,10 @@ use Rattle.number.specs.Groups.{numberLimit}
 pub number-small : (n : ℕ) → n < numberLimit → n < 4294967296
 unfolding numberLimit
 number-small n h = omega arith
+
+-- how long a part is
+pub part-length : (s : List ℕ) (from to : ℕ) → from ≤ to → to ≤ length s → length (take (to - from) (drop from s)) ≡ to - from
+part-length s from to a b = length-take-le (to - from) (drop from s) (rw length-drop (omega arith))
 
 -- a splice as a write
 pub spliced :

@@ -4,7 +4,7 @@ use mathlib.Core.List.{List, _++_}
 use mathlib.Core.Path.{_≡_}
 use lib.ListN.{length, drop, getD}
 use Rattle.octets.specs.Limits.{longest}
-use Rattle.term.specs.Sizes.{mostSymbols}
+use Rattle.term.specs.Sizes.{mostSymbols, termRoom}
 use Rattle.octets.specs.Splice.Prefix.{Wrote}
 use Rattle.term.specs.Term.{variable, Term, Terms, count, encode, encodes, symbols, Formed, Formeds, InRange, InRanges, Occurss}
 use Rattle.term.specs.Arity.{arity}
@@ -16,17 +16,18 @@ use Rattle.canonical.specs.Builtins.{Builtins}
 pub mod Laws
 
 -- ── a run of terms ──
--- the value t of variable v: canonical, its bytes in `vals` from the v-th of `starts` on
+-- the value t of variable v: canonical, its bytes in `vals` from the v-th of `starts` up to the next
 pub record Value (arities vals starts : List ℕ) (v : ℕ) (t : Term) : Type 0 where
-  pub listed : v < length starts
+  pub listed : v + 1 < length starts
   pub rest : List ℕ
   pub there : drop (getD starts v 0) vals ≡ encode t ++ rest
+  pub ends : getD starts (v + 1) 0 ≡ getD starts v 0 + length (encode t)
   pub formed : Formed (arity arities) t
   pub range : InRange t
   pub own : canon t ≡ t
 
 -- the k terms ts stand in src from `at` on, their variables have the values θ, and an output of n bytes has room from o on for the terms
--- filled in
+-- filled in, and behind them for a product
 pub record Job (arities vals starts src : List ℕ) (at k n o : ℕ) (θ : ℕ → Term) (ts : Terms) : Type 0 where
   pub table : Builtins arities
   pub many : count ts ≡ k
@@ -36,7 +37,7 @@ pub record Job (arities vals starts src : List ℕ) (at k n o : ℕ) (θ : ℕ �
   pub there : drop at src ≡ encodes ts ++ rest
   pub values : (v : ℕ) → Occurss variable v ts → Value arities vals starts v (θ v)
   pub small : Each (λ t. symbols (sub θ t) ≤ mostSymbols) ts
-  pub room : o + length (encodes (subs θ ts)) ≤ n
+  pub room : o + length (encodes (subs θ ts)) + termRoom ≤ n
   pub short : n ≤ longest
   pub values-short : length vals ≤ longest
 
@@ -56,3 +57,12 @@ pub record MessageAt (arities src : List ℕ) (at : ℕ) (t : Term) : Type 0 whe
   pub there : drop at src ≡ encode t ++ rest
   pub small : symbols t ≤ mostSymbols
   pub short : length src ≤ longest
+
+-- it ends at `end`
+pub record MessageIn (arities src : List ℕ) (at end : ℕ) (t : Term) : Type 0 where
+  pub is : MessageAt arities src at t
+  pub ends : end ≡ at + length (encode t)
+
+-- the room in which a message's form is made: for the term, and behind it for a product
+abbrev pub formRoom : ℕ
+formRoom = termRoom + termRoom

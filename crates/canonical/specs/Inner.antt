@@ -4,7 +4,7 @@ use mathlib.Core.List.{List}
 use mathlib.Core.Path.{_≡_}
 use lib.ListN.{length}
 use Rattle.octets.specs.Limits.{longest}
-use Rattle.term.specs.Sizes.{mostSymbols}
+use Rattle.term.specs.Sizes.{mostSymbols, termRoom}
 use Rattle.octets.specs.Head.{Stands}
 use Rattle.number.specs.Groups.{numberLimit}
 use Rattle.term.specs.Term.{Kind, Term, leaf, app, Terms, tagOf, encode, symbols, Formed, InRange, variable, Occurs}
@@ -15,12 +15,12 @@ use Rattle.canonical.specs.Contract.{Value}
 
 -- ── a leaf ──
 -- the leaf of a kind and a number, its value if it is a variable, and room for it
-pub record LeafJob (arities vals starts : List ℕ) (n o tag number : ℕ) (θ : ℕ → Term) (k : Kind) : Type 0 where
+pub record LeafJob (vals starts : List ℕ) (n o tag number : ℕ) (θ : ℕ → Term) (k : Kind) : Type 0 where
+  pub arities : List ℕ
   pub kind : tag ≡ tagOf k
   pub range : number < numberLimit
   pub values : (v : ℕ) → Occurs variable v (leaf k number) → Value arities vals starts v (θ v)
   pub room : o + length (encode (sub θ (leaf k number))) ≤ n
-  pub values-short : length vals ≤ longest
 
 -- ── one term ──
 -- the term t stands in src from `at` up to e
@@ -29,9 +29,10 @@ pub record Here (arities src : List ℕ) (at e : ℕ) (t : Term) : Type 0 where
   pub range : InRange t
   pub stands : Stands src at (encode t) e
 
--- ── a function of made arguments, in the output from o up to e ──
+-- ── a function of made arguments, in the output from o up to e, and room behind it for a product ──
 pub record Built (arities out : List ℕ) (o e f : ℕ) (us : Terms) : Type 0 where
   pub table : Builtins arities
   pub here : Here arities out o e (app f us)
   pub small : symbols (app f us) ≤ mostSymbols
+  pub room : e + termRoom ≤ length out
   pub short : length out ≤ longest

@@ -14,6 +14,7 @@ ghost use Rattle.message.specs.Filled.{filleds};
 ghost use Rattle.message.specs.Substitution.{sub, subs};
 ghost use Rattle.term.specs.Tags.{decTag, fstTag, sndTag};
 ghost use Rattle.term.specs.Arity.{arity};
+ghost use Rattle.term.specs.Sizes.{termRoom};
 ghost use Rattle.term.specs.Term.{Kind, Term, Terms, leaf, encode, encodes};
 ghost use Rattle.lists.specs.Asks.{Asks, Asks₂, Promises, Promises₂};
 ghost use Rattle.octets.specs.Splice.Prefix.{Wrote};
@@ -21,12 +22,15 @@ ghost use Rattle.number.specs.Groups.{groups, numberLimit};
 ghost use Rattle.message.specs.Table.{rules};
 ghost use Rattle.message.specs.Canon.{apply, canon};
 ghost use Rattle.canonical.specs.Loose.{isProduct, closed, mades};
-ghost use Rattle.canonical.specs.Contract.{Job, Out, MessageAt};
+ghost use Rattle.canonical.specs.Contract.{Job, Out, MessageAt, MessageIn, formRoom};
 ghost use Rattle.canonical.specs.Inner.{LeafJob, Here, Built};
 use term::Part;
 use term::Symbol;
 
-// The places behind the terms that were read and behind what was written.
+// The room in which a message's form is made: for the term, and behind it for a product.
+pub const FORM_ROOM: usize = term::TERM_ROOM + term::TERM_ROOM;
+
+// The places of the terms to be read next and of what is to be written next.
 pub struct Next {
     pub at: usize,
     pub o: usize,
@@ -118,16 +122,16 @@ fn put_leaf(
     o: usize,
     tag: usize,
     number: usize,
-    arities: &[u8],
     vals: &[u8],
     starts: &[usize],
 ) -> usize
-    requires { ⌜ Asks₂ (LeafJob (now arities) (now vals) (now starts) (length (now out)) o tag number) ⌝ }
-    ensures { λ r. ⌜ Promises₂ (LeafJob (now (arities .entry)) (now (vals .entry)) (now (starts .entry)) (length (now (out .entry))) o tag number) (λ (θ : ℕ → Term) (k : Kind). Wrote r (now (out .entry)) o (now (out .exit)) r (encode (sub θ (leaf k number)))) ⌝ }
+    requires { ⌜ Asks₂ (LeafJob (now vals) (now starts) (length (now out)) o tag number) ⌝ }
+    ensures { λ r. ⌜ Promises₂ (LeafJob (now (vals .entry)) (now (starts .entry)) (length (now (out .entry))) o tag number) (λ (θ : ℕ → Term) (k : Kind). Wrote r (now (out .entry)) o (now (out .exit)) r (encode (sub θ (leaf k number)))) ⌝ }
 {
     if tag == term::VARIABLE {
         let from = starts[number];
-        return octets::copy_into(out, o, term::term_part(vals, arities, from));
+        let to = starts[number + 1];
+        return octets::copy_into(out, o, &vals[from..to]);
     }
     let a = put_number(out, o, tag);
     put_number(out, a, number)
@@ -182,7 +186,7 @@ fn right(out: &mut [u8], o: usize, e: usize, arities: &[u8]) -> usize
 // The function of a tag, no product function, of canonical arguments.
 fn reduce(out: &mut [u8], o: usize, e: usize, tag: usize, arities: &[u8]) -> usize
     requires { ⌜ (isProduct tag ≡ false) × Asks (Built (now arities) (now out) o e tag) ⌝ }
-    ensures { λ r. ⌜ Promises (Built (now (arities .entry)) (now (out .entry)) o e tag) (λ (us : Terms). Wrote e (now (out .entry)) o (now (out .exit)) r (encode (apply rules tag us))) ⌝ }
+    ensures { λ r. ⌜ Promises (Built (now (arities .entry)) (now (out .entry)) o e tag) (λ (us : Terms). Wrote (e + termRoom) (now (out .entry)) o (now (out .exit)) r (encode (apply rules tag us))) ⌝ }
 {
     if tag == term::DEC {
         return unlock(out, o, e, arities);
@@ -194,7 +198,7 @@ fn reduce(out: &mut [u8], o: usize, e: usize, tag: usize, arities: &[u8]) -> usi
         return right(out, o, e, arities);
     }
     if tag == term::EXP {
-        return product::exponent(out, o, arities);
+        return product::exponent(out, o, e, arities);
     }
     e
 }
@@ -202,50 +206,60 @@ fn reduce(out: &mut [u8], o: usize, e: usize, tag: usize, arities: &[u8]) -> usi
 // The function of a tag, of made arguments. Inside a product a product function stays as it stands: only the outermost is multiplied out.
 fn close(out: &mut [u8], o: usize, e: usize, tag: usize, inside: bool, arities: &[u8]) -> usize
     requires { ⌜ Asks (Built (now arities) (now out) o e tag) ⌝ }
-    ensures { λ r. ⌜ Promises (Built (now (arities .entry)) (now (out .entry)) o e tag) (λ (us : Terms). Wrote e (now (out .entry)) o (now (out .exit)) r (encode (closed inside tag us))) ⌝ }
+    ensures { λ r. ⌜ Promises (Built (now (arities .entry)) (now (out .entry)) o e tag) (λ (us : Terms). Wrote (e + termRoom) (now (out .entry)) o (now (out .exit)) r (encode (closed inside tag us))) ⌝ }
 {
     if is_product(tag) {
         if inside {
             return e;
         }
-        return product::multiply(out, o, arities);
+        return product::multiply(out, o, e, arities);
     }
     reduce(out, o, e, tag, arities)
 }
 
-// Makes k terms, inside a product or not.
+// Makes the k terms at a place, inside a product or not.
 fn make(
     out: &mut [u8],
-    o: usize,
     src: &[u8],
-    at: usize,
+    p: Next,
     k: usize,
     inside: bool,
     arities: &[u8],
     vals: &[u8],
     starts: &[usize],
 ) -> Next
-    requires { ⌜ Asks₂ (Job (now arities) (now vals) (now starts) (now src) at k (length (now out)) o) ⌝ }
-    ensures { λ r. ⌜ Promises₂ (Job (now (arities .entry)) (now (vals .entry)) (now (starts .entry)) (now (src .entry)) at k (length (now (out .entry))) o) (λ (θ : ℕ → Term) (ts : Terms). Out (o + length (encodes (subs θ ts))) at (now (out .entry)) o (now (out .exit)) (r .at) (r .o) (encodes ts) (encodes (mades inside θ ts))) ⌝ }
+    requires { ⌜ Asks₂ (Job (now arities) (now vals) (now starts) (now src) (p .at) k (length (now out)) (p .o)) ⌝ }
+    ensures { λ r. ⌜ Promises₂ (Job (now (arities .entry)) (now (vals .entry)) (now (starts .entry)) (now (src .entry)) (p .at) k (length (now (out .entry))) (p .o)) (λ (θ : ℕ → Term) (ts : Terms). Out ((p .o) + length (encodes (subs θ ts)) + termRoom) (p .at) (now (out .entry)) (p .o) (now (out .exit)) (r .at) (r .o) (encodes ts) (encodes (mades inside θ ts))) ⌝ }
 {
+    let at = p.at;
+    let o = p.o;
     if k == 0 {
         return Next { at: at, o: o };
     }
     let h = first(src, arities, at);
     let leaf = h.leaf;
     if leaf {
-        let p = put_leaf(out, o, h.tag, h.number, arities, vals, starts);
-        return make(out, p, src, h.next, k - 1, inside, arities, vals, starts);
+        let r = put_leaf(out, o, h.tag, h.number, vals, starts);
+        let next = Next { at: h.next, o: r };
+        if k == 1 {
+            return next;
+        }
+        return make(out, src, next, k - 1, inside, arities, vals, starts);
     }
     let a = put_number(out, o, h.tag);
     let within = is_product(h.tag);
-    let args = make(out, a, src, h.next, h.number, within, arities, vals, starts);
+    let first = Next { at: h.next, o: a };
+    let args = make(out, src, first, h.number, within, arities, vals, starts);
     let r = close(out, o, args.o, h.tag, inside, arities);
-    make(out, r, src, args.at, k - 1, inside, arities, vals, starts)
+    let next = Next { at: args.at, o: r };
+    if k == 1 {
+        return next;
+    }
+    make(out, src, next, k - 1, inside, arities, vals, starts)
 }
 
 // Reads k terms at a place of src and writes their canonical forms, filled in with the canonical values of their variables, into the part
-// of the output that starts at o. The value of variable i lies in `vals` from the i-th of `starts` on.
+// of the output that starts at o. The value of variable i lies in `vals` from the i-th of `starts` up to the next.
 pub fn canonical_into(
     out: &mut [u8],
     o: usize,
@@ -257,9 +271,10 @@ pub fn canonical_into(
     starts: &[usize],
 ) -> Next
     requires { ⌜ Asks₂ (Job (now arities) (now vals) (now starts) (now src) at k (length (now out)) o) ⌝ }
-    ensures { λ r. ⌜ Promises₂ (Job (now (arities .entry)) (now (vals .entry)) (now (starts .entry)) (now (src .entry)) at k (length (now (out .entry))) o) (λ (θ : ℕ → Term) (ts : Terms). Out (o + length (encodes (subs θ ts))) at (now (out .entry)) o (now (out .exit)) (r .at) (r .o) (encodes ts) (encodes (filleds θ ts))) ⌝ }
+    ensures { λ r. ⌜ Promises₂ (Job (now (arities .entry)) (now (vals .entry)) (now (starts .entry)) (now (src .entry)) at k (length (now (out .entry))) o) (λ (θ : ℕ → Term) (ts : Terms). Out (o + length (encodes (subs θ ts)) + termRoom) at (now (out .entry)) o (now (out .exit)) (r .at) (r .o) (encodes ts) (encodes (filleds θ ts))) ⌝ }
 {
-    let n = make(&mut out[o..], 0, src, at, k, false, arities, vals, starts);
+    let first = Next { at: at, o: 0 };
+    let n = make(&mut out[o..], src, first, k, false, arities, vals, starts);
     Next {
         at: n.at,
         o: o + n.o,
@@ -267,13 +282,8 @@ pub fn canonical_into(
 }
 
 // Writes the canonical form of the message at a place to the start of an output.
-pub fn canonical_term(
-    out: &mut [u8; term::TERM_ROOM],
-    src: &[u8],
-    at: usize,
-    arities: &[u8],
-) -> usize
-    requires { ⌜ Asks (MessageAt (now arities) (now src) at) ⌝ }
+pub fn canonical_term(out: &mut [u8], src: &[u8], at: usize, arities: &[u8]) -> usize
+    requires { ⌜ (formRoom ≤ length (now out)) × (length (now out) ≤ longest) × Asks (MessageAt (now arities) (now src) at) ⌝ }
     ensures { λ r. ⌜ Promises (MessageAt (now (arities .entry)) (now (src .entry)) at) (λ (t : Term). Stands (now (out .exit)) 0 (encode (canon t)) r) ⌝ }
 {
     let starts = [0usize; 1];
@@ -281,14 +291,13 @@ pub fn canonical_term(
     n.o
 }
 
-// Whether the message at a place is in canonical form.
-pub fn is_canonical(src: &[u8], at: usize, arities: &[u8]) -> bool
-    requires { ⌜ Asks (MessageAt (now arities) (now src) at) ⌝ }
-    ensures { λ r. ⌜ Promises (MessageAt (now (arities .entry)) (now (src .entry)) at) (λ (t : Term). (r ≡ true) ↔ (canon t ≡ t)) ⌝ }
+// Whether the message from a place up to another is in canonical form, which is made in the lent output.
+pub fn is_canonical(out: &mut [u8], src: &[u8], at: usize, end: usize, arities: &[u8]) -> bool
+    requires { ⌜ (formRoom ≤ length (now out)) × (length (now out) ≤ longest) × Asks (MessageIn (now arities) (now src) at end) ⌝ }
+    ensures { λ r. ⌜ Promises (MessageIn (now (arities .entry)) (now (src .entry)) at end) (λ (t : Term). (r ≡ true) ↔ (canon t ≡ t)) ⌝ }
 {
-    let mut out = [0u8; term::TERM_ROOM];
-    let n = canonical_term(&mut out, src, at, arities);
-    octets::same_bytes(&out[..n], term::term_part(src, arities, at))
+    let n = canonical_term(out, src, at, arities);
+    octets::same_bytes(&out[..n], &src[at..end])
 }
 
 // Whether two messages are the same: by the bytes of their canonical forms.
@@ -296,8 +305,8 @@ pub fn same_message(src: &[u8], i: usize, u: &[u8], j: usize, arities: &[u8]) ->
     requires { ⌜ Asks (MessageAt (now arities) (now src) i) × Asks (MessageAt (now arities) (now u) j) ⌝ }
     ensures { λ r. ⌜ Promises (MessageAt (now (arities .entry)) (now (src .entry)) i) (λ (x : Term). Promises (MessageAt (now (arities .entry)) (now (u .entry)) j) (λ (y : Term). (r ≡ true) ↔ Same (arity (now (arities .entry))) x y)) ⌝ }
 {
-    let mut a = [0u8; term::TERM_ROOM];
-    let mut b = [0u8; term::TERM_ROOM];
+    let mut a = [0u8; FORM_ROOM];
+    let mut b = [0u8; FORM_ROOM];
     let m = canonical_term(&mut a, src, i, arities);
     let n = canonical_term(&mut b, u, j, arities);
     octets::same_bytes(&a[..m], &b[..n])

@@ -1,45 +1,38 @@
--- What is left of a case whose step list is good: the index of its protocol, and the places of its nodes.
+-- What is left of a case whose step list is good: its nodes stand in the table, under the prepared protocol, and they are right.
 use Prim.Native.Nat.{ℕ, _≤_}
 use mathlib.Core.List.{List}
-use mathlib.Core.Path.{_≡_}
-use lib.ListN.{length, take}
-use Rattle.protocol.specs.Figures.{symbolCount, mostRules}
-use Rattle.term.specs.Tags.{tagCount}
-use Rattle.lists.specs.Asks.{Asks}
+use mathlib.Core.Path.{_≡_, subst}
+use lib.ListN.{length}
+use Rattle.lists.specs.Asks.{Asks, Promises, Asks₂}
 use Rattle.octets.specs.Limits.{longest}
-use Rattle.rules.specs.Fit.Laws.{Indexes}
+use Rattle.octets.specs.Head.{Bytes}
+use Rattle.protocol.specs.Protocol.{Protocol}
 use Rattle.rules.specs.declared.fit.FitVerdict.{FitVerdict}
 use Rattle.rules.specs.declared.fit.FitVerdict.the-variants.{Sound}
-use Rattle.steps.specs.Index.{IndexOf}
-use Rattle.steps.specs.Index.Sound.{sound-few, sound-index, sound-arities}
-use Rattle.steps.specs.Values.Filled.{ArityTable}
-use Rattle.steps.specs.Causes.Good.{GoodSteps}
-use Rattle.case_nodes.specs.declared.Counts.{Counts}
+use Rattle.prepared.specs.Prepared.{Prepared}
+use Rattle.prepared.specs.Lists.{WherePrepared}
+use Rattle.steps.specs.Table.{tableLength}
+use Rattle.steps.specs.Causes.Good as steps
+use Rattle.steps.specs.Causes.Good.{RightNodes, good-right}
+use Rattle.steps.specs.declared.ruling.NodesRuling.{NodesRuling}
+use Rattle.steps.specs.declared.ruling.NodesRuling.the-variants as jd
 use Rattle.case_nodes.specs.declared.Ruled.{Ruled}
 use Rattle.case_nodes.specs.declared.Ruled.the-variants.{Good, Refused}
 
-module _ (protocol arities symbols rules : List ℕ) where
-  -- the index of a fit protocol with ns fact symbols and nr rules
-  pub record Indexed (ns nr : ℕ) : Type 0 where
-    pub few : ns ≤ symbolCount
-    pub given : Asks (IndexOf protocol arities rules nr)
-    pub table : ArityTable protocol arities rules nr (take ns symbols)
+abbrev pub WhereGood : List ℕ → List ℕ → List ℕ → Ruled → Type 0
+WhereGood p s nodes (Good n) = Asks₂ (RightNodes p s nodes n)
+WhereGood p s nodes (Refused number item) = Unit {0}
 
-  -- and the places of the nodes of a good step list
-  pub record GoodCase (list nodes : List ℕ) (k : Counts) : Type 0 where
-    pub index : Indexed (k .symbols) (k .rules)
-    pub good : GoodSteps (index .given .0) list nodes (k .nodes)
+-- as the judgement of the protocol says
+pub prepared-case : (file : List ℕ) {p : List ℕ} {r : FitVerdict} {ns nr : ℕ} → r ≡ Sound ns nr → WherePrepared file r p → Asks (Prepared p)
+prepared-case file {p} is h =
+    let g = subst (λ (v : FitVerdict). WherePrepared file v p) is h in
+    (g .its, g .is)
 
-  abbrev pub WhereGood : List ℕ → List ℕ → Ruled → Type 0
-  WhereGood list nodes (Good k) = GoodCase list nodes k
-  WhereGood list nodes (Refused number item) = Unit {0}
-
-  -- as the judgement of the protocol says
-  pub indexed :
-      (flags : List ℕ) (r : FitVerdict) (ns nr : ℕ) → r ≡ Sound ns nr → Indexes protocol r arities symbols flags rules
-      → length protocol ≤ longest → length arities ≡ tagCount → mostRules ≤ length rules → Indexed ns nr
-  indexed flags r ns nr is index short full many = record {
-    few = sound-few protocol arities symbols flags rules r ns nr is index;
-    given = sound-index protocol arities symbols flags rules r ns nr is index short full many;
-    table = sound-arities protocol arities symbols flags rules r ns nr is index;
-  }
+-- as the ruling of the step list says
+pub right-nodes :
+    {p s nodes : List ℕ} {r : NodesRuling} {n : ℕ} → Bytes s → Asks (Prepared p) → length nodes ≡ tableLength → length s ≤ longest → r ≡ jd.Good n
+    → Promises (Prepared p) (λ (P : Protocol). steps.WhereGood P p s nodes r) → Asks₂ (RightNodes p s nodes n)
+right-nodes {p} {s} {nodes} {n = n} bytes (P, f) long short is good =
+    let g = subst (steps.WhereGood P p s nodes) is (good P f) in
+    (P, g .items, good-right P p s nodes bytes f long short 0 n (length s) g)

@@ -6,9 +6,9 @@ use native.Mathlib.Omega.{arith}
 use borrow.Author.Count.{below-more}
 use lib.ListN.{length, getD, set, replicate, length-set, length-replicate}
 use lib.Seq.{getD-set-same, getD-set-other}
-use Rattle.lists.specs.Asks.{Asks₂}
 use Rattle.facts.specs.declared.nodes.FactId.{FactId}
-use Rattle.facts.specs.Calls.{WholeFact, OneOf}
+use Rattle.facts.specs.declared.writing.Wanted.the-variants as want
+use Rattle.facts.specs.Owed.{HasFact}
 use Rattle.cases_facts.specs.declared.table.Facts.{Facts}
 use Rattle.cases_facts.specs.declared.table.Argument.{Argument}
 use Rattle.cases_facts.specs.declared.table.Arguments.{Arguments}
@@ -39,17 +39,17 @@ noFactId = record { node = 0; list = 0; number = 0 }
 abbrev pub noArgument : Argument
 noArgument = record { place = noFactId; number = 0 }
 
-module _ (protocol arities rules : List ℕ) (nr : ℕ) (file : List ℕ) where
-  -- each fact of the table is one of such a node
+module _ (p s nodes : List ℕ) (n : ℕ) where
+  -- each fact of the table is one of the n nodes
   abbrev pub IsFact : FactId → Type 0
-  IsFact a = Asks₂ (WholeFact protocol arities rules nr file a)
+  IsFact a = HasFact p s nodes n a want.All
 
   abbrev pub FactsListed : Facts → Type 0
   FactsListed t = Filled IsFact noFactId 64 (t .places) (t .n)
 
   -- likewise each argument
   abbrev pub IsArgument : Argument → Type 0
-  IsArgument a = Asks₂ (OneOf protocol arities rules nr file (a .place) (a .number))
+  IsArgument a = HasFact p s nodes n (a .place) (want.One (a .number))
 
   abbrev pub ArgumentsListed : Arguments → Type 0
   ArgumentsListed t = Filled IsArgument noArgument 256 (t .each) (t .n)

@@ -4,9 +4,9 @@
 ghost use Prim.Native.Nat.{_≤_};
 ghost use lib.ListN.{length};
 ghost use Rattle.case_file.specs.Case.{room};
-ghost use Rattle.case_nodes.specs.Good.{GoodCase};
+ghost use Rattle.lists.specs.Asks.{Asks₂};
+ghost use Rattle.steps.specs.Causes.Good.{RightNodes};
 use case_file::part;
-use case_nodes::Counts;
 use case_nodes::Ruled;
 
 mod table; // the facts of the nodes, and their arguments
@@ -15,49 +15,33 @@ mod outcome; // which of them are the same
 // The room for the canonical bytes of two facts.
 const OUT: usize = 2 * facts::writing::FACT_ROOM;
 
-// The nodes of a good case.
+// The n nodes of a good case.
 fn show_nodes(
+    p: &[u8; case_nodes::PREPARED],
     list: &[u8],
-    protocol: &[u8],
-    arities: &[u8; case_nodes::SLOTS],
-    symbols: &[u8; case_nodes::SYMBOLS],
-    rules: &[usize; case_nodes::RULES],
-    nodes: &[usize; case_nodes::NODES],
-    counts: Counts,
+    nodes: &[usize; case_nodes::TABLE],
+    n: usize,
 )
-    requires { ⌜ (length (now list) ≤ room) × GoodCase (now protocol) (now arities) (now symbols) (now rules) (now list) (now nodes) counts ⌝ }
+    requires { ⌜ Asks₂ (RightNodes (now p) (now list) (now nodes) n) ⌝ }
 {
     let mut out = [0u8; OUT];
-    let all: &[u8] = symbols;
-    let ns = counts.symbols;
-    let ars = &all[..ns];
-    let nr = counts.rules;
-    let facts = table::facts_of(list, protocol, arities, ars, rules, nr, nodes, counts.nodes);
-    outcome::show_facts(facts, &mut out, list, protocol, arities, ars, rules, nr);
+    let facts = table::facts_of(p, list, nodes, n);
+    outcome::show_facts(facts, &mut out, p, list, nodes, n);
     outcome::show_bar();
-    let arguments = table::arguments_of(facts, list, protocol, arities, ars, rules, nr);
-    outcome::show_arguments(arguments, &mut out, list, protocol, arities, ars, rules, nr);
+    let arguments = table::arguments_of(facts, p, list, nodes, n);
+    outcome::show_arguments(arguments, &mut out, p, list, nodes, n);
     outcome::show_bar();
-    outcome::show_names(arguments, &mut out, list, protocol, arities, ars, rules, nr);
+    outcome::show_names(arguments, &mut out, p, list, nodes, n);
 }
 
 fn show_case(protocol: &[u8], list: &[u8])
-    requires { ⌜ (length (now protocol) ≤ room) × (length (now list) ≤ room) ⌝ }
+    requires { ⌜ length (now list) ≤ room ⌝ }
 {
-    let mut arities = [0u8; case_nodes::SLOTS];
-    let mut symbols = [0u8; case_nodes::SYMBOLS];
-    let mut rules = [0usize; case_nodes::RULES];
-    let mut nodes = [0usize; case_nodes::NODES];
-    match case_nodes::rule_case(
-        protocol,
-        list,
-        &mut arities,
-        &mut symbols,
-        &mut rules,
-        &mut nodes,
-    ) {
-        Ruled::Good(counts) => {
-            show_nodes(list, protocol, &arities, &symbols, &rules, &nodes, counts);
+    let mut p = [0u8; case_nodes::PREPARED];
+    let mut nodes = [0usize; case_nodes::TABLE];
+    match case_nodes::rule_case(protocol, list, &mut p, &mut nodes) {
+        Ruled::Good(n) => {
+            show_nodes(&p, list, &nodes, n);
         }
         Ruled::Refused(number, item) => {
             case_file::show_refusal(number, item);

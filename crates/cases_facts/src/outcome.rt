@@ -1,6 +1,7 @@
 // What the calls of crate facts say of the facts and the arguments of a table.
 ghost use Prim.Native.Nat.{_<_};
-ghost use Rattle.steps.specs.Values.Filled.{ArityTable};
+ghost use Rattle.lists.specs.Asks.{Asks₂};
+ghost use Rattle.steps.specs.Causes.Good.{RightNodes};
 ghost use Rattle.facts.specs.Writing.{factRoom};
 ghost use Rattle.facts.specs.Calls.{Room};
 ghost use Rattle.cases_facts.specs.Table.{FactsListed, IsArgument, ArgumentsListed};
@@ -39,22 +40,20 @@ fn first_fact(
     facts: Facts,
     k: usize,
     out: &mut [u8],
-    file: &[u8],
-    protocol: &[u8],
-    arities: &[u8],
-    ars: &[u8],
-    rules: &[usize],
-    nr: usize,
+    p: &[u8],
+    s: &[u8],
+    nodes: &[usize],
+    n: usize,
 ) -> usize
-    requires { ⌜ (k < facts .n) × FactsListed (now protocol) (now arities) (now rules) nr (now file) facts × ArityTable (now protocol) (now arities) (now rules) nr (now ars) × Room (now out) factRoom ⌝ }
+    requires { ⌜ (k < facts .n) × FactsListed (now p) (now s) (now nodes) n facts × Asks₂ (RightNodes (now p) (now s) (now nodes) n) × Room (now out) factRoom ⌝ }
 {
     let places = facts.places;
-    let n = facts.n;
+    let count = facts.n;
     let x = places[k];
     let mut i: usize = 0;
-    while i < n {
+    while i < count {
         let y = places[i];
-        if compare::same_fact(out, file, protocol, arities, ars, rules, nr, y, x) {
+        if compare::same_fact(out, p, s, nodes, y, x) {
             return i + 1;
         }
         i += 1;
@@ -63,22 +62,13 @@ fn first_fact(
 }
 
 // Of each fact.
-pub fn show_facts(
-    facts: Facts,
-    out: &mut [u8],
-    file: &[u8],
-    protocol: &[u8],
-    arities: &[u8],
-    ars: &[u8],
-    rules: &[usize],
-    nr: usize,
-)
-    requires { ⌜ FactsListed (now protocol) (now arities) (now rules) nr (now file) facts × ArityTable (now protocol) (now arities) (now rules) nr (now ars) × Room (now out) factRoom ⌝ }
+pub fn show_facts(facts: Facts, out: &mut [u8], p: &[u8], s: &[u8], nodes: &[usize], n: usize)
+    requires { ⌜ FactsListed (now p) (now s) (now nodes) n facts × Asks₂ (RightNodes (now p) (now s) (now nodes) n) × Room (now out) factRoom ⌝ }
 {
-    let n = facts.n;
+    let count = facts.n;
     let mut k: usize = 0;
-    while k < n {
-        show_more(first_fact(facts, k, out, file, protocol, arities, ars, rules, nr));
+    while k < count {
+        show_more(first_fact(facts, k, out, p, s, nodes, n));
         k += 1;
     }
 }
@@ -88,34 +78,20 @@ fn first_argument(
     arguments: Arguments,
     k: usize,
     out: &mut [u8],
-    file: &[u8],
-    protocol: &[u8],
-    arities: &[u8],
-    ars: &[u8],
-    rules: &[usize],
-    nr: usize,
+    p: &[u8],
+    s: &[u8],
+    nodes: &[usize],
+    n: usize,
 ) -> usize
-    requires { ⌜ (k < arguments .n) × ArgumentsListed (now protocol) (now arities) (now rules) nr (now file) arguments × ArityTable (now protocol) (now arities) (now rules) nr (now ars) × Room (now out) factRoom ⌝ }
+    requires { ⌜ (k < arguments .n) × ArgumentsListed (now p) (now s) (now nodes) n arguments × Asks₂ (RightNodes (now p) (now s) (now nodes) n) × Room (now out) factRoom ⌝ }
 {
     let each = arguments.each;
-    let n = arguments.n;
+    let count = arguments.n;
     let x = each[k];
     let mut i: usize = 0;
-    while i < n {
+    while i < count {
         let y = each[i];
-        if compare::same_argument(
-            out,
-            file,
-            protocol,
-            arities,
-            ars,
-            rules,
-            nr,
-            y.place,
-            y.number,
-            x.place,
-            x.number,
-        ) {
+        if compare::same_argument(out, p, s, nodes, y.place, y.number, x.place, x.number) {
             return i + 1;
         }
         i += 1;
@@ -127,48 +103,37 @@ fn first_argument(
 pub fn show_arguments(
     arguments: Arguments,
     out: &mut [u8],
-    file: &[u8],
-    protocol: &[u8],
-    arities: &[u8],
-    ars: &[u8],
-    rules: &[usize],
-    nr: usize,
+    p: &[u8],
+    s: &[u8],
+    nodes: &[usize],
+    n: usize,
 )
-    requires { ⌜ ArgumentsListed (now protocol) (now arities) (now rules) nr (now file) arguments × ArityTable (now protocol) (now arities) (now rules) nr (now ars) × Room (now out) factRoom ⌝ }
+    requires { ⌜ ArgumentsListed (now p) (now s) (now nodes) n arguments × Asks₂ (RightNodes (now p) (now s) (now nodes) n) × Room (now out) factRoom ⌝ }
 {
-    let n = arguments.n;
+    let count = arguments.n;
     let mut k: usize = 0;
-    while k < n {
-        show_more(first_argument(arguments, k, out, file, protocol, arities, ars, rules, nr));
+    while k < count {
+        show_more(first_argument(arguments, k, out, p, s, nodes, n));
         k += 1;
     }
 }
 
 // Which of the three public names an argument is, from 1; 0 if it is none of them.
-fn public_name(
-    a: Argument,
-    out: &mut [u8],
-    file: &[u8],
-    protocol: &[u8],
-    arities: &[u8],
-    ars: &[u8],
-    rules: &[usize],
-    nr: usize,
-) -> usize
-    requires { ⌜ IsArgument (now protocol) (now arities) (now rules) nr (now file) a × ArityTable (now protocol) (now arities) (now rules) nr (now ars) × Room (now out) factRoom ⌝ }
+fn public_name(a: Argument, out: &mut [u8], p: &[u8], s: &[u8], nodes: &[usize], n: usize) -> usize
+    requires { ⌜ IsArgument (now p) (now s) (now nodes) n a × Asks₂ (RightNodes (now p) (now s) (now nodes) n) × Room (now out) factRoom ⌝ }
 {
     let x = a.place;
     let i = a.number;
     let one = Public(ONE_GROUP);
     let two = Public(TWO_GROUPS);
     let three = Public(THREE_GROUPS);
-    if compare::is_public(out, file, protocol, arities, ars, rules, nr, x, i, one) {
+    if compare::is_public(out, p, s, nodes, x, i, one) {
         return FIRST;
     }
-    if compare::is_public(out, file, protocol, arities, ars, rules, nr, x, i, two) {
+    if compare::is_public(out, p, s, nodes, x, i, two) {
         return SECOND;
     }
-    if compare::is_public(out, file, protocol, arities, ars, rules, nr, x, i, three) {
+    if compare::is_public(out, p, s, nodes, x, i, three) {
         return THIRD;
     }
     NO_NAME
@@ -178,20 +143,18 @@ fn public_name(
 pub fn show_names(
     arguments: Arguments,
     out: &mut [u8],
-    file: &[u8],
-    protocol: &[u8],
-    arities: &[u8],
-    ars: &[u8],
-    rules: &[usize],
-    nr: usize,
+    p: &[u8],
+    s: &[u8],
+    nodes: &[usize],
+    n: usize,
 )
-    requires { ⌜ ArgumentsListed (now protocol) (now arities) (now rules) nr (now file) arguments × ArityTable (now protocol) (now arities) (now rules) nr (now ars) × Room (now out) factRoom ⌝ }
+    requires { ⌜ ArgumentsListed (now p) (now s) (now nodes) n arguments × Asks₂ (RightNodes (now p) (now s) (now nodes) n) × Room (now out) factRoom ⌝ }
 {
     let each = arguments.each;
-    let n = arguments.n;
+    let count = arguments.n;
     let mut k: usize = 0;
-    while k < n {
-        show_more(public_name(each[k], out, file, protocol, arities, ars, rules, nr));
+    while k < count {
+        show_more(public_name(each[k], out, p, s, nodes, n));
         k += 1;
     }
 }

@@ -1,10 +1,9 @@
 // The facts of all nodes of a step list, node by node, premises, actions, conclusions, and the arguments of these facts.
-ghost use Prim.Native.Nat.{_≤_, _<_};
-ghost use lib.ListN.{length};
-ghost use Rattle.lists.specs.Asks.{Asks, Asks₂};
+ghost use mathlib.Core.List.{List};
+ghost use Prim.Native.Nat.{ℕ, _<_};
+ghost use Rattle.lists.specs.Asks.{Asks₂};
 ghost use Rattle.protocol.specs.Figures.{listCount};
-ghost use Rattle.steps.specs.Values.Filled.{ArityTable};
-ghost use Rattle.facts.specs.Owed.{RightNode, RightNodes};
+ghost use Rattle.steps.specs.Causes.Good.{RightNodes};
 ghost use Rattle.cases_facts.specs.Table.{IsFact, FactsListed, IsArgument, ArgumentsListed};
 use facts::counts;
 use facts::nodes::FactId;
@@ -26,17 +25,8 @@ pub struct Facts {
 }
 
 // One more, where there is room.
-fn with_fact(
-    facts: Facts,
-    x: FactId,
-    file: &[u8],
-    protocol: &[u8],
-    arities: &[u8],
-    rules: &[usize],
-    nr: usize,
-) -> Facts
-    requires { ⌜ FactsListed (now protocol) (now arities) (now rules) nr (now file) facts × IsFact (now protocol) (now arities) (now rules) nr (now file) x ⌝ }
-    ensures { λ r. ⌜ FactsListed (now (protocol .entry)) (now (arities .entry)) (now (rules .entry)) nr (now (file .entry)) r ⌝ }
+fn with_fact(facts: Facts, x: FactId) -> Facts
+    ensures { λ r. ⌜ ((p s nodes : List ℕ) (n : ℕ) → FactsListed p s nodes n facts → IsFact p s nodes n x → FactsListed p s nodes n r) ⌝ }
 {
     let mut places = facts.places;
     let n = facts.n;
@@ -50,72 +40,52 @@ fn with_fact(
     }
 }
 
-// And those of one list of the node at a place.
+// And those of one list of node j, of n nodes.
 fn with_list(
     before: Facts,
-    file: &[u8],
-    protocol: &[u8],
-    arities: &[u8],
-    ars: &[u8],
-    rules: &[usize],
-    nr: usize,
-    node: usize,
+    p: &[u8],
+    s: &[u8],
+    nodes: &[usize],
+    n: usize,
+    j: usize,
     list: usize,
 ) -> Facts
-    requires { ⌜ (list < listCount) × Asks₂ (RightNode (now protocol) (now arities) (now rules) nr (now file) node) × ArityTable (now protocol) (now arities) (now rules) nr (now ars) × FactsListed (now protocol) (now arities) (now rules) nr (now file) before ⌝ }
-    ensures { λ r. ⌜ FactsListed (now (protocol .entry)) (now (arities .entry)) (now (rules .entry)) nr (now (file .entry)) r ⌝ }
+    requires { ⌜ Asks₂ (RightNodes (now p) (now s) (now nodes) n) × (j < n) × (list < listCount) × FactsListed (now p) (now s) (now nodes) n before ⌝ }
+    ensures { λ r. ⌜ FactsListed (now (p .entry)) (now (s .entry)) (now (nodes .entry)) n r ⌝ }
 {
-    let count = counts::fact_count(file, protocol, arities, ars, rules, nr, node, list);
+    let count = counts::fact_count(p, nodes, j, list);
     let mut facts = before;
     let mut i: usize = 0;
     while i < count {
         let x = FactId {
-            node: node,
+            node: j,
             list: list,
             number: i,
         };
-        facts = with_fact(facts, x, file, protocol, arities, rules, nr);
+        facts = with_fact(facts, x);
         i += 1;
     }
     facts
 }
 
-// And those of all lists of the node.
-fn with_node(
-    before: Facts,
-    file: &[u8],
-    protocol: &[u8],
-    arities: &[u8],
-    ars: &[u8],
-    rules: &[usize],
-    nr: usize,
-    node: usize,
-) -> Facts
-    requires { ⌜ Asks₂ (RightNode (now protocol) (now arities) (now rules) nr (now file) node) × ArityTable (now protocol) (now arities) (now rules) nr (now ars) × FactsListed (now protocol) (now arities) (now rules) nr (now file) before ⌝ }
-    ensures { λ r. ⌜ FactsListed (now (protocol .entry)) (now (arities .entry)) (now (rules .entry)) nr (now (file .entry)) r ⌝ }
+// And those of all lists of node j.
+fn with_node(before: Facts, p: &[u8], s: &[u8], nodes: &[usize], n: usize, j: usize) -> Facts
+    requires { ⌜ Asks₂ (RightNodes (now p) (now s) (now nodes) n) × (j < n) × FactsListed (now p) (now s) (now nodes) n before ⌝ }
+    ensures { λ r. ⌜ FactsListed (now (p .entry)) (now (s .entry)) (now (nodes .entry)) n r ⌝ }
 {
     let mut facts = before;
     let mut list: usize = 0;
     while list < LISTS {
-        facts = with_list(facts, file, protocol, arities, ars, rules, nr, node, list);
+        facts = with_list(facts, p, s, nodes, n, j, list);
         list += 1;
     }
     facts
 }
 
-// The facts of the n nodes at their places.
-pub fn facts_of(
-    file: &[u8],
-    protocol: &[u8],
-    arities: &[u8],
-    ars: &[u8],
-    rules: &[usize],
-    nr: usize,
-    nodes: &[usize],
-    n: usize,
-) -> Facts
-    requires { ⌜ Asks (RightNodes (now protocol) (now arities) (now rules) nr (now file) (now nodes) n) × ArityTable (now protocol) (now arities) (now rules) nr (now ars) × (n ≤ length (now nodes)) ⌝ }
-    ensures { λ r. ⌜ FactsListed (now (protocol .entry)) (now (arities .entry)) (now (rules .entry)) nr (now (file .entry)) r ⌝ }
+// The facts of the n nodes of a table.
+pub fn facts_of(p: &[u8], s: &[u8], nodes: &[usize], n: usize) -> Facts
+    requires { ⌜ Asks₂ (RightNodes (now p) (now s) (now nodes) n) ⌝ }
+    ensures { λ r. ⌜ FactsListed (now (p .entry)) (now (s .entry)) (now (nodes .entry)) n r ⌝ }
 {
     let none = FactId {
         node: 0,
@@ -126,10 +96,10 @@ pub fn facts_of(
         places: [none; MOST_FACTS],
         n: 0,
     };
-    let mut k: usize = 0;
-    while k < n {
-        facts = with_node(facts, file, protocol, arities, ars, rules, nr, nodes[k]);
-        k += 1;
+    let mut j: usize = 0;
+    while j < n {
+        facts = with_node(facts, p, s, nodes, n, j);
+        j += 1;
     }
     facts
 }
@@ -147,17 +117,8 @@ pub struct Arguments {
 }
 
 // One more, where there is room.
-fn with_argument(
-    arguments: Arguments,
-    a: Argument,
-    file: &[u8],
-    protocol: &[u8],
-    arities: &[u8],
-    rules: &[usize],
-    nr: usize,
-) -> Arguments
-    requires { ⌜ ArgumentsListed (now protocol) (now arities) (now rules) nr (now file) arguments × IsArgument (now protocol) (now arities) (now rules) nr (now file) a ⌝ }
-    ensures { λ r. ⌜ ArgumentsListed (now (protocol .entry)) (now (arities .entry)) (now (rules .entry)) nr (now (file .entry)) r ⌝ }
+fn with_argument(arguments: Arguments, a: Argument) -> Arguments
+    ensures { λ r. ⌜ ((p s nodes : List ℕ) (n : ℕ) → ArgumentsListed p s nodes n arguments → IsArgument p s nodes n a → ArgumentsListed p s nodes n r) ⌝ }
 {
     let mut each = arguments.each;
     let n = arguments.n;
@@ -171,21 +132,19 @@ fn with_argument(
     }
 }
 
-// And those of a fact.
+// And those of a fact of n nodes.
 fn with_arguments(
     before: Arguments,
-    file: &[u8],
-    protocol: &[u8],
-    arities: &[u8],
-    ars: &[u8],
-    rules: &[usize],
-    nr: usize,
+    p: &[u8],
+    s: &[u8],
+    nodes: &[usize],
+    n: usize,
     x: FactId,
 ) -> Arguments
-    requires { ⌜ IsFact (now protocol) (now arities) (now rules) nr (now file) x × ArityTable (now protocol) (now arities) (now rules) nr (now ars) × ArgumentsListed (now protocol) (now arities) (now rules) nr (now file) before ⌝ }
-    ensures { λ r. ⌜ ArgumentsListed (now (protocol .entry)) (now (arities .entry)) (now (rules .entry)) nr (now (file .entry)) r ⌝ }
+    requires { ⌜ Asks₂ (RightNodes (now p) (now s) (now nodes) n) × IsFact (now p) (now s) (now nodes) n x × ArgumentsListed (now p) (now s) (now nodes) n before ⌝ }
+    ensures { λ r. ⌜ ArgumentsListed (now (p .entry)) (now (s .entry)) (now (nodes .entry)) n r ⌝ }
 {
-    let count = symbols::argument_count(file, protocol, arities, ars, rules, nr, x);
+    let count = symbols::argument_count(p, nodes, x);
     let mut arguments = before;
     let mut i: usize = 0;
     while i < count {
@@ -193,24 +152,16 @@ fn with_arguments(
             place: x,
             number: i,
         };
-        arguments = with_argument(arguments, a, file, protocol, arities, rules, nr);
+        arguments = with_argument(arguments, a);
         i += 1;
     }
     arguments
 }
 
 // The arguments of the facts of a table.
-pub fn arguments_of(
-    facts: Facts,
-    file: &[u8],
-    protocol: &[u8],
-    arities: &[u8],
-    ars: &[u8],
-    rules: &[usize],
-    nr: usize,
-) -> Arguments
-    requires { ⌜ FactsListed (now protocol) (now arities) (now rules) nr (now file) facts × ArityTable (now protocol) (now arities) (now rules) nr (now ars) ⌝ }
-    ensures { λ r. ⌜ ArgumentsListed (now (protocol .entry)) (now (arities .entry)) (now (rules .entry)) nr (now (file .entry)) r ⌝ }
+pub fn arguments_of(facts: Facts, p: &[u8], s: &[u8], nodes: &[usize], n: usize) -> Arguments
+    requires { ⌜ Asks₂ (RightNodes (now p) (now s) (now nodes) n) × FactsListed (now p) (now s) (now nodes) n facts ⌝ }
+    ensures { λ r. ⌜ ArgumentsListed (now (p .entry)) (now (s .entry)) (now (nodes .entry)) n r ⌝ }
 {
     let none = FactId {
         node: 0,
@@ -226,19 +177,10 @@ pub fn arguments_of(
         n: 0,
     };
     let places = facts.places;
-    let n = facts.n;
+    let count = facts.n;
     let mut k: usize = 0;
-    while k < n {
-        arguments = with_arguments(
-            arguments,
-            file,
-            protocol,
-            arities,
-            ars,
-            rules,
-            nr,
-            places[k],
-        );
+    while k < count {
+        arguments = with_arguments(arguments, p, s, nodes, n, places[k]);
         k += 1;
     }
     arguments

@@ -7,22 +7,13 @@ use case_file::part;
 use case_nodes::Ruled;
 
 fn show_ruling(protocol: &[u8], list: &[u8])
-    requires { ⌜ (length (now protocol) ≤ room) × (length (now list) ≤ room) ⌝ }
+    requires { ⌜ length (now list) ≤ room ⌝ }
 {
-    let mut arities = [0u8; case_nodes::SLOTS];
-    let mut symbols = [0u8; case_nodes::SYMBOLS];
-    let mut rules = [0usize; case_nodes::RULES];
-    let mut nodes = [0usize; case_nodes::NODES];
-    match case_nodes::rule_case(
-        protocol,
-        list,
-        &mut arities,
-        &mut symbols,
-        &mut rules,
-        &mut nodes,
-    ) {
-        Ruled::Good(counts) => {
-            case_file::show(b" good ", counts.nodes);
+    let mut p = [0u8; case_nodes::PREPARED];
+    let mut nodes = [0usize; case_nodes::TABLE];
+    match case_nodes::rule_case(protocol, list, &mut p, &mut nodes) {
+        Ruled::Good(n) => {
+            case_file::show(b" good ", n);
         }
         Ruled::Refused(number, item) => {
             case_file::show_refusal(number, item);

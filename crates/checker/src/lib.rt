@@ -4,6 +4,7 @@ ghost use Prim.Native.Nat.{_≤_, ℕ};
 ghost use lib.ListN.{length};
 ghost use mathlib.Core.List.{List};
 ghost use Rattle.term.specs.Term.{Term};
+ghost use Rattle.canonical.specs.Contract.{formRoom};
 ghost use Rattle.lists.specs.Asks.{Asks, Asks₂, Promises, Promises₂};
 ghost use Rattle.octets.specs.Limits.{longest};
 ghost use Rattle.rewriting.specs.Table.{refused};
@@ -96,34 +97,34 @@ fn refused(number: u32, item: u32) -> Written
     })
 }
 
-// Writes the canonical form of the term file's term to the start of the output.
-fn write_form(term: &[u8], arities: &[u8], output: &mut [u8]) -> Written
-    requires { ⌜ Asks₂ (Form (now arities) (now term)) ⌝ }
+// Writes the canonical form of the term file's term to the start of the output; it is made in the work area.
+fn write_form(term: &[u8], arities: &[u8], output: &mut [u8], work: &mut [u8]) -> Written
+    requires { ⌜ (length (now work) ≡ formRoom) × Asks₂ (Form (now arities) (now term)) ⌝ }
     ensures { λ r. ⌜ Promises₂ (Form (now (arities .entry)) (now (term .entry))) (λ (free : List ℕ) (t : Term). Formed t (now (output .entry)) (now (output .exit)) r) ⌝ }
 {
-    let mut form = [0u8; term::TERM_ROOM];
-    let n = canonical::canonical_term(&mut form, term, 0, arities);
+    let n = canonical::canonical_term(work, term, 0, arities);
     if output.len() < n {
         return refused(OUTPUT_SHORT, n as u32);
     }
-    octets::copy_into(output, 0, &form[..n]);
+    octets::copy_into(output, 0, &work[..n]);
     Written::Length(n as u32)
 }
 
 // The term file under the table of a fit protocol: refused, or its canonical form is written.
-fn under_protocol(term: &[u8], arities: &[u8], output: &mut [u8]) -> Written
-    requires { ⌜ Asks (Under (now arities) (now term)) ⌝ }
+fn under_protocol(term: &[u8], arities: &[u8], output: &mut [u8], work: &mut [u8]) -> Written
+    requires { ⌜ (length (now work) ≡ formRoom) × Asks (Under (now arities) (now term)) ⌝ }
     ensures { λ r. ⌜ Promises (Under (now (arities .entry)) (now (term .entry))) (λ (free : List ℕ). Judges (termRuling (now (arities .entry)) (now (term .entry))) (now (output .entry)) (now (output .exit)) r) ⌝ }
 {
     match term_file(term, arities) {
-        TermFile::Small => write_form(term, arities, output),
+        TermFile::Small => write_form(term, arities, output, work),
         TermFile::Layout => refused(LAYOUT, TERM_ITEM),
         TermFile::Large => refused(TERM_LONG, NO_ITEM),
     }
 }
 
-// The files, where the work area is long enough.
-fn canonical_inside(protocol: &[u8], term: &[u8], output: &mut [u8]) -> Written
+// The files, where the work area is long enough: a part of it is lent.
+fn canonical_inside(protocol: &[u8], term: &[u8], output: &mut [u8], work: &mut [u8]) -> Written
+    requires { ⌜ length (now work) ≡ formRoom ⌝ }
     ensures { λ r. ⌜ Promises (λ (work : ℕ). workNeed ≤ work) (Inside (now (protocol .entry)) (now (term .entry)) (now (output .entry)) (now (output .exit)) r) ⌝ }
 {
     if PROTOCOL_LIMIT < protocol.len() {
@@ -143,7 +144,7 @@ fn canonical_inside(protocol: &[u8], term: &[u8], output: &mut [u8]) -> Written
         &mut flags,
         &mut places,
     ) {
-        FitVerdict::Sound(_, _) => under_protocol(term, &arities, output),
+        FitVerdict::Sound(_, _) => under_protocol(term, &arities, output, work),
         FitVerdict::Broken(k) => refused(CONDITION_BROKEN, k as u32),
         FitVerdict::Fault => refused(LAYOUT, PROTOCOL_ITEM),
     }
@@ -158,7 +159,7 @@ pub fn canonical_form(protocol: &[u8], term: &[u8], output: &mut [u8], work: &mu
     if work.len() < WORK_NEED {
         return refused(WORK_SHORT, NO_ITEM);
     }
-    let r = canonical_inside(protocol, term, output);
+    let r = canonical_inside(protocol, term, output, &mut work[..canonical::FORM_ROOM]);
     octets::clear(work);
     r
 }

@@ -1,11 +1,11 @@
 -- What `open_row`, `open_power`, `find_place`, `enter` and `enter_at` ask and promise.
-use Prim.Native.Nat.{ℕ, _+_, _-_, _≤_, _<_}
+use Prim.Native.Nat.{ℕ, _+_, _-_, _*_, _≤_, _<_}
 use mathlib.Core.Path.{_≡_, refl, sym, ap, _∙_, subst}
 use mathlib.Core.Bool.{Bool, true, false}
 use mathlib.Core.List.{List}
 use native.Mathlib.Decide.{decLt}
 use native.Mathlib.Omega.{arith}
-use lib.ListN.{length, getD, set, length-set}
+use lib.ListN.{length, take, drop, getD, set, length-set}
 use lib.Seq.{getD-set-same, getD-set-other}
 use lib.IntN.{ℤ, pos, _+ℤ_, natAbs}
 use mir.Syntax.{w32}
@@ -13,99 +13,129 @@ use mir.Val.{SFits, toZ, ofZ}
 use Rattle.term.specs.Sizes.{mostSymbols}
 use Rattle.lists.specs.Asks.{Asks₂, Promises₂}
 use Rattle.lists.specs.Choice.{clash}
-use Rattle.octets.specs.Head.{Bytes, Stands, stands-within}
+use Rattle.octets.specs.Compare.{compareBytes, flipped}
+use Rattle.octets.specs.Compare.Laws.{compare-flip, compare-same, compare-trans}
+use Rattle.octets.specs.Limits.{longest}
+use Rattle.octets.specs.Head.{Bytes, Stands, stands-within, stands-part}
 use Rattle.octets.specs.declared.Order.{Order}
 use Rattle.octets.specs.declared.Order.the-variants.{Less, Equal, Greater}
 use Rattle.term.specs.Term.{Term, encode}
 use Rattle.term.specs.Term.Laws.{encode-some}
-use Rattle.term.specs.Reader.{term}
+use Rattle.term.specs.Reader.{term, symbolAt}
 use Rattle.term.specs.Walk.{bytesOf}
 use Rattle.message.specs.Product.{Exps}
 use Rattle.message.specs.Gather.{enter, sign}
-use Rattle.factors.specs.declared.Filled.{Filled}
+use Rattle.factors.specs.declared.Onward.{Onward}
+use Rattle.factors.specs.declared.Way.the-variants as way
 use Rattle.factors.specs.Whole.{add-abs, small-fits, back}
 use Rattle.factors.specs.Mass.{size, mass}
 use Rattle.factors.specs.Mass.Laws.{size-mass, sign-abs}
-use Rattle.factors.specs.Rows.{Table, Bounds, orderAt, meeting, Found, Moved}
-use Rattle.factors.specs.Rows.Laws.{rows-bounds, rows-abs, opened, rows-in, size-in, rows-same, size-same}
-use Rattle.factors.specs.Laid.Laws.{one-bytes}
-use Rattle.factors.specs.Contracts.{Enter, EnterAt, Collected}
+use Rattle.factors.specs.Rows.{Table, Bounds, Rising, bytesAt, orderAt, meeting, Found, Moved}
+use Rattle.factors.specs.Rows.Laws.{rows-bounds, rows-rising, rows-abs, start-opened, end-opened, power-opened, rows-in, size-in, rows-same, size-same}
+use Rattle.factors.specs.Laid.Laws.{one-bytes, one-within, some-symbol}
+use Rattle.factors.specs.Way.{wayOf}
+use Rattle.factors.specs.Way.Laws.{way-end}
+use Rattle.factors.specs.Contracts.{Enter, OneTerm, Entered}
 
--- ── moving up, for elements of any type ──
-pub record Moving {A : Type 0} (d : A) (old new : List A) (j n : ℕ) : Type 0 where
+-- ── moving up by s, for elements of any type ──
+pub record Moving {A : Type 0} (d : A) (s : ℕ) (old new : List A) (j n : ℕ) : Type 0 where
   pub long : length new ≡ length old
   pub low : j ≤ n
-  pub still : (m : ℕ) → m ≤ j → getD new m d ≡ getD old m d
-  pub up : (m : ℕ) → j ≤ m → m < n → getD new (m + 1) d ≡ getD old m d
+  pub still : (m : ℕ) → m < j + s → getD new m d ≡ getD old m d
+  pub up : (m : ℕ) → j ≤ m → m < n → getD new (m + s) d ≡ getD old m d
 
-module _ {A : Type 0} (d : A) (old : List A) (n : ℕ) where
-  pub moving-first : Moving d old old n n
+module _ {A : Type 0} (d : A) (s : ℕ) (some : 0 < s) (old : List A) (n : ℕ) where
+  pub moving-first : Moving d s old old n n
   moving-first = record { long = refl; low = omega arith; still = λ m h. refl; up = λ m h k. absurd (omega arith) }
 
   pub moving-next :
-      (new : List A) (j : ℕ) (x : A) → x ≡ getD new (j - 1) d → 0 < j → n < length old → Moving d old new j n
-      → Moving d old (set new j x) (j - 1) n
+      (new : List A) (j : ℕ) (x : A) → x ≡ getD new (j - 1) d → 0 < j → n + s ≤ length old → Moving d s old new j n
+      → Moving d s old (set new (j - 1 + s) x) (j - 1) n
   moving-next new j x e h k M = record {
-    long = length-set new j x ∙ M .long;
+    long = length-set new (j - 1 + s) x ∙ M .long;
     low = omega (arith, M .low);
-    still = λ m l. getD-set-other new j m x d (λ z. omega arith) ∙ M .still m (omega arith);
+    still = λ m l. getD-set-other new (j - 1 + s) m x d (λ z. omega arith) ∙ M .still m (omega arith);
     up = λ m l g. elim (decLt m j) [
-      | yes p ↦ (let q : m + 1 ≡ j = omega arith in let q₂ : j - 1 ≡ m = omega arith in
-          rw q (getD-set-same new j x d (omega (arith, M .long, M .low)) ∙ e ∙ rw q₂ (M .still m (omega arith))))
-      | no p ↦ getD-set-other new j (m + 1) x d (λ z. omega arith) ∙ M .up m (omega arith) g
+      | yes p ↦ (let q : m ≡ j - 1 = omega arith in
+          rw q (getD-set-same new (j - 1 + s) x d (omega (arith, M .long, M .low)) ∙ e ∙ M .still (j - 1) (omega arith)))
+      | no p ↦ getD-set-other new (j - 1 + s) (m + s) x d (λ z. omega arith) ∙ M .up m (omega arith) g
     ];
   }
 
-  pub moved : (new : List A) (i j : ℕ) → i ≤ j → j ≤ i → Moving d old new j n → Moved d old new i n
+  pub moved : (new : List A) (i j : ℕ) → i ≤ j → j ≤ i → Moving d s old new j n → Moved d s old new i n
   moved new i j h k M = record { below = λ m l. M .still m (omega arith); above = λ m l g. M .up m (omega arith) g }
 
 -- ── finding a place ──
-module _ (key src S E : List ℕ) (n : ℕ) where
-  abbrev pub Passed : ℕ → Type 0
-  Passed i = (j : ℕ) → j < i → orderAt key src S E j ≡ Greater
+-- the entries from i on come behind these bytes
+abbrev pub Behind : List ℕ → List ℕ → List ℕ → ℕ → ℕ → Type 0
+Behind key src Q n i = (i ≤ n) × (i < n → orderAt key src Q i ≡ Less)
 
-  pub found-here :
-      (same : Bool) (i : ℕ) (o : Order) → i < n → Passed i → o ≡ orderAt key src S E i → o ≡ meeting same → Found key src S E n i same
-  found-here same i o l p e₁ e₂ = record { within = omega arith; before = p; here = λ h. sym e₁ ∙ e₂; end = λ z. l }
+module _ (key src Q : List ℕ) (n : ℕ) (R : Rising src Q n) where
+  module _ (j : ℕ) (l : j < n) (o : Order) (e : o ≡ orderAt key src Q j) where
+    -- the entries below one that comes before these bytes come before them
+    below-greater : o ≡ Greater → (k : ℕ) → k < j → orderAt key src Q k ≡ Greater
+    below-greater g k h =
+        let b : compareBytes (bytesAt src Q j) key ≡ Less = compare-flip key (bytesAt src Q j) ∙ ap flipped (sym e ∙ g) in
+        compare-flip (bytesAt src Q k) key ∙ ap flipped (compare-trans (bytesAt src Q k) (bytesAt src Q j) key (R k j h l) b)
 
-  pub found-end : Passed n → Found key src S E n n false
-  found-end p = record { within = omega arith; before = p; here = λ h. absurd (omega arith); end = λ z. clash (cc) }
+    below-same : o ≡ Equal → (k : ℕ) → k < j → orderAt key src Q k ≡ Greater
+    below-same g k h =
+        let s : key ≡ bytesAt src Q j = compare-same key (bytesAt src Q j) (sym e ∙ g) in
+        ap (λ (x : List ℕ). compareBytes x (bytesAt src Q k)) s ∙ compare-flip (bytesAt src Q k) (bytesAt src Q j) ∙ ap flipped (R k j h l)
 
-  pub passed-more : (i : ℕ) (o : Order) → Passed i → o ≡ orderAt key src S E i → o ≡ Greater → Passed (i + 1)
-  passed-more i o p e₁ e₂ j h = elim (decLt j i) [ yes q ↦ p j q | no q ↦ (let z : j ≡ i = omega arith in rw z (sym e₁ ∙ e₂)) ]
+    pub found-same : o ≡ Equal → Found key src Q n j true
+    found-same g = record { within = omega arith; before = below-same g; here = λ h. sym e ∙ g; end = λ z. l }
+
+    pub found-after : o ≡ Greater → (i : ℕ) → j ≡ i - 1 → 0 < i → Behind key src Q n i → Found key src Q n i false
+    found-after g i q p b = record {
+      within = b .0;
+      before = λ k h. elim (decLt k j) [ yes y ↦ below-greater g k y | no y ↦ (let z : k ≡ j = omega arith in rw z (sym e ∙ g)) ];
+      here = b .1;
+      end = λ z. clash (cc);
+    }
+
+    pub behind-less : o ≡ Less → Behind key src Q n j
+    behind-less g = (omega arith, λ h. sym e ∙ g)
+
+  pub found-first : Behind key src Q n 0 → Found key src Q n 0 false
+  found-first b = record { within = omega arith; before = λ k h. absurd (omega arith); here = b .1; end = λ z. clash (cc) }
 
 -- ── entering ──
-module _ (key src S E : List ℕ) (P : List ℤ) (n a : ℕ) where
-  module _ (l : Exps) (t : Term) (X : Enter key src S E P n a l t) where
+module _ (key src Q : List ℕ) (P : List ℤ) (n a : ℕ) where
+  module _ (l : Exps) (t : Term) (X : Enter key src Q P n a l t) where
     few : n < mostSymbols
     few = omega (arith, X .few, size-mass l, X .table .many)
 
-  pub enter-few : Asks₂ (Enter key src S E P n a) → (n < length S) × (n < length E) × (n < length P)
+  pub enter-few : Asks₂ (Enter key src Q P n a) → (2 * n + 2 ≤ length Q) × (n < length P)
   enter-few J =
       let X = J .2 in
       let h = few (J .0) (J .1) X in
-      (omega (arith, X .room .starts), omega (arith, X .room .ends), omega (arith, X .room .powers))
+      (omega (arith, X .room .spans), omega (arith, X .room .powers))
 
-  pub enter-within : Asks₂ (Enter key src S E P n a) → a + length key ≤ length src
+  pub enter-within : Asks₂ (Enter key src Q P n a) → a + length key ≤ length src
   enter-within J = stands-within (J .2 .there) (encode-some (J .1))
 
-  pub enter-asks : Asks₂ (Enter key src S E P n a) → (n ≤ length S) × (n ≤ length E) × Bounds src S E n
+  -- its end is a number of 32 bits
+  pub enter-fits : Asks₂ (Enter key src Q P n a) → a + length key < longest
+  enter-fits J = omega (arith, enter-within J, J .2 .short)
+
+  pub enter-asks : Asks₂ (Enter key src Q P n a) → (2 * n ≤ length Q) × Bounds src Q n × Rising src Q n
   enter-asks J =
       let f = enter-few J in (
         omega arith,
-        omega arith,
-        λ j h. rows-bounds src S E P 0 (J .0) (J .2 .table .rows) j (omega arith) (omega (arith, J .2 .table .many)),
+        λ j h. rows-bounds src Q P 0 (J .0) (J .2 .table .rows) j (omega arith) (omega (arith, J .2 .table .many)),
+        λ i j h g. rows-rising src Q P 0 (J .0) (J .2 .asc) (J .2 .table .rows) i j (omega arith) h (omega (arith, J .2 .table .many)),
       )
 
-  module _ (minus : Bool) (i : ℕ) (same : Bool) (F : Found key src S E n i same) (u : ℤ) (eu : u ≡ sign minus) where
+  module _ (minus : Bool) (i : ℕ) (same : Bool) (F : Found key src Q n i same) (u : ℤ) (eu : u ≡ sign minus) where
     new-back : toZ w32 (ofZ w32 u) ≡ sign minus
     new-back = rw eu (back (sign minus) (omega (arith, sign-abs minus)))
 
     -- it stands there already
     module _ (h : same ≡ true) where
-      module _ (l : Exps) (t : Term) (X : Enter key src S E P n a l t) where
+      module _ (l : Exps) (t : Term) (X : Enter key src Q P n a l t) where
         small : natAbs (getD P i (pos 0)) ≤ mass l
-        small = rows-abs src S E P 0 l (X .table .rows) i (omega arith) (omega (arith, F .end h, X .table .many))
+        small = rows-abs src Q P 0 l (X .table .rows) i (omega arith) (omega (arith, F .end h, X .table .many))
 
         old-back : toZ w32 (ofZ w32 (getD P i (pos 0))) ≡ getD P i (pos 0)
         old-back = back _ (omega (arith, small, X .few))
@@ -120,65 +150,86 @@ module _ (key src S E : List ℕ) (P : List ℤ) (n a : ℕ) where
         row-back = rw (old-back, new-back) (back _ sum-small)
 
         pub entered-same :
-            Table src S E (set P i (toZ w32 (ofZ w32 (toZ w32 (ofZ w32 (getD P i (pos 0))) +ℤ toZ w32 (ofZ w32 u))))) n (enter t (sign minus) l)
+            Table src Q (set P i (toZ w32 (ofZ w32 (toZ w32 (ofZ w32 (getD P i (pos 0))) +ℤ toZ w32 (ofZ w32 u))))) n (enter t (sign minus) l)
         entered-same =
-            let here : orderAt key src S E i ≡ Equal = F .here (F .end h) ∙ ap meeting h in
+            let here : orderAt key src Q i ≡ Equal = F .here (F .end h) ∙ ap meeting h in
             let f = enter-few (l, t, X) in
             let q : 0 + size l ≡ n = omega (arith, X .table .many) in
             record {
-              rows = rows-same src S E P key n i (sign minus) t (X .bytes) (F .before) here _ row-back (omega (arith, F .end h)) 0 l (omega arith) (F .end h) q
+              rows = rows-same src Q P key n i (sign minus) t (X .bytes) (F .before) here _ row-back (omega (arith, F .end h)) 0 l (omega arith) (F .end h) q
                   (X .table .rows);
-              many = size-same src S E P key n i (sign minus) t (X .bytes) (F .before) here 0 l (omega arith) (F .end h) q (X .table .rows) ∙ X .table .many;
+              many = size-same src Q P key n i (sign minus) t (X .bytes) (F .before) here 0 l (omega arith) (F .end h) q (X .table .rows) ∙ X .table .many;
             }
 
     -- it is new
-    module _ (h : same ≡ false) (S₁ E₁ : List ℕ) (P₁ : List ℤ) (MS : Moved 0 S S₁ i n) (ME : Moved 0 E E₁ i n) (MP : Moved (pos 0) P P₁ i n)
-        (lS : length S₁ ≡ length S) (lE : length E₁ ≡ length E) (lP : length P₁ ≡ length P) where
+    module _ (h : same ≡ false) (Q₁ : List ℕ) (P₁ : List ℤ) (MQ : Moved 0 2 Q Q₁ (2 * i) (2 * n)) (MP : Moved (pos 0) 1 P P₁ i n)
+        (lQ : length Q₁ ≡ length Q) (lP : length P₁ ≡ length P) where
       pub entered-new :
-          (l : Exps) (t : Term) → Enter key src S E P n a l t
-          → Table src (set S₁ i a) (set E₁ i (a + length key)) (set P₁ i (toZ w32 (ofZ w32 u))) (n + 1) (enter t (sign minus) l)
+          (l : Exps) (t : Term) → Enter key src Q P n a l t
+          → Table src (set (set Q₁ (2 * i) a) (2 * i + 1) (a + length key)) (set P₁ i (toZ w32 (ofZ w32 u))) (n + 1) (enter t (sign minus) l)
       entered-new l t X =
-          let here : i < n → orderAt key src S E i ≡ Less = λ z. F .here z ∙ ap meeting h in
+          let here : i < n → orderAt key src Q i ≡ Less = λ z. F .here z ∙ ap meeting h in
           let f = enter-few (l, t, X) in
-          let OS = opened 0 S S₁ i n a MS (omega (arith, lS, F .within)) in
-          let OE = opened 0 E E₁ i n (a + length key) ME (omega (arith, lE, F .within)) in
-          let OP = opened (pos 0) P P₁ i n (sign minus) MP (omega (arith, lP, F .within)) in
+          let hQ : 2 * i + 1 < length Q₁ = omega (arith, lQ, F .within) in
+          let OS = start-opened Q Q₁ i n a (a + length key) MQ hQ in
+          let OE = end-opened Q Q₁ i n a (a + length key) MQ hQ in
+          let OP = power-opened P P₁ i n (sign minus) MP (omega (arith, lP, F .within)) in
           let q : 0 + size l ≡ n = omega (arith, X .table .many) in
           record {
-            rows = rw new-back (rows-in src S E P key n i (sign minus) t (X .bytes) (F .before) here a (a + length key) (X .there) _ _ _ OS OE OP 0 l
+            rows = rw new-back (rows-in src Q P key n i (sign minus) t (X .bytes) (F .before) here a (a + length key) (X .there) _ _ OS OE OP 0 l
                 (omega arith) (F .within) q (X .table .rows));
-            many = size-in src S E P key n i (sign minus) t (X .bytes) (F .before) here 0 l (omega arith) (F .within) q (X .table .rows) ∙ ap (λ j. j + 1)
+            many = size-in src Q P key n i (sign minus) t (X .bytes) (F .before) here 0 l (omega arith) (F .within) q (X .table .rows) ∙ ap (λ j. j + 1)
                 (X .table .many);
           }
 
 -- ── the term at a place ──
-module _ (arities src S E : List ℕ) (P : List ℤ) (n at : ℕ) (bytes : Bytes src) (key : List ℕ) (K : key ≡ bytesOf (term src arities at)) where
-  key-is : (l : Exps) (t : Term) → EnterAt arities src S E P n at l t → key ≡ encode t
-  key-is l t X = K ∙ one-bytes (X .one) bytes
+module _ (arities src Q : List ℕ) (P : List ℤ) (n at : ℕ) where
+  module _ (key : List ℕ) (K : (l : Exps) (t : Term) → OneTerm arities src Q P n at l t → key ≡ encode t) where
+    entering : (l : Exps) (t : Term) → OneTerm arities src Q P n at l t → Enter key src Q P n at l t
+    entering l t X =
+        let k = K l t X in
+        record {
+          table = X .table;
+          asc = X .asc;
+          room = X .room;
+          few = omega (arith, X .few, some-symbol t);
+          bytes = k;
+          there = subst (λ (j : ℕ). Stands src at (encode t) (at + j)) (ap length (sym k)) (X .one .there);
+          short = X .short;
+        }
 
-  entering : (l : Exps) (t : Term) → EnterAt arities src S E P n at l t → Enter key src S E P n at l t
-  entering l t X =
-      let k = key-is l t X in
-      record {
-        table = X .table;
-        room = X .room;
-        few = X .few;
-        bytes = k;
-        there = subst (λ (j : ℕ). Stands src at (encode t) (at + j)) (ap length (sym k)) (X .one .there);
-      }
+    pub one-asks : Asks₂ (OneTerm arities src Q P n at) → Asks₂ (Enter key src Q P n at)
+    one-asks J = (J .0, J .1, entering (J .0) (J .1) (J .2))
 
-  pub one-asks : Asks₂ (EnterAt arities src S E P n at) → Asks₂ (Enter key src S E P n at)
-  one-asks J = (J .0, J .1, entering (J .0) (J .1) (J .2))
+    pub one-short : Asks₂ (OneTerm arities src Q P n at) → at + length key ≤ length src
+    one-short J = enter-within key src Q P n at (one-asks J)
 
-  pub one-short : Asks₂ (EnterAt arities src S E P n at) → at + length key ≤ length src
-  one-short J = enter-within key src S E P n at (one-asks J)
+    pub one-entered :
+        (minus : Bool) (Q′ : List ℕ) (P′ : List ℤ) (m : ℕ) → Promises₂ (Enter key src Q P n at)
+        (λ (l : Exps) (t : Term). Table src Q′ P′ m (enter t (sign minus) l))
+        → (r : Onward) → ((l : Exps) (t : Term) → OneTerm arities src Q P n at l t → r .at ≡ at + length (encode t)) → r .n ≡ m → r .more ≡ 0
+        → Promises₂ (OneTerm arities src Q P n at)
+        (λ (l : Exps) (t : Term). Entered src Q′ P′ (at + length (encode t)) r (enter t (sign minus) l))
+    one-entered minus Q′ P′ m D r e₁ e₂ e₃ l t X = record { table = rw e₂ (D l t (entering l t X)); next = e₁ l t X; none = e₃ }
 
-  pub one-entered :
-      (minus : Bool) (S′ E′ : List ℕ) (P′ : List ℤ) (m : ℕ) → Promises₂ (Enter key src S E P n at)
-      (λ (l : Exps) (t : Term). Table src S′ E′ P′ m (enter t (sign minus) l))
-      → (r : Filled) → r .at ≡ at + length key → r .n ≡ m → Promises₂ (EnterAt arities src S E P n at)
-      (λ (l : Exps) (t : Term). Collected src S′ E′ P′ (at + length (encode t)) r (enter t (sign minus) l))
-  one-entered minus S′ E′ P′ m D r e₁ e₂ l t X = record {
-    table = rw e₂ (D l t (entering l t X));
-    next = e₁ ∙ ap (λ (k : List ℕ). at + length k) (key-is l t X);
-  }
+  -- its bytes by a walk
+  module _ (bytes : Bytes src) (key : List ℕ) (E : key ≡ bytesOf (term src arities at)) where
+    pub walked : (l : Exps) (t : Term) → OneTerm arities src Q P n at l t → key ≡ encode t
+    walked l t X = E ∙ one-bytes (X .one) bytes
+
+    pub walked-end : (l : Exps) (t : Term) → OneTerm arities src Q P n at l t → at + length key ≡ at + length (encode t)
+    walked-end l t X = ap (λ (k : List ℕ). at + length k) (walked l t X)
+
+  -- its bytes where it is a leaf
+  module _ (e : ℕ) (w : wayOf (symbolAt src arities at) ≡ way.Leaf e) where
+    pub leaf-end : (l : Exps) (t : Term) → OneTerm arities src Q P n at l t → e ≡ at + length (encode t)
+    leaf-end l t X = way-end e t (X .one) w
+
+    pub leaf-key : (l : Exps) (t : Term) → OneTerm arities src Q P n at l t → take (e - at) (drop at src) ≡ encode t
+    leaf-key l t X = stands-part (subst (λ (z : ℕ). Stands src at (encode t) z) (sym (leaf-end l t X)) (X .one .there))
+
+    pub leaf-within : Asks₂ (OneTerm arities src Q P n at) → (at ≤ e) × (e ≤ length src)
+    leaf-within J =
+        let X = J .2 in
+        let z = leaf-end (J .0) (J .1) X in
+        (omega arith, omega (arith, one-within (X .one)))

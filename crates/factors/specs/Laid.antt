@@ -3,7 +3,7 @@ use Prim.Native.Nat.{ℕ, _+_}
 use mathlib.Core.List.{List}
 use lib.ListN.{length}
 use Rattle.octets.specs.Head.{Stands}
-use Rattle.term.specs.Term.{Term, Terms, encode, encodes, Formed, Formeds, InRange, InRanges}
+use Rattle.term.specs.Term.{Term, Terms, nil, _&_, encode, encodes, Formed, Formeds, InRange, InRanges}
 use Rattle.term.specs.Arity.{arity}
 -- the first of them, the others, the arguments of one
 pub mod Laws
@@ -19,3 +19,8 @@ pub record OneAt (arities src : List ℕ) (at e : ℕ) (t : Term) : Type 0 where
   pub formed : Formed (arity arities) t
   pub range : InRange t
   pub there : Stands src at (encode t) e
+
+-- some terms and others behind them
+abbrev pub also : Terms → Terms → Terms
+also nil us = us
+also (t & ts) us = t & also ts us

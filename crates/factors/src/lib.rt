@@ -1,6 +1,6 @@
 // The factors of some terms in a table: for each its place in the caller's slice and its exponent, ascending by encoded bytes.
 ghost use mathlib.Core.Path.{_≡_};
-ghost use Prim.Native.Nat.{_+_, _-_, _≤_, _<_};
+ghost use Prim.Native.Nat.{_+_, _-_, _*_, _≤_};
 ghost use lib.ListN.{length, take, drop};
 ghost use lib.IntN.{pos};
 ghost use Rattle.term.specs.Term.{Term, Terms, encode, encodes};
@@ -9,11 +9,14 @@ ghost use Rattle.lists.specs.Asks.{Asks₂, Promises₂};
 ghost use Rattle.octets.specs.Compare.{compareBytes};
 ghost use Rattle.term.specs.Reader.{symbolAt};
 ghost use Rattle.message.specs.Gather.{sign, enter, pours};
-ghost use Rattle.factors.specs.Rows.{Moved, Bounds, FoundAt, Table};
+ghost use Rattle.factors.specs.Rows.{Moved, Bounds, FoundAt, Rising, Table};
 ghost use Rattle.factors.specs.Way.{wayOf};
-ghost use Rattle.factors.specs.Contracts.{Enter, Collect, EnterAt, Collected};
+ghost use Rattle.factors.specs.Contracts.{Enter, Collect, Collected, OneTerm, Entered, Gone};
 use octets::Order;
 use term::Symbol;
+
+// An entry's places in the table: the factor's start, and behind it its end.
+pub const SPAN: usize = 2;
 
 // Where a factor belongs among the entries, and whether it stands there already.
 pub struct Position {
@@ -21,9 +24,12 @@ pub struct Position {
     pub same: bool,
 }
 
-// What to do with the term at a place: walk its arguments with a sign (true is minus), so many from a place on; or enter it as a factor.
+// What to do with the term at a place: walk its arguments, so many from a place on, with the same sign or the other; or enter it as a factor,
+// a leaf up to its end.
 pub enum Way {
-    Into(bool, usize, usize),
+    On(usize, usize),
+    Turn(usize, usize),
+    Leaf(usize),
     Factor,
 }
 
@@ -31,6 +37,13 @@ pub enum Way {
 pub struct Filled {
     pub at: usize,
     pub n: usize,
+}
+
+// The same after one term, and how many of its arguments are to be walked from there.
+pub struct Onward {
+    pub at: usize,
+    pub n: usize,
+    pub more: usize,
 }
 
 // The order of a factor's bytes and a part.
@@ -41,50 +54,54 @@ fn compare_at(key: &[u8], src: &[u8], a: usize, e: usize) -> Order
     octets::compare_bytes(key, &src[a..e])
 }
 
-// Where these bytes belong among n entries: past those that come before them.
-fn find_place(key: &[u8], src: &[u8], starts: &[usize], ends: &[usize], n: usize) -> Position
-    requires { ⌜ (n ≤ length (now starts)) × (n ≤ length (now ends)) × Bounds (now src) (now starts) (now ends) n ⌝ }
-    ensures { λ r. ⌜ FoundAt (now (key .entry)) (now (src .entry)) (now (starts .entry)) (now (ends .entry)) n r ⌝ }
+// Where these bytes belong among n entries: looked for from the last entry on, as factors mostly come in order.
+fn find_place(key: &[u8], src: &[u8], spans: &[u32], n: usize) -> Position
+    requires { ⌜ (2 * n ≤ length (now spans)) × Bounds (now src) (now spans) n × Rising (now src) (now spans) n ⌝ }
+    ensures { λ r. ⌜ FoundAt (now (key .entry)) (now (src .entry)) (now (spans .entry)) n r ⌝ }
 {
-    let mut i = 0;
-    while i < n {
-        match compare_at(key, src, starts[i], ends[i]) {
+    let mut i = n;
+    while 0 < i {
+        let j = i - 1;
+        let a = spans[SPAN * j] as usize;
+        let e = spans[SPAN * j + 1] as usize;
+        match compare_at(key, src, a, e) {
             Order::Less => {
-                return Position { at: i, same: false };
+                i = j;
             }
             Order::Equal => {
-                return Position { at: i, same: true };
+                return Position { at: j, same: true };
             }
             Order::Greater => {
-                i += 1;
+                return Position { at: i, same: false };
             }
         }
     }
-    Position { at: n, same: false }
+    Position { at: 0, same: false }
 }
 
-// Makes room for an entry at i among n: those from i on move up by one.
-fn open_row(a: &mut [usize], i: usize, n: usize)
-    requires { ⌜ (i ≤ n) × (n < length (now a)) ⌝ }
-    ensures { λ r. ⌜ Moved 0 (now (a .entry)) (now (a .exit)) i n ⌝ }
+// Makes room for an entry's places: the elements from i up to n move up by a span.
+fn open_row(a: &mut [u32], i: usize, n: usize)
+    requires { ⌜ (i ≤ n) × (n + 2 ≤ length (now a)) ⌝ }
+    ensures { λ r. ⌜ Moved 0 2 (now (a .entry)) (now (a .exit)) i n ⌝ }
 {
     let mut j = n;
     while i < j {
-        let x = a[j - 1];
-        a[j] = x;
         j -= 1;
+        let x = a[j];
+        a[j + SPAN] = x;
     }
 }
 
+// Makes room for an entry's exponent.
 fn open_power(a: &mut [i32], i: usize, n: usize)
-    requires { ⌜ (i ≤ n) × (n < length (now a)) ⌝ }
-    ensures { λ r. ⌜ Moved (pos 0) (now (a .entry)) (now (a .exit)) i n ⌝ }
+    requires { ⌜ (i ≤ n) × (n + 1 ≤ length (now a)) ⌝ }
+    ensures { λ r. ⌜ Moved (pos 0) 1 (now (a .entry)) (now (a .exit)) i n ⌝ }
 {
     let mut j = n;
     while i < j {
-        let x = a[j - 1];
-        a[j] = x;
         j -= 1;
+        let x = a[j];
+        a[j + 1] = x;
     }
 }
 
@@ -97,8 +114,7 @@ fn unit(minus: bool) -> i32
 
 // The factor whose bytes stand at a goes into the table of n entries with one exponent more or less: returns how many entries there are.
 fn enter(
-    starts: &mut [usize],
-    ends: &mut [usize],
+    spans: &mut [u32],
     powers: &mut [i32],
     n: usize,
     src: &[u8],
@@ -106,11 +122,11 @@ fn enter(
     a: usize,
     minus: bool,
 ) -> usize
-    requires { ⌜ Asks₂ (Enter (now key) (now src) (now starts) (now ends) (now powers) n a) ⌝ }
-    ensures { λ r. ⌜ Promises₂ (Enter (now (key .entry)) (now (src .entry)) (now (starts .entry)) (now (ends .entry)) (now (powers .entry)) n a) (λ (l : Exps) (t : Term). Table (now (src .entry)) (now (starts .exit)) (now (ends .exit)) (now (powers .exit)) r (enter t (sign minus) l)) ⌝ }
+    requires { ⌜ Asks₂ (Enter (now key) (now src) (now spans) (now powers) n a) ⌝ }
+    ensures { λ r. ⌜ Promises₂ (Enter (now (key .entry)) (now (src .entry)) (now (spans .entry)) (now (powers .entry)) n a) (λ (l : Exps) (t : Term). Table (now (src .entry)) (now (spans .exit)) (now (powers .exit)) r (enter t (sign minus) l)) ⌝ }
 {
     let e = a + key.len();
-    let p = find_place(key, src, starts, ends, n);
+    let p = find_place(key, src, spans, n);
     let i = p.at;
     let same = p.same;
     let u = unit(minus);
@@ -120,30 +136,30 @@ fn enter(
         powers[i] = v;
         return n;
     }
-    open_row(starts, i, n);
-    open_row(ends, i, n);
+    let at = SPAN * i;
+    open_row(spans, at, SPAN * n);
     open_power(powers, i, n);
-    starts[i] = a;
-    ends[i] = e;
+    spans[at] = a as u32;
+    spans[at + 1] = e as u32;
     powers[i] = u;
     n + 1
 }
 
 // The way of the term at a place.
-fn way_at(src: &[u8], arities: &[u8], at: usize, minus: bool) -> Way
-    ensures { λ r. ⌜ r ≡ wayOf minus (symbolAt (now (src .entry)) (now (arities .entry)) at) ⌝ }
+fn way_at(src: &[u8], arities: &[u8], at: usize) -> Way
+    ensures { λ r. ⌜ r ≡ wayOf (symbolAt (now (src .entry)) (now (arities .entry)) at) ⌝ }
 {
     match term::symbol_at(src, arities, at) {
-        Symbol::Leaf(_, _, _) => Way::Factor,
+        Symbol::Leaf(_, _, e) => Way::Leaf(e),
         Symbol::Op(t, k, e) => {
             if t == term::ONE {
-                return Way::Into(minus, k as usize, e);
+                return Way::On(k as usize, e);
             }
             if t == term::MUL {
-                return Way::Into(minus, k as usize, e);
+                return Way::On(k as usize, e);
             }
             if t == term::INV {
-                return Way::Into(!minus, k as usize, e);
+                return Way::Turn(k as usize, e);
             }
             Way::Factor
         }
@@ -153,30 +169,68 @@ fn way_at(src: &[u8], arities: &[u8], at: usize, minus: bool) -> Way
 
 // The term at a place is entered as a factor.
 fn enter_at(
-    starts: &mut [usize],
-    ends: &mut [usize],
+    spans: &mut [u32],
     powers: &mut [i32],
     n: usize,
     src: &[u8],
     at: usize,
     arities: &[u8],
     minus: bool,
-) -> Filled
-    requires { ⌜ Asks₂ (EnterAt (now arities) (now src) (now starts) (now ends) (now powers) n at) ⌝ }
-    ensures { λ r. ⌜ Promises₂ (EnterAt (now (arities .entry)) (now (src .entry)) (now (starts .entry)) (now (ends .entry)) (now (powers .entry)) n at) (λ (l : Exps) (t : Term). Collected (now (src .entry)) (now (starts .exit)) (now (ends .exit)) (now (powers .exit)) (at + length (encode t)) r (enter t (sign minus) l)) ⌝ }
+) -> Onward
+    requires { ⌜ Asks₂ (OneTerm (now arities) (now src) (now spans) (now powers) n at) ⌝ }
+    ensures { λ r. ⌜ Promises₂ (OneTerm (now (arities .entry)) (now (src .entry)) (now (spans .entry)) (now (powers .entry)) n at) (λ (l : Exps) (t : Term). Entered (now (src .entry)) (now (spans .exit)) (now (powers .exit)) (at + length (encode t)) r (enter t (sign minus) l)) ⌝ }
 {
     let key = term::term_part(src, arities, at);
-    let m = enter(starts, ends, powers, n, src, key, at, minus);
-    Filled {
+    let m = enter(spans, powers, n, src, key, at, minus);
+    Onward {
         at: at + key.len(),
         n: m,
+        more: 0,
+    }
+}
+
+// The term at a place: its factors go into the table, or its arguments are left to be walked.
+fn one_term(
+    spans: &mut [u32],
+    powers: &mut [i32],
+    n: usize,
+    src: &[u8],
+    at: usize,
+    arities: &[u8],
+    minus: bool,
+) -> Onward
+    requires { ⌜ Asks₂ (OneTerm (now arities) (now src) (now spans) (now powers) n at) ⌝ }
+    ensures { λ r. ⌜ Promises₂ (OneTerm (now (arities .entry)) (now (src .entry)) (now (spans .entry)) (now (powers .entry)) n at) (λ (l : Exps) (t : Term). Gone (now (arities .entry)) (now (src .entry)) (now (spans .exit)) (now (powers .exit)) at minus r l t) ⌝ }
+{
+    match way_at(src, arities, at) {
+        Way::On(c, next) => Onward {
+            at: next,
+            n: n,
+            more: c,
+        },
+        Way::Turn(c, next) => {
+            let f = collect(spans, powers, n, src, next, c, arities, !minus);
+            Onward {
+                at: f.at,
+                n: f.n,
+                more: 0,
+            }
+        }
+        Way::Leaf(e) => {
+            let m = enter(spans, powers, n, src, &src[at..e], at, minus);
+            Onward {
+                at: e,
+                n: m,
+                more: 0,
+            }
+        }
+        Way::Factor => enter_at(spans, powers, n, src, at, arities, minus),
     }
 }
 
 // The factors of the k terms at a place go into the table of n entries, with a sign.
 pub fn collect(
-    starts: &mut [usize],
-    ends: &mut [usize],
+    spans: &mut [u32],
     powers: &mut [i32],
     n: usize,
     src: &[u8],
@@ -185,20 +239,17 @@ pub fn collect(
     arities: &[u8],
     minus: bool,
 ) -> Filled
-    requires { ⌜ Asks₂ (Collect (now arities) (now src) (now starts) (now ends) (now powers) n at k) ⌝ }
-    ensures { λ r. ⌜ Promises₂ (Collect (now (arities .entry)) (now (src .entry)) (now (starts .entry)) (now (ends .entry)) (now (powers .entry)) n at k) (λ (l : Exps) (ts : Terms). Collected (now (src .entry)) (now (starts .exit)) (now (ends .exit)) (now (powers .exit)) (at + length (encodes ts)) r (pours minus ts l)) ⌝ }
+    requires { ⌜ Asks₂ (Collect (now arities) (now src) (now spans) (now powers) n at k) ⌝ }
+    ensures { λ r. ⌜ Promises₂ (Collect (now (arities .entry)) (now (src .entry)) (now (spans .entry)) (now (powers .entry)) n at k) (λ (l : Exps) (ts : Terms). Collected (now (src .entry)) (now (spans .exit)) (now (powers .exit)) (at + length (encodes ts)) r (pours minus ts l)) ⌝ }
 {
-    if k == 0 {
-        return Filled { at: at, n: n };
+    let mut i = at;
+    let mut m = n;
+    let mut left = k;
+    while 0 < left {
+        let o = one_term(spans, powers, m, src, i, arities, minus);
+        i = o.at;
+        m = o.n;
+        left = left - 1 + o.more;
     }
-    match way_at(src, arities, at, minus) {
-        Way::Into(m, c, next) => {
-            let f = collect(starts, ends, powers, n, src, next, c, arities, m);
-            collect(starts, ends, powers, f.n, src, f.at, k - 1, arities, minus)
-        }
-        Way::Factor => {
-            let f = enter_at(starts, ends, powers, n, src, at, arities, minus);
-            collect(starts, ends, powers, f.n, src, f.at, k - 1, arities, minus)
-        }
-    }
+    Filled { at: i, n: m }
 }

@@ -1,65 +1,79 @@
--- The facts of a rule as the code finds them: how many a list has, where each stands, its symbol.
+-- The facts of a node's rule as the code finds them: how many a list has, where each stands, its symbol.
 use Prim.Native.Nat.{ℕ, _<_}
 use mathlib.Core.List.{List, [], map}
 use mathlib.Core.Option.{some}
-use mathlib.Core.Path.{_≡_, ap, _∙_}
+use mathlib.Core.Path.{_≡_, refl, ap, sym, _∙_}
 use native.Mathlib.Omega.{arith}
 use lib.ListN.{length, getD, length-map, List·getD-eq-default}
 use Rattle.lists.specs.Choice.{by-size}
-use Rattle.number.specs.Reading.{got, readNumber, below}
-use Rattle.protocol.specs.Protocol.{Fact, Rule, Protocol, listOf, noFact, fact, rule}
-use Rattle.protocol.specs.Places.{Here, listPlace, factPlace, valueOf}
+use Rattle.lists.specs.All.Laws.{map-at}
+use Rattle.number.specs.Reading.{below}
+use Rattle.protocol.specs.Figures.{listCount, factLimit}
+use Rattle.protocol.specs.Protocol.{Fact, Rule, Protocol, listOf, noFact, fact}
+use Rattle.protocol.specs.Places.{Here, factPlace, valueOf}
 use Rattle.protocol.specs.Places.Laws.{symbol-law}
 use Rattle.rules.specs.Numbered.{ruleOf}
+use Rattle.prepared.specs.Prepared.{slotsOf, aritiesOf, listEntry}
 use Rattle.steps.specs.Nodes.{Node}
-use Rattle.lists.specs.All.Laws.{map-at}
 use Rattle.steps.specs.Facts.{filledFact, filledList, factsOf}
-use Rattle.steps.specs.Index.{IndexOf}
-use Rattle.steps.specs.Values.Loops.{NodeAt, number-read, from-rule}
-use Rattle.steps.specs.Values.Parts.{list-there, facts-many, fact-there, lists-many}
-
--- ── a rule at a place ──
-part-inside : (u : Rule) (list i : ℕ) → i < length (listOf list u) → list < length (u .lists)
-part-inside u list i l =
-    by-size list (length (u .lists)) (λ h. h)
-    (λ h. absurd (omega (arith, ap length (List·getD-eq-default (u .lists) [] h))))
-
-module _ (src arities ars : List ℕ) (place : ℕ) (u : Rule) (h : Here (rule src arities ars) u place) where
-  pub rule-counted : (list start r : ℕ) → list < 3 → start ≡ listPlace src arities ars place list → r ≡ valueOf (below src 9 start) → r ≡ length (listOf list u)
-  rule-counted list start r l hl hr = hr ∙ facts-many src arities ars start (listOf list u) (list-there src arities ars place u h list start l hl)
-
-  module _ (list i start f : ℕ) (l : i < length (listOf list u)) (hl : start ≡ listPlace src arities ars place list) (hf : f ≡ factPlace src arities ars start i) where
-    pub part-fact : Here (fact src arities ars) (getD (listOf list u) i noFact) f
-    part-fact =
-        let m : list < 3 = omega (arith, part-inside u list i l, lists-many src arities ars place u h) in
-        fact-there src arities ars start (listOf list u) (list-there src arities ars place u h list start m hl) i f l hf
-
-    pub rule-symbol : (y : ℕ) → y ≡ valueOf (below src (length ars) f) → y ≡ getD (listOf list u) i noFact .symbol
-    rule-symbol y hy = hy ∙ symbol-law src arities ars f (getD (listOf list u) i noFact) part-fact
+use Rattle.steps.specs.Table.{rowAt, NodeIn}
+use Rattle.steps.specs.Table.Laws.{node-list}
+use Rattle.steps.specs.Values.Filled.{node-rule-of, of-three}
+use Rattle.steps.specs.Values.Parts.{facts-many, fact-there}
 
 -- ── a node's facts are its rule's, filled in ──
-module _ (p : Protocol) (x : Node) (u : Rule) (known : ruleOf p (x .rule) ≡ some u) (list : ℕ) where
-  facts-are : factsOf p list x ≡ map (filledFact (x .values)) (listOf list u)
+module _ (P : Protocol) (x : Node) (u : Rule) (known : ruleOf P (x .rule) ≡ some u) (list : ℕ) where
+  facts-are : factsOf P list x ≡ map (filledFact (x .values)) (listOf list u)
   facts-are = ap (filledList list (x .values)) known
 
-  pub facts-counted : length (factsOf p list x) ≡ length (listOf list u)
+  pub facts-counted : length (factsOf P list x) ≡ length (listOf list u)
   facts-counted = ap length facts-are ∙ length-map (listOf list u) (filledFact (x .values))
 
-  pub fact-filled : (i : ℕ) → i < length (factsOf p list x) → getD (factsOf p list x) i noFact ≡ filledFact (x .values) (getD (listOf list u) i noFact)
+  pub fact-filled : (i : ℕ) → i < length (factsOf P list x) → getD (factsOf P list x) i noFact ≡ filledFact (x .values) (getD (listOf list u) i noFact)
   fact-filled i l =
       ap (λ (fs : List Fact). getD fs i noFact) facts-are
       ∙ map-at (filledFact (x .values)) (listOf list u) i noFact noFact (omega (arith, facts-counted))
 
--- ── the rule of a number, under the tables of its protocol ──
-pub record NumberedRule (protocol arities rules : List ℕ) (nr number : ℕ) (p : Protocol) (u : Rule) : Type 0 where
-  pub index : IndexOf protocol arities rules nr p
-  pub is : ruleOf p number ≡ some u
+-- ── where the code finds them ──
+-- a list; a fact of it
+abbrev pub listStart : List ℕ → List ℕ → ℕ → ℕ → ℕ
+listStart p nodes j list = listEntry p (getD nodes (rowAt j) 0) list
 
--- of a node at a place, its rule number read
-pub node-rule :
-    {protocol arities rules : List ℕ} {nr : ℕ} {file : List ℕ} {place number at : ℕ} {p : Protocol} {x : Node} → readNumber file place ≡ got number at
-    → NodeAt protocol arities rules nr file place p x → (u : Rule) × NumberedRule protocol arities rules nr number p u × (ruleOf p (x .rule) ≡ some u)
-node-rule {p = p} h n =
-    let (e, f) = number-read h n in
-    let (u, is) = from-rule f in
-    (u, record { index = f .index; is = is }, ap (ruleOf p) (f .is-number) ∙ is)
+abbrev pub factStart : List ℕ → List ℕ → ℕ → ℕ → ℕ → ℕ
+factStart p nodes j list i = factPlace p (slotsOf p) (aritiesOf p) (listStart p nodes j list) i
+
+pub fact-start :
+    (p nodes : List ℕ) (j list i start place : ℕ) → start ≡ listStart p nodes j list → place ≡ factPlace p (slotsOf p) (aritiesOf p) start i
+    → place ≡ factStart p nodes j list i
+fact-start p nodes j list i start place hl hf = hf ∙ ap (λ (k : ℕ). factPlace p (slotsOf p) (aritiesOf p) k i) hl
+
+module _ {p s nodes : List ℕ} {j : ℕ} {P : Protocol} {x : Node} (h : NodeIn p s nodes j P x) (list : ℕ) where
+  abbrev u : Rule
+  u = h .within .is
+
+  pub list-counted :
+      list < listCount → (start r : ℕ) → start ≡ listStart p nodes j list → r ≡ valueOf (below p factLimit start) → r ≡ length (factsOf P list x)
+  list-counted l start r hl hr =
+      hr ∙ ap (λ (k : ℕ). valueOf (below p factLimit k)) hl ∙ facts-many p (slotsOf p) (aritiesOf p) (listStart p nodes j list) (listOf list u)
+      (node-list h list l)
+      ∙ sym (facts-counted P x u (h .within .known) list)
+
+  -- a list that has a fact is one of the three
+  pub list-known : (i : ℕ) → i < length (factsOf P list x) → list < listCount
+  list-known i l =
+      by-size list (length (u .lists)) (λ m. omega (arith, m, of-three (node-rule-of h)))
+      (λ m. absurd (omega (arith, l, facts-counted P x u (h .within .known) list, ap length (List·getD-eq-default (u .lists) [] m))))
+
+  module _ (i : ℕ) (l : i < length (factsOf P list x)) where
+    pub fact-here : Here (fact p (slotsOf p) (aritiesOf p)) (getD (listOf list u) i noFact) (factStart p nodes j list i)
+    fact-here =
+        fact-there p (slotsOf p) (aritiesOf p) (listStart p nodes j list) (listOf list u) (node-list h list (list-known i l)) i
+        (factStart p nodes j list i) (omega (arith, l, facts-counted P x u (h .within .known) list)) refl
+
+    pub symbol-is :
+        (place y : ℕ) → place ≡ factStart p nodes j list i → y ≡ valueOf (below p (length (aritiesOf p)) place)
+        → y ≡ getD (factsOf P list x) i noFact .symbol
+    symbol-is place y hf hy =
+        hy ∙ ap (λ (k : ℕ). valueOf (below p (length (aritiesOf p)) k)) hf ∙ symbol-law p (slotsOf p) (aritiesOf p) (factStart p nodes j list i)
+        (getD (listOf list u) i noFact) fact-here
+        ∙ sym (ap (λ (f : Fact). f .symbol) (fact-filled P x u (h .within .known) list i l))

@@ -8,9 +8,8 @@ ghost use Rattle.term.specs.Term.{encode, leaf, public};
 ghost use Rattle.protocol.specs.Protocol.{Protocol};
 ghost use Rattle.steps.specs.Nodes.{Node};
 ghost use Rattle.steps.specs.Facts.{sameFact, sameTerm};
-ghost use Rattle.steps.specs.Values.Filled.{ArityTable};
 ghost use Rattle.facts.specs.Writing.{factRoom, Put};
-ghost use Rattle.facts.specs.Calls.{Room, FactsAt, OneOf, factAt, argumentAt, Compared};
+ghost use Rattle.facts.specs.Calls.{Room, FactsIn, OneOf, factAt, argumentAt, Compared};
 use crate::nodes;
 use crate::nodes::FactId;
 use crate::writing::Wanted;
@@ -36,22 +35,19 @@ fn same_parts(file: &[u8], m: usize, n: usize) -> bool
 // Two facts of nodes, written one behind the other.
 fn compare(
     out: &mut [u8],
-    file: &[u8],
-    protocol: &[u8],
-    arities: &[u8],
-    ars: &[u8],
-    rules: &[usize],
-    nr: usize,
+    p: &[u8],
+    s: &[u8],
+    nodes: &[usize],
     x: FactId,
     wx: Wanted,
     y: FactId,
     wy: Wanted,
 ) -> Both
-    requires { ⌜ Asks₃ (FactsAt (now protocol) (now arities) (now rules) nr (now file) x wx y wy) × ArityTable (now protocol) (now arities) (now rules) nr (now ars) × Room (now out) factRoom ⌝ }
-    ensures { λ r. ⌜ Promises₃ (FactsAt (now (protocol .entry)) (now (arities .entry)) (now (rules .entry)) nr (now (file .entry)) x wx y wy) (λ (p : Protocol) (m n : Node). Compared wx (factAt p (x .list) (x .number) m) wy (factAt p (y .list) (y .number) n) r) ⌝ }
+    requires { ⌜ Asks₃ (FactsIn (now p) (now s) (now nodes) x wx y wy) × Room (now out) factRoom ⌝ }
+    ensures { λ r. ⌜ Promises₃ (FactsIn (now (p .entry)) (now (s .entry)) (now (nodes .entry)) x wx y wy) (λ (P : Protocol) (m n : Node). Compared wx (factAt P (x .list) (x .number) m) wy (factAt P (y .list) (y .number) n) r) ⌝ }
 {
-    let a = nodes::node_fact(out, 0, file, protocol, arities, ars, rules, nr, x, wx);
-    let b = nodes::node_fact(out, a.end, file, protocol, arities, ars, rules, nr, y, wy);
+    let a = nodes::node_fact(out, 0, p, s, nodes, x, wx);
+    let b = nodes::node_fact(out, a.end, p, s, nodes, y, wy);
     let same = same_parts(out, a.end, b.end);
     Both {
         symbols: a.symbol == b.symbol,
@@ -60,66 +56,29 @@ fn compare(
 }
 
 // Whether two facts of nodes are the same. Their canonical bytes go into the output.
-pub fn same_fact(
-    out: &mut [u8],
-    file: &[u8],
-    protocol: &[u8],
-    arities: &[u8],
-    ars: &[u8],
-    rules: &[usize],
-    nr: usize,
-    x: FactId,
-    y: FactId,
-) -> bool
-    requires { ⌜ Asks₃ (FactsAt (now protocol) (now arities) (now rules) nr (now file) x Wanted.All y Wanted.All) × ArityTable (now protocol) (now arities) (now rules) nr (now ars) × Room (now out) factRoom ⌝ }
-    ensures { λ r. ⌜ Promises₃ (FactsAt (now (protocol .entry)) (now (arities .entry)) (now (rules .entry)) nr (now (file .entry)) x Wanted.All y Wanted.All) (λ (p : Protocol) (m n : Node). r ≡ sameFact (factAt p (x .list) (x .number) m) (factAt p (y .list) (y .number) n)) ⌝ }
+pub fn same_fact(out: &mut [u8], p: &[u8], s: &[u8], nodes: &[usize], x: FactId, y: FactId) -> bool
+    requires { ⌜ Asks₃ (FactsIn (now p) (now s) (now nodes) x Wanted.All y Wanted.All) × Room (now out) factRoom ⌝ }
+    ensures { λ r. ⌜ Promises₃ (FactsIn (now (p .entry)) (now (s .entry)) (now (nodes .entry)) x Wanted.All y Wanted.All) (λ (P : Protocol) (m n : Node). r ≡ sameFact (factAt P (x .list) (x .number) m) (factAt P (y .list) (y .number) n)) ⌝ }
 {
-    let b = compare(
-        out,
-        file,
-        protocol,
-        arities,
-        ars,
-        rules,
-        nr,
-        x,
-        Wanted::All,
-        y,
-        Wanted::All,
-    );
+    let b = compare(out, p, s, nodes, x, Wanted::All, y, Wanted::All);
     b.symbols & b.bytes
 }
 
 // Whether argument i of a node's fact and argument j of another are the same.
 pub fn same_argument(
     out: &mut [u8],
-    file: &[u8],
-    protocol: &[u8],
-    arities: &[u8],
-    ars: &[u8],
-    rules: &[usize],
-    nr: usize,
+    p: &[u8],
+    s: &[u8],
+    nodes: &[usize],
     x: FactId,
     i: usize,
     y: FactId,
     j: usize,
 ) -> bool
-    requires { ⌜ Asks₃ (FactsAt (now protocol) (now arities) (now rules) nr (now file) x (Wanted.One i) y (Wanted.One j)) × ArityTable (now protocol) (now arities) (now rules) nr (now ars) × Room (now out) factRoom ⌝ }
-    ensures { λ r. ⌜ Promises₃ (FactsAt (now (protocol .entry)) (now (arities .entry)) (now (rules .entry)) nr (now (file .entry)) x (Wanted.One i) y (Wanted.One j)) (λ (p : Protocol) (m n : Node). r ≡ sameTerm (argumentAt p (x .list) (x .number) i m) (argumentAt p (y .list) (y .number) j n)) ⌝ }
+    requires { ⌜ Asks₃ (FactsIn (now p) (now s) (now nodes) x (Wanted.One i) y (Wanted.One j)) × Room (now out) factRoom ⌝ }
+    ensures { λ r. ⌜ Promises₃ (FactsIn (now (p .entry)) (now (s .entry)) (now (nodes .entry)) x (Wanted.One i) y (Wanted.One j)) (λ (P : Protocol) (m n : Node). r ≡ sameTerm (argumentAt P (x .list) (x .number) i m) (argumentAt P (y .list) (y .number) j n)) ⌝ }
 {
-    let b = compare(
-        out,
-        file,
-        protocol,
-        arities,
-        ars,
-        rules,
-        nr,
-        x,
-        Wanted::One(i),
-        y,
-        Wanted::One(j),
-    );
+    let b = compare(out, p, s, nodes, x, Wanted::One(i), y, Wanted::One(j));
     b.bytes
 }
 
@@ -135,31 +94,17 @@ fn put_public(out: &mut [u8], o: usize, name: Public) -> usize
 // Whether argument i of a node's fact is a public name.
 pub fn is_public(
     out: &mut [u8],
-    file: &[u8],
-    protocol: &[u8],
-    arities: &[u8],
-    ars: &[u8],
-    rules: &[usize],
-    nr: usize,
+    p: &[u8],
+    s: &[u8],
+    nodes: &[usize],
     x: FactId,
     i: usize,
     name: Public,
 ) -> bool
-    requires { ⌜ Asks₂ (OneOf (now protocol) (now arities) (now rules) nr (now file) x i) × ArityTable (now protocol) (now arities) (now rules) nr (now ars) × Room (now out) factRoom ⌝ }
-    ensures { λ r. ⌜ Promises₂ (OneOf (now (protocol .entry)) (now (arities .entry)) (now (rules .entry)) nr (now (file .entry)) x i) (λ (p : Protocol) (m : Node). r ≡ sameTerm (argumentAt p (x .list) (x .number) i m) (leaf public (name .0))) ⌝ }
+    requires { ⌜ Asks₂ (OneOf (now p) (now s) (now nodes) x i) × Room (now out) factRoom ⌝ }
+    ensures { λ r. ⌜ Promises₂ (OneOf (now (p .entry)) (now (s .entry)) (now (nodes .entry)) x i) (λ (P : Protocol) (m : Node). r ≡ sameTerm (argumentAt P (x .list) (x .number) i m) (leaf public (name .0))) ⌝ }
 {
-    let a = nodes::node_fact(
-        out,
-        0,
-        file,
-        protocol,
-        arities,
-        ars,
-        rules,
-        nr,
-        x,
-        Wanted::One(i),
-    );
+    let a = nodes::node_fact(out, 0, p, s, nodes, x, Wanted::One(i));
     let e = put_public(out, a.end, name);
     same_parts(out, a.end, e)
 }

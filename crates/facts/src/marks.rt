@@ -4,7 +4,6 @@ ghost use Prim.Native.Nat.{_<_};
 ghost use Rattle.lists.specs.Asks.{Asks₂, Promises₂};
 ghost use Rattle.protocol.specs.Protocol.{Protocol};
 ghost use Rattle.steps.specs.Nodes.{Node};
-ghost use Rattle.steps.specs.Values.Filled.{ArityTable};
 ghost use Rattle.facts.specs.Calls.{Room, WholeFact, factAt};
 ghost use Rattle.facts.specs.Marks.{markLimit, markFrom, markOf};
 use crate::nodes;
@@ -31,30 +30,10 @@ fn mark_bytes(file: &[u8], from: u32) -> u32
 }
 
 // The mark of a node's fact, of its symbol and canonical bytes.
-pub fn fact_mark(
-    out: &mut [u8],
-    file: &[u8],
-    protocol: &[u8],
-    arities: &[u8],
-    ars: &[u8],
-    rules: &[usize],
-    nr: usize,
-    x: FactId,
-) -> u32
-    requires { ⌜ Asks₂ (WholeFact (now protocol) (now arities) (now rules) nr (now file) x) × ArityTable (now protocol) (now arities) (now rules) nr (now ars) × Room (now out) 0 ⌝ }
-    ensures { λ r. ⌜ Promises₂ (WholeFact (now (protocol .entry)) (now (arities .entry)) (now (rules .entry)) nr (now (file .entry)) x) (λ (p : Protocol) (m : Node). r ≡ markOf (factAt p (x .list) (x .number) m)) ⌝ }
+pub fn fact_mark(out: &mut [u8], p: &[u8], s: &[u8], nodes: &[usize], x: FactId) -> u32
+    requires { ⌜ Asks₂ (WholeFact (now p) (now s) (now nodes) x) × Room (now out) 0 ⌝ }
+    ensures { λ r. ⌜ Promises₂ (WholeFact (now (p .entry)) (now (s .entry)) (now (nodes .entry)) x) (λ (P : Protocol) (m : Node). r ≡ markOf (factAt P (x .list) (x .number) m)) ⌝ }
 {
-    let a = nodes::node_fact(
-        out,
-        0,
-        file,
-        protocol,
-        arities,
-        ars,
-        rules,
-        nr,
-        x,
-        Wanted::All,
-    );
+    let a = nodes::node_fact(out, 0, p, s, nodes, x, Wanted::All);
     mark_bytes(&out[..a.end], a.symbol as u32)
 }

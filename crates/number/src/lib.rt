@@ -63,7 +63,7 @@ fn read_groups(file: &[u8], at: usize, left: usize) -> Number
 }
 
 // The number at a place. A fault: the end of the slice, a group past the last, a form that is not the shortest.
-// Most numbers are one group: these are read without the recursion.
+// Most numbers are one or two groups: these are read without the recursion.
 pub fn read_number(file: &[u8], at: usize) -> Number
     ensures { λ r. ⌜ asRead r ≡ readNumber (now (file .entry)) at ⌝ }
 {
@@ -73,6 +73,14 @@ pub fn read_number(file: &[u8], at: usize) -> Number
     let b = file[at];
     if b < TOP_BIT {
         return Number::Value(b as u32, at + 1);
+    }
+    let next = at + 1;
+    if file.len() <= next {
+        return Number::Fault;
+    }
+    let c = file[next];
+    if c < TOP_BIT {
+        return longer(b, c as u32, next + 1);
     }
     read_groups(file, at, MOST_GROUPS)
 }

@@ -58,11 +58,3 @@ module _ (p : List ℕ) (P : Protocol) (f : Body p P) (n : ℕ) (small : n < rul
 -- what was found is the rule of the number
 pub found-here : (p : List ℕ) (P : Protocol) (n place : ℕ) → RuleFound p P n place → (u : Rule) → ruleOf P n ≡ some u → RuleAt p u place
 found-here p P n place f u is = subst (λ (v : Rule). RuleAt p v place) (Option·some-injective (f .its) u (sym (f .is) ∙ is)) (f .here)
-
--- the code's two cases
-module _ (p : List ℕ) (P : Protocol) (n : ℕ) {r : Found} (u : Rule) (is : ruleOf P n ≡ some u) where
-  pub at-here : (place : ℕ) → r ≡ fd.At place → Finds p P n r → RuleAt p u place
-  at-here place e f = found-here p P n place (subst (Finds p P n) e f) u is
-
-  pub no-rule : {C : Type 0} → r ≡ fd.Nothing → Finds p P n r → C
-  no-rule e f = absurd (Option·none-ne-some u (sym (subst (Finds p P n) e f) ∙ is))

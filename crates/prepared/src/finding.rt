@@ -1,10 +1,11 @@
 // The rule of a number in a prepared protocol.
 ghost use mathlib.Core.Path.{_≡_};
 ghost use Prim.Native.Nat.{_≤_, _<_};
-ghost use lib.ListN.{length};
+ghost use lib.ListN.{length, getD};
 ghost use Rattle.lists.specs.Asks.{Asks, Promises};
 ghost use Rattle.octets.specs.Limits.{longest};
 ghost use Rattle.number.specs.Reading.{below};
+ghost use Rattle.protocol.specs.Figures.{symbolCount};
 ghost use Rattle.protocol.specs.Protocol.{Protocol, facts};
 ghost use Rattle.protocol.specs.Places.{placeOf, valueOf, listPlace, factPlace, termPlace};
 ghost use Rattle.prepared.specs.Sections.{ruleCount, bodyLength, placeBase};
@@ -95,6 +96,14 @@ pub fn symbol_of(p: &[u8], fact: usize) -> usize
     ensures { λ r. ⌜ r ≡ valueOf (below (now (p .entry)) (length (aritiesOf (now (p .entry)))) fact) ⌝ }
 {
     protocol::places::symbol_of(p, &p[sections::ARITIES..sections::LINEARS], fact)
+}
+
+// The arity of a fact symbol.
+pub fn arity_of(p: &[u8], symbol: usize) -> usize
+    requires { ⌜ (symbol < symbolCount) × (bodyLength ≤ length (now p)) ⌝ }
+    ensures { λ r. ⌜ r ≡ getD (aritiesOf (now (p .entry))) symbol 0 ⌝ }
+{
+    wide(p[sections::ARITIES + symbol])
 }
 
 // The place of term j of the fact at a place.

@@ -12,7 +12,7 @@ pub const PLACE_BYTES: usize = 2;
 pub const PLACE_BASE: usize = 256;
 
 // "Protocol (4,096 bytes)"
-const FILE_LIMIT: usize = 4096;
+pub const FILE_LIMIT: usize = 4096;
 
 // The arity of each tag; behind them the arity of each fact symbol, 1 where it is linear, the place of each rule number, the bytes of the
 // built-in rules and apply-rules, the file's bytes.

@@ -1,20 +1,20 @@
 -- What `behind` and `power_at` ask and promise.
-use Prim.Native.Nat.{ℕ, zero, suc, _+_, _-_, _≤_}
-use mathlib.Core.Path.{_≡_, refl, sym, ap, subst, _∙_}
+use Prim.Native.Nat.{ℕ, zero, suc, _+_, _-_, _≤_, _<_}
+use mathlib.Core.Path.{_≡_, refl, sym, ap, _∙_}
 use mathlib.Core.List.{List, _∷_, _++_}
 use native.Mathlib.Omega.{arith}
-use lib.ListN.{length, take, drop, length-append, length-drop}
+use lib.ListN.{length, take, length-append}
 use Rattle.term.specs.Sizes.{termRoom}
 use Rattle.lists.specs.Asks.{Asks, Asks₂, Promises, Promises₂}
 use Rattle.octets.specs.Head.{Bytes, stands-part}
 use Rattle.octets.specs.Splice.{splice}
-use Rattle.octets.specs.Splice.Prefix.{Wrote, wrote-then}
-use Rattle.term.specs.Term.{Term, Terms, encode, encodes}
+use Rattle.octets.specs.Splice.Prefix.{Wrote, widen, wrote-then}
+use Rattle.term.specs.Term.{Term, Terms, encode}
 use Rattle.term.specs.Reader.{term}
 use Rattle.term.specs.Walk.{bytesOf}
 use Rattle.message.specs.Gather.{multiplied, powered}
 use Rattle.factors.specs.Laid.Laws.{one-after, one-within, one-bytes}
-use Rattle.product.specs.Writing.{wrote-same, copied, stands-before, front, front-long}
+use Rattle.product.specs.Writing.{wrote-same, copied, stands-before, below-kept, wrote-over, bytesIn, part-same, written-part}
 use Rattle.product.specs.Chain.{written}
 use Rattle.product.specs.Chain.Laws.{encode-two, written-none, written-some}
 use Rattle.product.specs.Inner.{Prod, Power, Behind}
@@ -28,8 +28,8 @@ module _ (arities src : List ℕ) (at : ℕ) (bytes : Bytes src) (key : List ℕ
   behind-within J = rw (behind-is (J .0) (J .1) (J .2)) (one-within (J .2 .one))
 
 -- ── power_at ──
-module _ (arities out : List ℕ) (o b z k : ℕ) where
-  module _ (t : Term) (ts : Terms) (P : Power arities out o b z k t ts) where
+module _ (arities out : List ℕ) (o b z k e : ℕ) where
+  module _ (t : Term) (ts : Terms) (P : Power arities out o b z k e t ts) where
     -- what is written is the power's bytes without the tag and the base
     long : (length (written ts) ≡ 0 → ⊥) → length (encode (powered t ts)) ≡ 1 + length (encode t) + length (written ts)
     long h =
@@ -45,86 +45,85 @@ module _ (arities out : List ℕ) (o b z k : ℕ) where
         go zero e = omega arith
         go (suc n) e = omega (arith, long (λ h. absurd (omega arith)), P .fits, P .small)
 
-    prod : Prod arities out z k termRoom ts
+    prod : Prod arities out z k e ts
     prod = record {
       laid = P .factors;
+      ends = P .ends;
       many = P .many;
-      inside = one-within (P .base);
-      short = P .short;
+      inside = omega (arith, P .room);
+      short = omega (arith, P .room, P .short);
       few = P .few;
-      fits = fits;
+      fits = omega (arith, fits, P .room);
     }
 
-    base-bytes : take (z - b) (drop b out) ≡ encode t
-    base-bytes = stands-part (P .base .there)
+    -- the base stands behind the tag and before the factors
+    base-order : (o < b) × (b < z) × (z ≤ e) × (e ≤ length out)
+    base-order = (P .before, one-after (P .base), omega (arith, P .ends), omega (arith, P .room))
 
     base-long : z - b ≡ length (encode t)
     base-long = omega (arith, P .base .there .ends)
 
-  pub power-asks : Asks₂ (Power arities out o b z k) → Asks (Prod arities out z k termRoom)
+  pub power-asks : Asks₂ (Power arities out o b z k e) → Asks (Prod arities out z k e)
   power-asks J = (_, prod (J .0) (J .1) (J .2))
 
-  -- the base is moved to o, or behind the tag
-  pub move-asks : (at : ℕ) → o ≤ at → at ≤ o + 1 → Asks₂ (Power arities out o b z k) → (b + (z - b) ≤ length out) × (at + (z - b) ≤ length out)
-  move-asks at h g J =
-      let P = J .2 in
-      (omega (arith, one-after (P .base), one-within (P .base)), omega (arith, P .before, one-after (P .base), one-within (P .base)))
+  pub power-order : Asks₂ (Power arities out o b z k e) → (o < b) × (b < z) × (z ≤ e) × (e ≤ length out)
+  power-order J = base-order (J .0) (J .1) (J .2)
 
-  module _ (tmp : List ℕ) (lt : length tmp ≡ termRoom) (tmp′ : List ℕ) (n : ℕ) (D : Promises (Prod arities out z k (length tmp))
-      (λ (ts : Terms). Wrote (length tmp) tmp 0 tmp′ n (written ts))) where
-    wrote : (t : Term) (ts : Terms) (P : Power arities out o b z k t ts) → Wrote (length tmp) tmp 0 tmp′ n (written ts)
-    wrote t ts P = D ts (subst (λ (j : ℕ). Prod arities out z k j ts) (sym lt) (prod t ts P))
+  module _ (out₁ : List ℕ) (n : ℕ) (D : Promises (Prod arities out z k e) (λ (ts : Terms). Wrote n out e out₁ n (written ts)))
+      (el : length out₁ ≡ length out) where
+    wrote : (t : Term) (ts : Terms) → Power arities out o b z k e t ts → Wrote n out e out₁ n (written ts)
+    wrote t ts P = D ts (prod t ts P)
 
+    pub power-end : Asks₂ (Power arities out o b z k e) → (e ≤ n) × (n ≤ length out₁)
+    power-end J = let w = wrote (J .0) (J .1) (J .2) in (omega (arith, w .ends), omega (arith, w .ends, prod (J .0) (J .1) (J .2) .fits))
+
+    -- what lies between e and e + termRoom is scratch
+    over :
+        (t : Term) (ts : Terms) (P : Power arities out o b z k e t ts) (at : ℕ) → at ≤ e → (out₂ : List ℕ) (r : ℕ) (q : List ℕ)
+        → Wrote (e + termRoom) out₁ at out₂ r q → Wrote (e + termRoom) out at out₂ r q
+    over t ts P at l out₂ r q g =
+        wrote-over l (base-order t ts P .3) (widen (e + termRoom) (omega (arith, wrote t ts P .ends, fits t ts P)) (wrote t ts P)) g
+
+    -- the base is moved to o, or behind the tag
     moved :
-        (w at : ℕ) → o ≤ at → at ≤ o + 1 → (t : Term) (ts : Terms) (P : Power arities out o b z k t ts) → at + (z - b) ≤ w
-        → (out₁ : List ℕ) → out₁ ≡ splice out at (take (z - b) (drop b out)) → Wrote w out at out₁ (at + (z - b)) (encode t)
-    moved w at h g t ts P l out₁ e =
+        (at : ℕ) → o ≤ at → at ≤ o + 1 → (t : Term) (ts : Terms) → Power arities out o b z k e t ts → (out₂ : List ℕ)
+        → out₂ ≡ splice out₁ at (bytesIn out₁ b z) → Wrote (at + (z - b)) out₁ at out₂ (at + (z - b)) (encode t)
+    moved at h g t ts P out₂ q =
         let j = base-long t ts P in
-        copied w out out₁ (encode t) at (at + (z - b)) (omega (arith, move-asks at h g (t, ts, P) .1)) (omega arith) (omega arith)
-        (e ∙ ap (splice out at) (base-bytes t ts P))
+        let B = base-order t ts P in
+        let s : bytesIn out₁ b z ≡ encode t =
+        part-same out out₁ e b z (below-kept (B .3) (wrote t ts P)) (omega (arith, B .1)) (B .2) (omega (arith, B .2, B .3)) (omega (arith, B .2, B .3))
+        ∙ stands-part (P .base .there) in
+        copied (at + (z - b)) out₁ out₂ (encode t) at (at + (z - b)) (omega (arith, B .0, B .1, B .2, B .3)) (omega arith) (omega arith)
+        (q ∙ ap (splice out₁ at) s)
 
-    pub powered-none : n ≡ 0 → (out₁ : List ℕ) → out₁ ≡ splice out o (take (z - b) (drop b out)) → Promises₂ (Power arities out o b z k)
-        (λ (t : Term) (ts : Terms). Wrote (z + length (encodes ts)) out o out₁ (o + (z - b)) (encode (powered t ts)))
-    powered-none h out₁ e t ts P =
+    pub powered-none : n ≡ e → (out₂ : List ℕ) → out₂ ≡ splice out₁ o (bytesIn out₁ b z) → Promises₂ (Power arities out o b z k e)
+        (λ (t : Term) (ts : Terms). Wrote (e + termRoom) out o out₂ (o + (z - b)) (encode (powered t ts)))
+    powered-none h out₂ q t ts P =
+        let B = base-order t ts P in
         wrote-same (sym (ap encode (written-none ts (omega (arith, wrote t ts P .ends)) .power t)))
-        (moved (z + length (encodes ts)) o (omega arith) (omega arith) t ts P (omega (arith, P .before, one-after (P .base))) out₁ e)
+        (over t ts P o (omega (arith, B .0, B .1, B .2)) out₂ _ _
+        (widen (e + termRoom) (omega (arith, B .0, B .1, B .2)) (moved o (omega arith) (omega arith) t ts P out₂ q)))
 
-    module _ (h : n ≡ 0 → ⊥) (out₁ : List ℕ) (e : out₁ ≡ splice out (o + 1) (take (z - b) (drop b out))) (el : length out₁ ≡ length out) where
-      some : (t : Term) (ts : Terms) (P : Power arities out o b z k t ts) → length (written ts) ≡ 0 → ⊥
-      some t ts P x = h (omega (arith, wrote t ts P .ends))
-
-      written-long : (t : Term) (ts : Terms) (P : Power arities out o b z k t ts) → length (take n tmp′) ≡ length (written ts)
-      written-long t ts P = ap length (front (wrote t ts P))
-
-      ends : (t : Term) (ts : Terms) (P : Power arities out o b z k t ts) → o + 1 + (z - b) + length (take n tmp′) ≤ z + length (encodes ts)
-      ends t ts P = omega (arith, written-long t ts P, long t ts P (some t ts P), P .fits, base-long t ts P)
-
-      within : (t : Term) (ts : Terms) (P : Power arities out o b z k t ts) → z + length (encodes ts) ≤ length out
-      within t ts P =
-          let l = ap length (P .factors .there .there) in
-          omega (arith, one-within (P .base), simp (length-append, length-drop) at l)
-
-      pub power-fits : Asks₂ (Power arities out o b z k) → n ≤ length tmp
-      power-fits J = omega (arith, wrote (J .0) (J .1) (J .2) .ends, fits (J .0) (J .1) (J .2))
-
-      pub power-part : Asks₂ (Power arities out o b z k) → n ≡ length (take n tmp′)
-      power-part J = front-long (wrote (J .0) (J .1) (J .2))
-
-      pub power-copies : Asks₂ (Power arities out o b z k) → o + 1 + (z - b) + length (take n tmp′) ≤ length out₁
-      power-copies J = omega (arith, ends (J .0) (J .1) (J .2), within (J .0) (J .1) (J .2))
-
+    module _ (h : n ≡ e → ⊥) (out₂ : List ℕ) (q : out₂ ≡ splice out₁ (o + 1) (bytesIn out₁ b z)) (el₂ : length out₂ ≡ length out₁) where
       pub powered-some :
-          (out₂ : List ℕ) (r : ℕ) → r ≡ o + 1 + (z - b) + length (take n tmp′) → out₂ ≡ splice out₁ (o + 1 + (z - b)) (take n tmp′)
-          → Promises₂ (Power arities out o b z k) (λ (t : Term) (ts : Terms). Wrote (z + length (encodes ts)) out o out₂ r (encode (powered t ts)))
-      powered-some out₂ r a c t ts P =
-          let S = written-some ts (some t ts P) in
-          let w = z + length (encodes ts) in
-          let f = moved w (o + 1) (omega arith) (omega arith) t ts P (omega (arith, ends t ts P)) out₁ e in
-          let g = copied w out₁ out₂ (take n tmp′) (o + 1 + (z - b)) r (power-copies (t, ts, P)) (ends t ts P) a c in
-          let q : 10 ∷ (encode t ++ take n tmp′) ≡ encode (powered t ts) =
-          ap (λ (l : List ℕ). 10 ∷ (encode t ++ l)) (front (wrote t ts P) ∙ sym (S .bytes))
+          (out₃ : List ℕ) (r : ℕ) → r ≡ o + 1 + (z - b) + (n - e) → out₃ ≡ splice out₂ (o + 1 + (z - b)) (bytesIn out₂ e n)
+          → Promises₂ (Power arities out o b z k e) (λ (t : Term) (ts : Terms). Wrote (e + termRoom) out o out₃ r (encode (powered t ts)))
+      powered-some out₃ r a c t ts P =
+          let B = base-order t ts P in
+          let w = wrote t ts P in
+          let S = written-some ts (λ x. h (omega (arith, w .ends))) in
+          let f = moved (o + 1) (omega arith) (omega arith) t ts P out₂ q in
+          -- the product behind is as it was written
+          let s : bytesIn out₂ e n ≡ written ts =
+          ap (take (n - e)) (widen e (omega (arith, B .0, B .1, B .2)) f .kept) ∙ written-part (B .3) w in
+          let g = copied (e + termRoom) out₂ out₃ (written ts) (o + 1 + (z - b)) r (omega (arith, B .0, B .1, B .2, prod t ts P .fits))
+          (omega (arith, B .0, B .1, B .2, fits t ts P)) (omega (arith, w .ends)) (c ∙ ap (splice out₂ (o + 1 + (z - b))) s) in
+          let u : 10 ∷ (encode t ++ written ts) ≡ encode (powered t ts) =
+          ap (λ (l : List ℕ). 10 ∷ (encode t ++ l)) (sym (S .bytes))
           ∙ sym (encode-two 10 (omega arith) t (multiplied ts))
           ∙ ap encode (sym (S .power t)) in
-          wrote-same q
-          (stands-before w out out₂ o r 10 (encode t ++ take n tmp′) (P .tag) (omega (arith, P .before, one-after (P .base), one-within (P .base)))
-          (wrote-then f g))
+          wrote-same u
+          (stands-before (e + termRoom) out out₃ o r 10 (encode t ++ written ts) (P .tag) (omega (arith, B .0, B .1, B .2, B .3))
+          (over t ts P (o + 1) (omega (arith, B .0, B .1, B .2)) out₃ r _
+          (wrote-then (widen (e + termRoom) (omega (arith, B .0, B .1, B .2)) f) g)))

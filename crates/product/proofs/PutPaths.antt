@@ -6,32 +6,61 @@ use mathlib.Core.List.{List, _++_}
 use native.Mathlib.Omega.{arith}
 use lib.ListN.{length, set, length-append, length-set}
 use Rattle.octets.specs.Splice.{splice}
-use Rattle.octets.specs.Splice.Prefix.{Wrote, wrote-nothing, wrote-then}
-use Rattle.product.specs.Writing.{wrote-same, copied, tagged}
+use Rattle.octets.specs.Splice.Prefix.{Wrote, widen, wrote-nothing, wrote-one, wrote-then}
+use Rattle.product.specs.Writing.{wrote-same, copied, tagged, below-kept, bytesIn, part-long, part-same}
 use Rattle.product.specs.Chain.{repeated, copies}
 use Rattle.product.specs.Chain.Laws.{repeated-more, repeated-room}
 
--- ── many ──
-module _ (x : List ℕ) (o m : ℕ) (out₀ : List ℕ) (pre : o + length (repeated m x) ≤ length out₀) where
-  pub many-first : Wrote (length out₀) out₀ o out₀ o (repeated 0 x)
-  unfolding repeated
-  many-first = wrote-nothing (length out₀) o out₀
+-- the factor's bytes as they are while more is written behind them
+kept-part :
+    (out out₀ : List ℕ) (o p a e : ℕ) (q : List ℕ) → (a ≤ e) × (e ≤ o) → o ≤ length out₀ → length out ≡ length out₀ → Wrote p out₀ o out p q
+    → bytesIn out a e ≡ bytesIn out₀ a e
+kept-part out out₀ o p a e q h l k w =
+    part-same out₀ out o a e (below-kept l w) (h .0) (h .1) (omega (arith, h .1)) (omega (arith, h .1))
 
-  module _ (out : List ℕ) (p i : ℕ) (I : (length out ≡ length out₀) × (i ≤ m) × Wrote (length out₀) out₀ o out p (repeated i x)) (h : i < m) where
-    pub many-room : p + 1 + length x ≤ length out
-    many-room = omega (arith, pre, I .0, I .2 .ends, repeated-room i m x h)
+-- ── many ──
+module _ (out₀ : List ℕ) (o a e m : ℕ) (pre : (a ≤ e) × (e ≤ o) × (o + length (repeated m (bytesIn out₀ a e)) ≤ length out₀)) where
+  abbrev x : List ℕ
+  x = bytesIn out₀ a e
+
+  long : length x ≡ e - a
+  long = part-long out₀ a e (omega (arith, pre .1, pre .2))
+
+  pub many-first : Wrote o out₀ o out₀ o (repeated 0 x)
+  unfolding repeated
+  many-first = wrote-nothing o o out₀
+
+  pub many-place : o ≤ length out₀
+  many-place = omega (arith, pre .2)
+
+  module _ (out : List ℕ) (p i : ℕ) (I : (length out ≡ length out₀) × (i ≤ m) × Wrote p out₀ o out p (repeated i x)) (h : i < m) where
+    pub many-room : p + 1 + (e - a) ≤ length out
+    many-room = omega (arith, pre .2, I .0, I .2 .ends, repeated-room i m x h, long)
+
+    pub many-behind : o ≤ p
+    many-behind = omega (arith, I .2 .ends)
+
+    -- the tag is written behind the factor
+    tag-kept : bytesIn (set out p 12) a e ≡ x
+    tag-kept =
+        let l = length-set out p 12 in
+        part-same out (set out p 12) p a e (below-kept (omega (arith, many-room)) (wrote-one (p + 1) p 12 out (omega arith) (omega (arith, many-room))))
+        (pre .0)
+        (omega (arith, pre .1, many-behind)) (omega (arith, pre .1, many-behind, many-room)) (omega (arith, pre .1, many-behind, many-room, l))
+        ∙ kept-part out out₀ o p a e (repeated i x) (pre .0, pre .1) many-place (I .0) (I .2)
 
     pub many-more :
-        (out′ : List ℕ) (r : ℕ) → r ≡ p + 1 + length x → out′ ≡ splice (set out p 12) (p + 1) x
-        → Wrote (length out₀) out₀ o out′ r (repeated (i + 1) x)
-    many-more out′ r n e =
+        (out′ : List ℕ) (r : ℕ) → r ≡ p + 1 + (e - a) → out′ ≡ splice (set out p 12) (p + 1) (bytesIn (set out p 12) a e)
+        → Wrote r out₀ o out′ r (repeated (i + 1) x)
+    many-more out′ r n q =
         wrote-same (sym (repeated-more i x))
-        (wrote-then (I .2)
-        (tagged (length out₀) out out′ p r 12 x (omega (arith, many-room, I .0)) (omega (arith, many-room))
-        (copied (length out₀) (set out p 12) out′ x (p + 1) r (omega (arith, many-room, length-set out p 12)) (omega (arith, many-room, I .0)) n e)))
+        (wrote-then (widen r (omega arith) (I .2))
+        (tagged r out out′ p r 12 x (omega arith) (omega (arith, many-room))
+        (copied r (set out p 12) out′ x (p + 1) r (omega (arith, many-room, length-set out p 12, long)) (omega (arith, long)) (omega (arith, long))
+        (q ∙ ap (splice (set out p 12) (p + 1)) tag-kept))))
 
 -- ── one factor, the last without a tag unless more comes ──
-module _ (x : List ℕ) (n : ℕ) where
+module _ (n : ℕ) (x : List ℕ) where
   copies-more : (more : Bool) → more ≡ true → copies n x more ≡ repeated n x
   unfolding copies
   copies-more more h = rw h
@@ -40,28 +69,36 @@ module _ (x : List ℕ) (n : ℕ) where
   unfolding copies
   copies-last more h = rw h
 
-  module _ (o : ℕ) (more : Bool) (out : List ℕ) (pre : (0 < n) × (o + length (copies n x more) ≤ length out)) where
-    module _ (h : more ≡ true) where
-      pub all-asks : o + length (repeated n x) ≤ length out
-      all-asks = omega (arith, pre .1, ap length (copies-more more h))
+module _ (out : List ℕ) (o a e n : ℕ) (more : Bool) (pre : (0 < n) × (a ≤ e) × (e ≤ o) × (o + length (copies n (bytesIn out a e) more) ≤ length out)) where
+  module _ (h : more ≡ true) where
+    pub all-asks : (a ≤ e) × (e ≤ o) × (o + length (repeated n (bytesIn out a e)) ≤ length out)
+    all-asks = (pre .1, pre .2, omega (arith, pre .3, ap length (copies-more n (bytesIn out a e) more h)))
 
-      pub all-wrote :
-          (out′ : List ℕ) (r : ℕ) → Wrote (length out) out o out′ r (repeated n x) → Wrote (length out) out o out′ r (copies n x more)
-      all-wrote out′ r w = wrote-same (sym (copies-more more h)) w
+    pub all-wrote :
+        (out′ : List ℕ) (r : ℕ) → Wrote r out o out′ r (repeated n (bytesIn out a e)) → Wrote r out o out′ r (copies n (bytesIn out a e) more)
+    all-wrote out′ r w = wrote-same (sym (copies-more n (bytesIn out a e) more h)) w
 
-    module _ (h : more ≡ false) where
-      long : length (copies n x more) ≡ length (repeated (n - 1) x) + length x
-      long = ap length (copies-last more h) ∙ length-append (repeated (n - 1) x) x
+  module _ (h : more ≡ false) where
+    abbrev y : List ℕ
+    y = bytesIn out a e
 
-      pub but-last-asks : o + length (repeated (n - 1) x) ≤ length out
-      but-last-asks = omega (arith, long, pre .1)
+    y-long : length y ≡ e - a
+    y-long = part-long out a e (omega (arith, pre .2, pre .3))
 
-      module _ (out₁ : List ℕ) (p : ℕ) (w : Wrote (length out) out o out₁ p (repeated (n - 1) x)) (k : length out₁ ≡ length out) where
-        pub last-asks : p + length x ≤ length out₁
-        last-asks = omega (arith, long, pre .1, w .ends)
+    all-long : length (copies n y more) ≡ length (repeated (n - 1) y) + length y
+    all-long = ap length (copies-last n y more h) ∙ length-append (repeated (n - 1) y) y
 
-        pub last-wrote :
-            (out₂ : List ℕ) (r : ℕ) → r ≡ p + length x → out₂ ≡ splice out₁ p x → Wrote (length out) out o out₂ r (copies n x more)
-        last-wrote out₂ r v e =
-            wrote-same (sym (copies-last more h))
-            (wrote-then w (copied (length out) out₁ out₂ x p r last-asks (omega (arith, last-asks)) v e))
+    pub but-last-asks : (a ≤ e) × (e ≤ o) × (o + length (repeated (n - 1) y) ≤ length out)
+    but-last-asks = (pre .1, pre .2, omega (arith, all-long, pre .3))
+
+    module _ (out₁ : List ℕ) (p : ℕ) (w : Wrote p out o out₁ p (repeated (n - 1) y)) (k : length out₁ ≡ length out) where
+      pub last-asks : (a + (e - a) ≤ length out₁) × (p + (e - a) ≤ length out₁)
+      last-asks = (omega (arith, pre .1, pre .2, pre .3), omega (arith, all-long, pre .3, w .ends, y-long))
+
+      pub last-wrote :
+          (out₂ : List ℕ) (r : ℕ) → r ≡ p + (e - a) → out₂ ≡ splice out₁ p (bytesIn out₁ a e) → Wrote r out o out₂ r (copies n y more)
+      last-wrote out₂ r v q =
+          let s = kept-part out₁ out o p a e (repeated (n - 1) y) (pre .1, pre .2) (omega (arith, pre .3)) k w in
+          wrote-same (sym (copies-last n y more h))
+          (wrote-then (widen r (omega arith) w)
+          (copied r out₁ out₂ y p r (omega (arith, last-asks .1, y-long)) (omega (arith, y-long)) (omega (arith, y-long)) (q ∙ ap (splice out₁ p) s)))

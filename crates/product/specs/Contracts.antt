@@ -1,5 +1,5 @@
 -- What `multiply` and `exponent` are asked.
-use Prim.Native.Nat.{ℕ, _≤_}
+use Prim.Native.Nat.{ℕ, _+_, _≤_}
 use mathlib.Core.List.{List}
 use lib.ListN.{length}
 use Rattle.octets.specs.Limits.{longest}
@@ -10,7 +10,7 @@ use Rattle.term.specs.Arity.{arity}
 use Rattle.message.specs.Functions.{exp}
 use Rattle.message.specs.Rules.{FitArities}
 
--- the term t stands in out from o up to e; the built-in functions have their arities
+-- the term t stands in out from o up to e, and behind it there is room for a product; the built-in functions have their arities
 pub record Whole (arities out : List ℕ) (o e : ℕ) (t : Term) : Type 0 where
   pub group : FitArities (arity arities)
   pub formed : Formed (arity arities) t
@@ -18,6 +18,7 @@ pub record Whole (arities out : List ℕ) (o e : ℕ) (t : Term) : Type 0 where
   pub stands : Stands out o (encode t) e
   pub few : symbols t ≤ mostSymbols
   pub small : length (encode t) ≤ termRoom
+  pub room : e + termRoom ≤ length out
   pub short : length out ≤ longest
 
 -- the same of exp(x, y)

@@ -3,7 +3,7 @@ use Prim.Native.Nat.{ℕ, _+_, _≤_, _<_}
 use mathlib.Core.Path.{_≡_}
 use mathlib.Core.Bool.{Bool, true, false}
 use mathlib.Core.List.{List}
-use lib.ListN.{length, getD}
+use lib.ListN.{length, take, getD}
 use lib.IntN.{ℤ}
 use Rattle.octets.specs.Limits.{longest}
 use Rattle.term.specs.Sizes.{mostSymbols, termRoom}
@@ -19,43 +19,50 @@ use Rattle.product.specs.Chain.{row, sides, written}
 use Rattle.product.specs.Side.{side}
 
 -- ── writing from a table ──
--- the table of l: its arrays have room, and its factors are few
-pub record Ready (src S E : List ℕ) (P : List ℤ) (n : ℕ) (l : Exps) : Type 0 where
-  pub table : Table src S E P n l
-  pub room : Room S E P
+-- the factors l stand in the front of out, none behind o; their table has room, and they are few
+pub record Ready (out Q : List ℕ) (P : List ℤ) (n o : ℕ) (l : Exps) : Type 0 where
+  pub src : List ℕ
+  pub front : take (length src) out ≡ src
+  pub behind : length src ≤ o
+  pub table : Table src Q P n l
+  pub room : Room Q P
   pub few : mass l ≤ mostSymbols
 
--- and one side of it fits from o on into w bytes
-pub record Lay (src S E : List ℕ) (P : List ℤ) (n : ℕ) (m : Bool) (o w : ℕ) (l : Exps) : Type 0 where
-  pub ready : Ready src S E P n l
-  pub fits : o + length (row (side m l)) ≤ w
+-- and one side of them fits from o on, behind so many tags
+pub record Lay (out Q : List ℕ) (P : List ℤ) (n : ℕ) (m : Bool) (o tags : ℕ) (l : Exps) : Type 0 where
+  pub ready : Ready out Q P n o l
+  pub fits : o + tags + length (row (side m l)) ≤ length out
 
--- and both sides of it fit
-pub record Both (src S E : List ℕ) (P : List ℤ) (n w : ℕ) (l : Exps) : Type 0 where
-  pub ready : Ready src S E P n l
-  pub fits : length (sides (side false l) (side true l)) ≤ w
+-- and both sides of them fit
+pub record Both (out Q : List ℕ) (P : List ℤ) (n o : ℕ) (l : Exps) : Type 0 where
+  pub ready : Ready out Q P n o l
+  pub fits : o + length (sides (side false l) (side true l)) ≤ length out
 
--- ── the product of k terms at a place ──
-pub record Prod (arities src : List ℕ) (at k w : ℕ) (ts : Terms) : Type 0 where
-  pub laid : Laid arities src at ts
+-- ── the product of the k terms from a place up to e ──
+pub record Prod (arities out : List ℕ) (at k e : ℕ) (ts : Terms) : Type 0 where
+  pub laid : Laid arities out at ts
+  pub ends : e ≡ at + length (encodes ts)
   pub many : count ts ≡ k
-  pub inside : at ≤ length src
-  pub short : length src ≤ longest
+  pub inside : e ≤ length out
+  pub short : e < longest
   pub few : symbolss ts ≤ mostSymbols
-  pub fits : length (written ts) ≤ w
+  pub fits : e + length (written ts) ≤ length out
 
 -- ── a power in place ──
--- the tag of exp stands at o, the base t from b up to z, and behind it the k terms ts that are the factors of the exponent
-pub record Power (arities out : List ℕ) (o b z k : ℕ) (t : Term) (ts : Terms) : Type 0 where
+-- the tag of exp stands at o, the base t from b up to z, and from there up to e the k terms ts that are the factors of the exponent; behind
+-- them there is room for their product
+pub record Power (arities out : List ℕ) (o b z k e : ℕ) (t : Term) (ts : Terms) : Type 0 where
   pub tag : getD out o 0 ≡ expTag
   pub before : o < b
   pub base : OneAt arities out b z t
   pub factors : Laid arities out z ts
+  pub ends : e ≡ z + length (encodes ts)
   pub many : count ts ≡ k
   pub few : symbolss ts ≤ mostSymbols
+  pub room : e + termRoom ≤ length out
   pub short : length out ≤ longest
-  pub fits : o + length (encode (powered t ts)) ≤ z + length (encodes ts)
-  pub small : z + length (encodes ts) ≤ o + termRoom
+  pub fits : o + length (encode (powered t ts)) ≤ e
+  pub small : e ≤ o + termRoom
 
 -- ── the place behind a term ──
 pub record Behind (arities src : List ℕ) (at e : ℕ) (t : Term) : Type 0 where

@@ -7,12 +7,14 @@ ghost use mathlib.Core.List.{_∷_};
 ghost use mathlib.Core.Bool.{true, false};
 ghost use Rattle.message.specs.Canon.{asBinary};
 ghost use Rattle.message.specs.Gather.{multiplied, raised, powered};
-ghost use Rattle.term.specs.Term.{Term, Terms, encode, encodes, nil, _&_};
+ghost use Rattle.term.specs.Term.{Term, Terms, encode, nil, _&_};
 ghost use Rattle.message.specs.Product.{Exps};
-ghost use Rattle.lists.specs.Asks.{Asks, Asks₂, Promises, Promises₂, Asks₃, Promises₃};
+ghost use Rattle.lists.specs.Asks.{Asks, Asks₂, Promises, Promises₂};
 ghost use Rattle.octets.specs.Splice.Prefix.{Wrote};
+ghost use Rattle.term.specs.Sizes.{termRoom};
 ghost use Rattle.term.specs.Tags.{expTag};
 ghost use Rattle.term.specs.Reader.{symbolAt};
+ghost use Rattle.product.specs.Writing.{bytesIn};
 ghost use Rattle.product.specs.Chain.{repeated, copies, row, sides, written};
 ghost use Rattle.product.specs.Side.{signedLimit, rise, Next, Small, side};
 ghost use Rattle.product.specs.Base.{baseOf};
@@ -73,155 +75,144 @@ fn next_row(powers: &[i32], i: usize, n: usize, minus: bool) -> usize
     j
 }
 
-// Writes a factor m times, each behind the tag of mul.
-fn put_many(out: &mut [u8], o: usize, x: &[u8], m: usize) -> usize
-    requires { ⌜ o + length (repeated m (now x)) ≤ length (now out) ⌝ }
-    ensures { λ r. ⌜ Wrote (length (now (out .entry))) (now (out .entry)) o (now (out .exit)) r (repeated m (now (x .entry))) ⌝ }
+// Writes the bytes from a up to e m times behind them, each behind the tag of mul.
+fn put_many(out: &mut [u8], o: usize, a: usize, e: usize, m: usize) -> usize
+    requires { ⌜ (a ≤ e) × (e ≤ o) × (o + length (repeated m (bytesIn (now out) a e)) ≤ length (now out)) ⌝ }
+    ensures { λ r. ⌜ Wrote r (now (out .entry)) o (now (out .exit)) r (repeated m (bytesIn (now (out .entry)) a e)) ⌝ }
 {
+    let len = e - a;
     let mut p = o;
     let mut i = 0;
     while i < m {
         out[p] = MUL;
-        p = octets::copy_into(out, p + 1, x);
+        octets::copy_within(out, a, p + 1, len);
+        p = p + 1 + len;
         i += 1;
     }
     p
 }
 
 // Writes a factor n times, the last without a tag unless more comes.
-fn put_factor(out: &mut [u8], o: usize, x: &[u8], n: usize, more: bool) -> usize
-    requires { ⌜ (0 < n) × (o + length (copies n (now x) more) ≤ length (now out)) ⌝ }
-    ensures { λ r. ⌜ Wrote (length (now (out .entry))) (now (out .entry)) o (now (out .exit)) r (copies n (now (x .entry)) more) ⌝ }
+fn put_factor(out: &mut [u8], o: usize, a: usize, e: usize, n: usize, more: bool) -> usize
+    requires { ⌜ (0 < n) × (a ≤ e) × (e ≤ o) × (o + length (copies n (bytesIn (now out) a e) more) ≤ length (now out)) ⌝ }
+    ensures { λ r. ⌜ Wrote r (now (out .entry)) o (now (out .exit)) r (copies n (bytesIn (now (out .entry)) a e) more) ⌝ }
 {
     if more {
-        return put_many(out, o, x, n);
+        return put_many(out, o, a, e, n);
     }
-    let p = put_many(out, o, x, n - 1);
-    octets::copy_into(out, p, x)
+    let p = put_many(out, o, a, e, n - 1);
+    octets::copy_within(out, a, p, e - a);
+    p + (e - a)
 }
 
-// Writes the entries that stand on the side as a product.
+// Writes the entries that stand on the side as a product, from o on: behind the factors, which stand in the same slice.
 fn write_rows(
     out: &mut [u8],
-    src: &[u8],
-    starts: &[usize],
-    ends: &[usize],
+    o: usize,
+    spans: &[u32],
     powers: &[i32],
     n: usize,
     minus: bool,
 ) -> usize
-    requires { ⌜ Asks (Lay (now src) (now starts) (now ends) (now powers) n minus 0 (length (now out))) ⌝ }
-    ensures { λ r. ⌜ Promises (Lay (now (src .entry)) (now (starts .entry)) (now (ends .entry)) (now (powers .entry)) n minus 0 (length (now (out .entry)))) (λ (l : Exps). Wrote (length (now (out .entry))) (now (out .entry)) 0 (now (out .exit)) r (row (side minus l))) ⌝ }
+    requires { ⌜ Asks (Lay (now out) (now spans) (now powers) n minus o 0) ⌝ }
+    ensures { λ r. ⌜ Promises (Lay (now (out .entry)) (now (spans .entry)) (now (powers .entry)) n minus o 0) (λ (l : Exps). Wrote r (now (out .entry)) o (now (out .exit)) r (row (side minus l))) ⌝ }
 {
     let mut i = next_row(powers, 0, n, minus);
-    let mut p = 0;
+    let mut p = o;
     while i < n {
-        let a = starts[i];
-        let e = ends[i];
+        let a = spans[factors::SPAN * i] as usize;
+        let e = spans[factors::SPAN * i + 1] as usize;
         let power = powers[i];
         let c = rises(power, minus);
         let j = next_row(powers, i + 1, n, minus);
         let more = j < n;
-        p = put_factor(out, p, &src[a..e], c, more);
+        p = put_factor(out, p, a, e, c, more);
         i = j;
     }
     p
 }
 
-// The same behind a tag, into the part of the output that starts there.
+// The same behind a tag.
 fn write_tagged(
     out: &mut [u8],
-    at: usize,
+    o: usize,
     tag: u8,
-    src: &[u8],
-    starts: &[usize],
-    ends: &[usize],
+    spans: &[u32],
     powers: &[i32],
     n: usize,
     minus: bool,
 ) -> usize
-    requires { ⌜ Asks (Lay (now src) (now starts) (now ends) (now powers) n minus (at + 1) (length (now out))) ⌝ }
-    ensures { λ r. ⌜ Promises (Lay (now (src .entry)) (now (starts .entry)) (now (ends .entry)) (now (powers .entry)) n minus (at + 1) (length (now (out .entry)))) (λ (l : Exps). Wrote (length (now (out .entry))) (now (out .entry)) at (now (out .exit)) r (tag ∷ row (side minus l))) ⌝ }
+    requires { ⌜ Asks (Lay (now out) (now spans) (now powers) n minus o 1) ⌝ }
+    ensures { λ r. ⌜ Promises (Lay (now (out .entry)) (now (spans .entry)) (now (powers .entry)) n minus o 1) (λ (l : Exps). Wrote r (now (out .entry)) o (now (out .exit)) r (tag ∷ row (side minus l))) ⌝ }
 {
-    out[at] = tag;
-    let i = at + 1;
-    let r = write_rows(&mut out[i..], src, starts, ends, powers, n, minus);
-    i + r
+    out[o] = tag;
+    write_rows(out, o + 1, spans, powers, n, minus)
 }
 
 // Writes the table's product as P, inv(N) or mul(P, inv(N)), and nothing where no factor is left.
-fn write_table(
-    out: &mut [u8],
-    src: &[u8],
-    starts: &[usize],
-    ends: &[usize],
-    powers: &[i32],
-    n: usize,
-) -> usize
-    requires { ⌜ Asks (Both (now src) (now starts) (now ends) (now powers) n (length (now out))) ⌝ }
-    ensures { λ r. ⌜ Promises (Both (now (src .entry)) (now (starts .entry)) (now (ends .entry)) (now (powers .entry)) n (length (now (out .entry)))) (λ (l : Exps). Wrote (length (now (out .entry))) (now (out .entry)) 0 (now (out .exit)) r (sides (side false l) (side true l))) ⌝ }
+fn write_table(out: &mut [u8], o: usize, spans: &[u32], powers: &[i32], n: usize) -> usize
+    requires { ⌜ Asks (Both (now out) (now spans) (now powers) n o) ⌝ }
+    ensures { λ r. ⌜ Promises (Both (now (out .entry)) (now (spans .entry)) (now (powers .entry)) n o) (λ (l : Exps). Wrote r (now (out .entry)) o (now (out .exit)) r (sides (side false l) (side true l))) ⌝ }
 {
     let d = next_row(powers, 0, n, true);
     if n <= d {
-        return write_rows(out, src, starts, ends, powers, n, false);
+        return write_rows(out, o, spans, powers, n, false);
     }
     let u = next_row(powers, 0, n, false);
     if n <= u {
-        return write_tagged(out, 0, INV, src, starts, ends, powers, n, true);
+        return write_tagged(out, o, INV, spans, powers, n, true);
     }
-    let i = write_tagged(out, 0, MUL, src, starts, ends, powers, n, false);
-    write_tagged(out, i, INV, src, starts, ends, powers, n, true)
+    let i = write_tagged(out, o, MUL, spans, powers, n, false);
+    write_tagged(out, i, INV, spans, powers, n, true)
 }
 
-// Writes the product of the k terms at a place, and nothing where no factor is left.
-fn write_product(out: &mut [u8], src: &[u8], at: usize, k: usize, arities: &[u8]) -> usize
-    requires { ⌜ Asks (Prod (now arities) (now src) at k (length (now out))) ⌝ }
-    ensures { λ r. ⌜ Promises (Prod (now (arities .entry)) (now (src .entry)) at k (length (now (out .entry)))) (λ (ts : Terms). Wrote (length (now (out .entry))) (now (out .entry)) 0 (now (out .exit)) r (written ts)) ⌝ }
+// Writes the product of the k terms from a place up to e behind them, and nothing where no factor is left: returns where that ends.
+fn write_product(out: &mut [u8], at: usize, k: usize, e: usize, arities: &[u8]) -> usize
+    requires { ⌜ Asks (Prod (now arities) (now out) at k e) ⌝ }
+    ensures { λ r. ⌜ Promises (Prod (now (arities .entry)) (now (out .entry)) at k e) (λ (ts : Terms). Wrote r (now (out .entry)) e (now (out .exit)) r (written ts)) ⌝ }
 {
-    let mut starts = [0usize; term::MOST_SYMBOLS];
-    let mut ends = [0usize; term::MOST_SYMBOLS];
+    let mut spans = [0u32; factors::SPAN * term::MOST_SYMBOLS];
     let mut powers = [0i32; term::MOST_SYMBOLS];
-    let f = factors::collect(
-        &mut starts,
-        &mut ends,
-        &mut powers,
-        0,
-        src,
-        at,
-        k,
-        arities,
-        false,
-    );
-    write_table(out, src, &starts, &ends, &powers, f.n)
+    let f = factors::collect(&mut spans, &mut powers, 0, &out[..e], at, k, arities, false);
+    write_table(out, e, &spans, &powers, f.n)
 }
 
-// The term at o becomes the product of its factors: returns where that ends.
-pub fn multiply(out: &mut [u8], o: usize, arities: &[u8]) -> usize
-    requires { ⌜ Asks₂ (Whole (now arities) (now out) o) ⌝ }
-    ensures { λ r. ⌜ Promises₂ (Whole (now (arities .entry)) (now (out .entry)) o) (λ (e : ℕ) (t : Term). Wrote e (now (out .entry)) o (now (out .exit)) r (encode (multiplied (t & nil)))) ⌝ }
+// The term from o up to e becomes the product of its factors, made behind it and moved down: returns where that ends.
+pub fn multiply(out: &mut [u8], o: usize, e: usize, arities: &[u8]) -> usize
+    requires { ⌜ Asks (Whole (now arities) (now out) o e) ⌝ }
+    ensures { λ r. ⌜ Promises (Whole (now (arities .entry)) (now (out .entry)) o e) (λ (t : Term). Wrote (e + termRoom) (now (out .entry)) o (now (out .exit)) r (encode (multiplied (t & nil)))) ⌝ }
 {
-    let mut tmp = [0u8; term::TERM_ROOM];
-    let n = write_product(&mut tmp, out, o, 1, arities);
-    if n == 0 {
+    let n = write_product(out, o, 1, e, arities);
+    if n == e {
         out[o] = ONE;
         return o + 1;
     }
-    octets::copy_into(out, o, &tmp[..n])
+    octets::copy_within(out, e, o, n - e);
+    o + (n - e)
 }
 
-// exp at o, whose base stands from b up to z and the k factors of whose exponent stand from z on: returns where the power ends.
-fn power_at(out: &mut [u8], o: usize, b: usize, z: usize, k: usize, arities: &[u8]) -> usize
-    requires { ⌜ Asks₂ (Power (now arities) (now out) o b z k) ⌝ }
-    ensures { λ r. ⌜ Promises₂ (Power (now (arities .entry)) (now (out .entry)) o b z k) (λ (t : Term) (ts : Terms). Wrote (z + length (encodes ts)) (now (out .entry)) o (now (out .exit)) r (encode (powered t ts))) ⌝ }
+// exp at o, whose base stands from b up to z and the k factors of whose exponent stand from z up to e: returns where the power ends.
+fn power_at(
+    out: &mut [u8],
+    o: usize,
+    b: usize,
+    z: usize,
+    k: usize,
+    e: usize,
+    arities: &[u8],
+) -> usize
+    requires { ⌜ Asks₂ (Power (now arities) (now out) o b z k e) ⌝ }
+    ensures { λ r. ⌜ Promises₂ (Power (now (arities .entry)) (now (out .entry)) o b z k e) (λ (t : Term) (ts : Terms). Wrote (e + termRoom) (now (out .entry)) o (now (out .exit)) r (encode (powered t ts))) ⌝ }
 {
-    let mut tmp = [0u8; term::TERM_ROOM];
-    let n = write_product(&mut tmp, out, z, k, arities);
-    if n == 0 {
+    let n = write_product(out, z, k, e, arities);
+    if n == e {
         octets::copy_within(out, b, o, z - b);
         return o + (z - b);
     }
     octets::copy_within(out, b, o + 1, z - b);
-    octets::copy_into(out, o + 1 + (z - b), &tmp[..n])
+    let y = o + 1 + (z - b);
+    octets::copy_within(out, e, y, n - e);
+    y + (n - e)
 }
 
 // What the first argument of an exp is.
@@ -248,20 +239,20 @@ fn behind(src: &[u8], arities: &[u8], at: usize) -> usize
     at + term::term_part(src, arities, at).len()
 }
 
-// exp(x, y) at o becomes the power: returns where that ends.
-pub fn exponent(out: &mut [u8], o: usize, arities: &[u8]) -> usize
-    requires { ⌜ Asks₃ (WholePower (now arities) (now out) o) ⌝ }
-    ensures { λ r. ⌜ Promises₃ (WholePower (now (arities .entry)) (now (out .entry)) o) (λ (e : ℕ) (x y : Term). Wrote e (now (out .entry)) o (now (out .exit)) r (encode (raised (asBinary expTag x) x y))) ⌝ }
+// exp(x, y) from o up to e becomes the power: returns where that ends.
+pub fn exponent(out: &mut [u8], o: usize, e: usize, arities: &[u8]) -> usize
+    requires { ⌜ Asks₂ (WholePower (now arities) (now out) o e) ⌝ }
+    ensures { λ r. ⌜ Promises₂ (WholePower (now (arities .entry)) (now (out .entry)) o e) (λ (x y : Term). Wrote (e + termRoom) (now (out .entry)) o (now (out .exit)) r (encode (raised (asBinary expTag x) x y))) ⌝ }
 {
     let a = o + 1;
     match base_at(out, arities, a) {
         Base::Power(b) => {
             let z = behind(out, arities, b);
-            power_at(out, o, b, z, BOTH, arities)
+            power_at(out, o, b, z, BOTH, e, arities)
         }
         Base::Plain => {
             let z = behind(out, arities, a);
-            power_at(out, o, a, z, OWN, arities)
+            power_at(out, o, a, z, OWN, e, arities)
         }
     }
 }

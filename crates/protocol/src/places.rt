@@ -3,10 +3,9 @@ ghost use mathlib.Core.Path.{_≡_};
 ghost use Prim.Native.Nat.{_≤_};
 ghost use lib.ListN.{length};
 ghost use Rattle.octets.specs.Limits.{longest};
-ghost use Rattle.protocol.specs.Figures.{factLimit};
+ghost use Rattle.protocol.specs.Figures.{factLimit, variableLimit};
 ghost use Rattle.number.specs.Reading.{below};
 ghost use Rattle.protocol.specs.Protocol.{facts};
-ghost use Rattle.protocol.specs.Protocol.Walks.{sortsAt};
 ghost use Rattle.protocol.specs.Places.{placeOf, valueOf, sortOf, listPlace, factPlace, termPlace};
 ghost use Rattle.protocol.specs.Places.Ends.{endOf, sortFrom};
 use crate::figures;
@@ -36,12 +35,9 @@ fn value_below(file: &[u8], at: usize, n: usize) -> usize
 
 // How many variables the rule at a place has.
 pub fn variables_of(file: &[u8], at: usize) -> usize
-    ensures { λ r. ⌜ r ≡ valueOf (sortsAt (now (file .entry)) at) ⌝ }
+    ensures { λ r. ⌜ r ≡ valueOf (below (now (file .entry)) variableLimit at) ⌝ }
 {
-    match walks::sorts_at(file, at) {
-        Number::Value(n, _) => n as usize,
-        Number::Fault => 0,
-    }
+    value_below(file, at, figures::VARIABLE_LIMIT)
 }
 
 fn sort_from(file: &[u8], at: usize, v: u32) -> usize
@@ -104,16 +100,12 @@ pub fn fact_at(file: &[u8], arities: &[u8], ars: &[u8], at: usize, i: usize) -> 
     ensures { λ r. ⌜ r ≡ factPlace (now (file .entry)) (now (arities .entry)) (now (ars .entry)) at i ⌝ }
 {
     match number::below(file, at, figures::FACT_LIMIT) {
-        Number::Value(_, e) => end_of(walks::some_facts(
-            file,
-            arities,
-            ars,
-            e,
-            i,
-            term::VARIABLE,
-            0,
-            0,
-        )),
+        Number::Value(_, e) => {
+            if i == 0 {
+                return e;
+            }
+            end_of(walks::some_facts(file, arities, ars, e, i, term::VARIABLE, 0, 0))
+        }
         Number::Fault => 0,
     }
 }
@@ -131,7 +123,12 @@ pub fn term_at(file: &[u8], arities: &[u8], ars: &[u8], at: usize, j: usize) -> 
     ensures { λ r. ⌜ r ≡ termPlace (now (file .entry)) (now (arities .entry)) (now (ars .entry)) at j ⌝ }
 {
     match number::below(file, at, ars.len()) {
-        Number::Value(_, e) => end_of(walks::rule_terms(file, arities, e, j, term::VARIABLE, 0, 0)),
+        Number::Value(_, e) => {
+            if j == 0 {
+                return e;
+            }
+            end_of(walks::rule_terms(file, arities, e, j, term::VARIABLE, 0, 0))
+        }
         Number::Fault => 0,
     }
 }

@@ -15,9 +15,8 @@ pub mod Limits
 -- their bytes, and how the code writes them
 pub mod Bytes
 pub mod Writing
--- what the code finds, and the bytes at the start of which it stands
+-- what the code finds
 pub mod Found
-pub mod Part
 
 -- ── the rules 0 to 4, of one variable each ──
 -- a fact of the first variable, as a list

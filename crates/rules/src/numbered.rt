@@ -14,7 +14,6 @@ ghost use Rattle.rules.specs.Numbered.{fixed, applies, ruleRoom, firstAp
 ghost use Rattle.rules.specs.Numbered.Bytes.{variableBytes, premiseBytes, premiseRoom};
 ghost use Rattle.rules.specs.Numbered.Writing.{Put};
 ghost use Rattle.rules.specs.Numbered.Found.{Applies, placeFound, Finds};
-ghost use Rattle.rules.specs.Numbered.Part.{Fits, partOf};
 use protocol::figures;
 
 // The rules 0 to 4 by what they do; the last learns a fresh name.
@@ -149,17 +148,5 @@ pub fn find_rule(
         FIRST_APPLY..=LAST_BUILTIN => apply_rule(arities, number - TAG_SHIFT, out),
         FIRST_FREE..=LAST_FREE => apply_rule(arities, number - TAG_SHIFT, out),
         _ => own_rule(places, nr, number - FIRST_OWN),
-    }
-}
-
-// The bytes at the start of which the rule stands that was found: what was written out, or the protocol file from its place on.
-pub fn rule_part<'a>(file: &'a [u8], own: &'a [u8], found: FoundRule) -> &'a [u8]
-    requires { ⌜ Fits (now file) (now own) found ⌝ }
-    ensures { λ r. ⌜ now r ≡ partOf (now (file .entry)) (now (own .entry)) found ⌝ }
-{
-    match found {
-        FoundRule::Written(len) => &own[..len],
-        FoundRule::At(place) => &file[place..],
-        FoundRule::Nothing => &own[..0],
     }
 }

@@ -13,7 +13,7 @@ pub mod Causes
 -- a step list that is well formed: 2, 3, 6, 7 and 8 are absent from it
 pub mod WellFormed
 -- ── for the code ──
+-- the table of nodes that their reading fills
+pub mod Table
 -- the names that nodes make
 pub mod Names
--- what the code has of a protocol
-pub mod Index

@@ -11,7 +11,7 @@ use Rattle.rewriting.specs.Graph.{nameOf}
 use Rattle.steps.specs.declared.names.Made.{Made}
 use Rattle.steps.specs.declared.names.Made.the-variants as md
 use Rattle.steps.specs.Nodes.{Node}
-use Rattle.steps.specs.Nodes.Code.{noNode}
+use Rattle.steps.specs.Nodes.{noNode}
 use Rattle.steps.specs.Facts.{madeName}
 -- the pass over the names is crate rewriting's
 pub mod Laws

@@ -23,8 +23,9 @@ pub mod Exact
 pub mod Unknown
 -- the reading depends on the bytes up to the end of the list alone
 pub mod Prefix
--- what code answers of nodes
+-- what code answers of nodes, and what it leaves in their table
 pub mod Code
+pub mod Filling
 
 -- ── nodes ──
 -- "each a rule number and one value per variable"
@@ -34,6 +35,10 @@ pub record Node : Type 0 where
 
 abbrev pub node-of : ℕ → List Term → Node
 node-of r vs = record { rule = r; values = vs }
+
+-- where a list has no node of some number
+abbrev pub noNode : Node
+noNode = node-of 0 []
 
 -- "count of nodes (512)"
 abbrev pub mostNodes : ℕ

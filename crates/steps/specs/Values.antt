@@ -19,16 +19,14 @@ pub mod Tests
 pub mod Laws
 -- what code answers of a value
 pub mod Code
--- the loops over values and nodes
+-- the loop over the values of a node
 pub mod Loops
--- a pass over the nodes by their places
+-- a pass over the nodes by their numbers
 pub mod Scan
 -- the symbols of filled-in terms, added up
 pub mod Weights
 -- a test of all terms of a fact
 pub mod Parts
--- the sizes of a node's values, in a table
-pub mod Sizes
 -- a rule's terms with a node's values filled in
 pub mod Filled
 -- the passes of 7 and 8 find their least node

@@ -4,23 +4,23 @@ ghost use mathlib.Core.List.{List};
 ghost use Prim.Native.Nat.{ℕ, suc, _≤_, _<_, _+_};
 ghost use lib.ListN.{length, getD, take};
 ghost use Rattle.protocol.specs.Protocol.{Protocol};
-ghost use Rattle.lists.specs.Asks.{Promises₂, Promises};
+ghost use Rattle.lists.specs.Asks.{Asks₂, Promises₂, Promises};
 ghost use Rattle.rewriting.specs.Writer.{firstNameTwice};
-ghost use Rattle.steps.specs.Nodes.{Node, mostNodes};
-ghost use Rattle.steps.specs.Nodes.Code.{noNode};
+ghost use Rattle.steps.specs.Nodes.{Node, noNode, mostNodes};
+ghost use Rattle.steps.specs.Table.{NodeIn, NodesIn};
 ghost use Rattle.steps.specs.Facts.{madeName};
 ghost use Rattle.steps.specs.Runs.{rewrittens};
-ghost use Rattle.steps.specs.Values.Loops.{NodeAt};
-ghost use Rattle.steps.specs.Values.Scan.{asFound, NodesAt};
+ghost use Rattle.steps.specs.Values.Scan.{asFound};
 ghost use Rattle.steps.specs.Names.{isMade, againIn, MadeIs, entryOf, Entered};
 ghost use Rattle.steps.specs.Names.Code.{NumberIs};
 ghost use Rattle.term.specs.Reader.{symbolAt};
+use crate::nodes;
 use crate::values::Name;
-use number::Number;
+use prepared::sections;
 use term::Fresh;
 
 // "Rule 0 makes Fr(fresh)."
-const MAKES_FRESH: u32 = 0;
+const MAKES_FRESH: usize = 0;
 
 // The name that a node makes, if it makes one.
 pub enum Made {
@@ -39,56 +39,43 @@ fn fresh_at(file: &[u8], arities: &[u8], at: usize) -> Made
     }
 }
 
-// The name that the node at a place makes: "Rule 0 makes Fr(fresh)", and no other rule makes one.
-pub fn made_at(
-    file: &[u8],
-    protocol: &[u8],
-    arities: &[u8],
-    rules: &[usize],
-    nr: usize,
-    place: usize,
-) -> Made
-    ensures { λ r. ⌜ Promises₂ (NodeAt (now (protocol .entry)) (now (arities .entry)) (now (rules .entry)) nr (now (file .entry)) place) (λ (p : Protocol) (x : Node). MadeIs (madeName x) r) ⌝ }
+// The name that node j makes: "Rule 0 makes Fr(fresh)", and no other rule makes one.
+pub fn made_at(p: &[u8], s: &[u8], nodes: &[usize], j: usize) -> Made
+    requires { ⌜ Asks₂ (NodeIn (now p) (now s) (now nodes) j) ⌝ }
+    ensures { λ r. ⌜ Promises₂ (NodeIn (now (p .entry)) (now (s .entry)) (now (nodes .entry)) j) (λ (P : Protocol) (x : Node). MadeIs (madeName x) r) ⌝ }
 {
-    match number::read_number(file, place) {
-        Number::Value(r, e) => {
-            if r == MAKES_FRESH {
-                return fresh_at(file, arities, e);
-            }
-            Made::Nothing
-        }
-        Number::Fault => Made::Nothing,
+    let row = nodes::ROW * j;
+    if nodes[row] == MAKES_FRESH {
+        return fresh_at(s, &p[..sections::ARITIES], nodes[row + nodes::FIRST_PLACE]);
     }
+    Made::Nothing
 }
 
-// The name as an entry of a table: its number and one, or 0 where there is none.
+// A fresh name as an entry of a table: its number and one, so that 0 is left for none.
+fn fresh_entry(name: Fresh) -> usize
+    ensures { λ r. ⌜ r ≡ suc (name .0) ⌝ }
+{
+    name.0 as usize + 1
+}
+
+// The name that a node makes as an entry.
 fn entry_of(made: Made) -> usize
     ensures { λ r. ⌜ r ≡ entryOf made ⌝ }
 {
     match made {
-        Made::Of(f) => f.0 as usize + 1,
+        Made::Of(f) => fresh_entry(f),
         Made::Nothing => 0,
     }
 }
 
 // The names that the nodes make, an entry a node.
-fn enter_names(
-    file: &[u8],
-    protocol: &[u8],
-    arities: &[u8],
-    rules: &[usize],
-    nr: usize,
-    nodes: &[usize],
-    n: usize,
-    names: &mut [usize],
-)
-    requires { ⌜ (n ≤ length (now nodes)) × (n ≤ length (now names)) ⌝ }
-    ensures kept { λ r. ⌜ length (now (names .exit)) ≡ length (now (names .entry)) ⌝ }
-    ensures told { λ r. ⌜ Promises₂ (NodesAt (now (protocol .entry)) (now (arities .entry)) (now (rules .entry)) nr (now (file .entry)) (now (nodes .entry)) n) (λ (p : Protocol) (xs : List Node). Entered (now (names .exit)) xs n) ⌝ }
+fn enter_names(p: &[u8], s: &[u8], nodes: &[usize], n: usize, names: &mut [usize])
+    requires { ⌜ Asks₂ (NodesIn (now p) (now s) (now nodes) n) × (n ≤ length (now names)) ⌝ }
+    ensures { λ r. ⌜ Promises₂ (NodesIn (now (p .entry)) (now (s .entry)) (now (nodes .entry)) n) (λ (P : Protocol) (xs : List Node). Entered (now (names .exit)) xs n) ⌝ }
 {
     let mut j: usize = 0;
     while j < n {
-        names[j] = entry_of(made_at(file, protocol, arities, rules, nr, nodes[j]));
+        names[j] = entry_of(made_at(p, s, nodes, j));
         j += 1;
     }
 }
@@ -135,19 +122,11 @@ fn least_again(names: &[usize], n: usize) -> usize
 }
 
 // 9: the names are read once, then compared.
-pub fn name_pass(
-    file: &[u8],
-    protocol: &[u8],
-    arities: &[u8],
-    rules: &[usize],
-    nr: usize,
-    nodes: &[usize],
-    n: usize,
-) -> usize
-    requires { ⌜ (n ≤ mostNodes) × (n ≤ length (now nodes)) ⌝ }
-    ensures { λ r. ⌜ Promises₂ (NodesAt (now (protocol .entry)) (now (arities .entry)) (now (rules .entry)) nr (now (file .entry)) (now (nodes .entry)) n) (λ (p : Protocol) (xs : List Node). asFound r ≡ firstNameTwice (rewrittens p xs)) ⌝ }
+pub fn name_pass(p: &[u8], s: &[u8], nodes: &[usize], n: usize) -> usize
+    requires { ⌜ Asks₂ (NodesIn (now p) (now s) (now nodes) n) ⌝ }
+    ensures { λ r. ⌜ Promises₂ (NodesIn (now (p .entry)) (now (s .entry)) (now (nodes .entry)) n) (λ (P : Protocol) (xs : List Node). asFound r ≡ firstNameTwice (rewrittens P xs)) ⌝ }
 {
-    let mut names = [0usize; crate::nodes::MOST_NODES];
-    enter_names(file, protocol, arities, rules, nr, nodes, n, &mut names);
+    let mut names = [0usize; nodes::MOST_NODES];
+    enter_names(p, s, nodes, n, &mut names);
     least_again(&names, n)
 }

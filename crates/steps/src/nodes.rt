@@ -1,33 +1,41 @@
-// The nodes of a step list or graph, read front to back for 3 and 6.
+// The nodes of a step list or graph, read front to back for 3 and 6 into their table.
 ghost use mathlib.Core.Path.{_≡_};
 ghost use Prim.Native.Nat.{_≤_, _<_, _+_};
 ghost use lib.ListN.{length};
 ghost use Rattle.octets.specs.Limits.{longest};
 ghost use Rattle.lists.specs.Asks.{Asks, Promises};
-ghost use Rattle.number.specs.Reading.{many};
-ghost use Rattle.term.specs.Reader.{term};
-ghost use Rattle.octets.specs.Head.{Bytes};
+ghost use Rattle.protocol.specs.Figures.{mostVariables};
 ghost use Rattle.protocol.specs.Protocol.{Protocol};
-ghost use Rattle.protocol.specs.Protocol.Walks.{sortsAt};
-ghost use Rattle.protocol.specs.Places.{valueOf};
-ghost use Rattle.rules.specs.Numbered.{ruleOf};
+ghost use Rattle.prepared.specs.Prepared.{Prepared};
 ghost use Rattle.steps.specs.Nodes.{nodesFrom, nodeList, steps, mostNodes};
-ghost use Rattle.steps.specs.Index.{IndexOf};
-ghost use Rattle.steps.specs.Nodes.Code.{variablesOf, termsEnd, nodeFrom, nodeEnd, Told};
+ghost use Rattle.steps.specs.Nodes.Code.{Told};
+ghost use Rattle.steps.specs.Nodes.Filling.{ValuesRead, NodeEntered, NodeRead};
+ghost use Rattle.steps.specs.Table.{placeCount, tableLength, heldFlag};
 use number::Number;
-use rules::numbered::FoundRule;
-use term::Part;
+use prepared::finding;
+use prepared::finding::Found;
+use prepared::sections;
+use protocol::figures;
+use term::Walk;
 
 // "count of nodes (512)"
 pub const MOST_NODES: usize = 512;
 
 const NODE_LIMIT: usize = MOST_NODES + 1;
 
-// How many variables a rule has.
-pub enum Variables {
-    Count(usize),
-    Nothing,
-}
+// The row of a node in the table: its rule number, the places of its values and the place behind them, the symbols of each value, and 1
+// where a value holds a variable.
+pub const PLACES: usize = figures::MOST_VARIABLES + 1;
+
+pub const FIRST_PLACE: usize = 1;
+
+pub const FIRST_SIZE: usize = FIRST_PLACE + PLACES;
+
+pub const HELD: usize = FIRST_SIZE + figures::MOST_VARIABLES;
+
+pub const ROW: usize = HELD + 1;
+
+pub const TABLE: usize = ROW * MOST_NODES;
 
 // A node: the place behind it, a layout fault, or no such rule.
 pub enum NodeEnd {
@@ -43,101 +51,91 @@ pub enum Nodes {
     NoRule(usize),
 }
 
-// The place behind k values.
-fn values_end(file: &[u8], arities: &[u8], at: usize, k: usize) -> NodeEnd
-    requires { ⌜ (length (now file) ≤ longest) × (k ≤ longest) ⌝ }
-    ensures { λ r. ⌜ r ≡ termsEnd (many (term (now (file .entry)) (now (arities .entry))) k at) ⌝ }
+fn flag_of(held: bool) -> usize
+    ensures { λ r. ⌜ r ≡ heldFlag held ⌝ }
 {
-    match term::terms_end(file, arities, at, k) {
-        Part::End(e, _) => NodeEnd::End(e),
-        Part::Fault => NodeEnd::Broken,
-    }
+    if held { 1 } else { 0 }
 }
 
-// How many variables the rule at the start of a slice has.
-pub fn own_variables(file: &[u8]) -> usize
-    ensures { λ r. ⌜ (r ≡ valueOf (sortsAt (now (file .entry)) 0)) × Bytes (now (file .entry)) ⌝ }
-{
-    protocol::places::variables_of(file, 0)
-}
-
-// How many variables the rule of a number has.
-fn rule_variables(
-    protocol: &[u8],
+// The places of k values go into the table from `to` on, with the place behind them; behind all places the symbols of each, and whether
+// one holds a variable.
+fn place_values(
+    s: &[u8],
     arities: &[u8],
-    rules: &[usize],
-    nr: usize,
-    number: usize,
-) -> Variables
-    requires { ⌜ Asks (IndexOf (now protocol) (now arities) (now rules) nr) ⌝ }
-    ensures { λ r. ⌜ Promises (IndexOf (now (protocol .entry)) (now (arities .entry)) (now (rules .entry)) nr) (λ (p : Protocol). r ≡ variablesOf (ruleOf p number)) ⌝ }
+    at: usize,
+    k: usize,
+    nodes: &mut [usize],
+    to: usize,
+) -> NodeEnd
+    requires { ⌜ (length (now s) ≤ longest) × (k ≤ mostVariables) × (to + placeCount + mostVariables < length (now nodes)) ⌝ }
+    ensures { λ r. ⌜ ValuesRead (now (s .entry)) (now (arities .entry)) at k (now (nodes .entry)) (now (nodes .exit)) to r ⌝ }
 {
-    let mut own = [0u8; rules::numbered::RULE_ROOM];
-    match rules::numbered::find_rule(arities, rules, nr, number, &mut own) {
-        FoundRule::Written(len) => Variables::Count(own_variables(&own[..len])),
-        FoundRule::At(place) => Variables::Count(protocol::places::variables_of(protocol, place)),
-        FoundRule::Nothing => Variables::Nothing,
+    let mut i = at;
+    let mut held = false;
+    let mut v: usize = 0;
+    while v < k {
+        match term::walk_term(s, arities, i, term::VARIABLE, 0, number::NUMBER_LIMIT) {
+            Walk::End(e, n, h) => {
+                nodes[to + v] = i;
+                nodes[to + PLACES + v] = n;
+                held = held | h;
+                i = e;
+                v += 1;
+            }
+            Walk::Fault => {
+                return NodeEnd::Broken;
+            }
+        }
     }
+    nodes[to + k] = i;
+    nodes[to + PLACES + figures::MOST_VARIABLES] = flag_of(held);
+    NodeEnd::End(i)
 }
 
-// A node whose rule number was read.
-fn node_from(
-    file: &[u8],
-    protocol: &[u8],
-    arities: &[u8],
-    rules: &[usize],
-    nr: usize,
+// A node whose rule number was read goes into row j.
+fn enter_node(
+    p: &[u8],
+    s: &[u8],
     number: usize,
     at: usize,
+    nodes: &mut [usize],
+    j: usize,
 ) -> NodeEnd
-    requires { ⌜ Asks (IndexOf (now protocol) (now arities) (now rules) nr) × (length (now file) ≤ longest) ⌝ }
-    ensures { λ r. ⌜ Promises (IndexOf (now (protocol .entry)) (now (arities .entry)) (now (rules .entry)) nr) (λ (p : Protocol). r ≡ nodeFrom p (now (file .entry)) (ruleOf p number) at) ⌝ }
+    requires { ⌜ Asks (Prepared (now p)) × (length (now s) ≤ longest) × (j < mostNodes) × (length (now nodes) ≡ tableLength) ⌝ }
+    ensures { λ r. ⌜ Promises (Prepared (now (p .entry))) (λ (P : Protocol). NodeEntered P (now (p .entry)) (now (s .entry)) number at (now (nodes .entry)) (now (nodes .exit)) j r) ⌝ }
 {
-    match rule_variables(protocol, arities, rules, nr, number) {
-        Variables::Count(k) => values_end(file, arities, at, k),
-        Variables::Nothing => NodeEnd::NoRule,
+    match finding::rule_place(p, number) {
+        Found::At(place) => {
+            let k = protocol::places::variables_of(p, place);
+            let row = ROW * j;
+            nodes[row] = number;
+            place_values(s, &p[..sections::ARITIES], at, k, nodes, row + FIRST_PLACE)
+        }
+        Found::Nothing => NodeEnd::NoRule,
     }
 }
 
-// A node: its rule number is judged before its values are read.
-fn node_end(
-    file: &[u8],
-    protocol: &[u8],
-    arities: &[u8],
-    rules: &[usize],
-    nr: usize,
-    at: usize,
-) -> NodeEnd
-    requires { ⌜ Asks (IndexOf (now protocol) (now arities) (now rules) nr) × (length (now file) ≤ longest) ⌝ }
-    ensures { λ r. ⌜ Promises (IndexOf (now (protocol .entry)) (now (arities .entry)) (now (rules .entry)) nr) (λ (p : Protocol). r ≡ nodeEnd p (now (file .entry)) at) ⌝ }
+// The node at a place goes into row j: its rule number is judged before its values are read.
+fn read_node(p: &[u8], s: &[u8], at: usize, nodes: &mut [usize], j: usize) -> NodeEnd
+    requires { ⌜ Asks (Prepared (now p)) × (length (now s) ≤ longest) × (j < mostNodes) × (length (now nodes) ≡ tableLength) ⌝ }
+    ensures { λ r. ⌜ Promises (Prepared (now (p .entry))) (λ (P : Protocol). NodeRead P (now (p .entry)) (now (s .entry)) at (now (nodes .entry)) (now (nodes .exit)) j r) ⌝ }
 {
-    match number::read_number(file, at) {
-        Number::Value(r, e) => node_from(file, protocol, arities, rules, nr, r as usize, e),
+    match number::read_number(s, at) {
+        Number::Value(r, e) => enter_node(p, s, r as usize, e, nodes, j),
         Number::Fault => NodeEnd::Broken,
     }
 }
 
-// The places of n nodes.
-fn nodes_from(
-    file: &[u8],
-    protocol: &[u8],
-    arities: &[u8],
-    rules: &[usize],
-    nr: usize,
-    at: usize,
-    n: usize,
-    nodes: &mut [usize],
-) -> Nodes
-    requires { ⌜ Asks (IndexOf (now protocol) (now arities) (now rules) nr) × (length (now file) ≤ longest) × (n ≤ mostNodes) × (mostNodes ≤ length (now nodes)) ⌝ }
-    ensures kept { λ r. ⌜ length (now (nodes .exit)) ≡ length (now (nodes .entry)) ⌝ }
-    ensures told { λ r. ⌜ Promises (IndexOf (now (protocol .entry)) (now (arities .entry)) (now (rules .entry)) nr) (λ (p : Protocol). Told (nodesFrom p (now (file .entry)) 1 n at) p (now (file .entry)) (now (nodes .exit)) r) ⌝ }
+// n nodes.
+fn nodes_from(p: &[u8], s: &[u8], at: usize, n: usize, nodes: &mut [usize]) -> Nodes
+    requires { ⌜ Asks (Prepared (now p)) × (length (now s) ≤ longest) × (n ≤ mostNodes) × (length (now nodes) ≡ tableLength) ⌝ }
+    ensures { λ r. ⌜ Promises (Prepared (now (p .entry))) (λ (P : Protocol). Told (nodesFrom P (now (s .entry)) 1 n at) (now (p .entry)) (now (s .entry)) (now (nodes .exit)) r) ⌝ }
 {
     let mut i = at;
     let mut j: usize = 0;
     while j < n {
-        match node_end(file, protocol, arities, rules, nr, i) {
+        match read_node(p, s, i, nodes, j) {
             NodeEnd::End(e) => {
-                nodes[j] = i;
                 i = e;
                 j += 1;
             }
@@ -152,42 +150,25 @@ fn nodes_from(
     Nodes::End(n, i)
 }
 
-// The count, 512 at most, and the nodes; the place of each is kept.
-pub fn read_nodes(
-    file: &[u8],
-    at: usize,
-    protocol: &[u8],
-    arities: &[u8],
-    rules: &[usize],
-    nr: usize,
-    nodes: &mut [usize],
-) -> Nodes
-    requires { ⌜ Asks (IndexOf (now protocol) (now arities) (now rules) nr) × (length (now file) ≤ longest) × (mostNodes ≤ length (now nodes)) ⌝ }
-    ensures kept { λ r. ⌜ length (now (nodes .exit)) ≡ length (now (nodes .entry)) ⌝ }
-    ensures told { λ r. ⌜ Promises (IndexOf (now (protocol .entry)) (now (arities .entry)) (now (rules .entry)) nr) (λ (p : Protocol). Told (nodeList p (now (file .entry)) at) p (now (file .entry)) (now (nodes .exit)) r) ⌝ }
+// The count, 512 at most, and the nodes.
+pub fn read_nodes(p: &[u8], s: &[u8], at: usize, nodes: &mut [usize]) -> Nodes
+    requires { ⌜ Asks (Prepared (now p)) × (length (now s) ≤ longest) × (length (now nodes) ≡ tableLength) ⌝ }
+    ensures { λ r. ⌜ Promises (Prepared (now (p .entry))) (λ (P : Protocol). Told (nodeList P (now (s .entry)) at) (now (p .entry)) (now (s .entry)) (now (nodes .exit)) r) ⌝ }
 {
-    match number::below(file, at, NODE_LIMIT) {
-        Number::Value(n, e) => nodes_from(file, protocol, arities, rules, nr, e, n as usize, nodes),
+    match number::below(s, at, NODE_LIMIT) {
+        Number::Value(n, e) => nodes_from(p, s, e, n as usize, nodes),
         Number::Fault => Nodes::Broken,
     }
 }
 
 // A whole step list: leftover bytes are a layout fault.
-pub fn read_steps(
-    file: &[u8],
-    protocol: &[u8],
-    arities: &[u8],
-    rules: &[usize],
-    nr: usize,
-    nodes: &mut [usize],
-) -> Nodes
-    requires { ⌜ Asks (IndexOf (now protocol) (now arities) (now rules) nr) × (length (now file) ≤ longest) × (mostNodes ≤ length (now nodes)) ⌝ }
-    ensures kept { λ r. ⌜ length (now (nodes .exit)) ≡ length (now (nodes .entry)) ⌝ }
-    ensures told { λ r. ⌜ Promises (IndexOf (now (protocol .entry)) (now (arities .entry)) (now (rules .entry)) nr) (λ (p : Protocol). Told (steps p (now (file .entry))) p (now (file .entry)) (now (nodes .exit)) r) ⌝ }
+pub fn read_steps(p: &[u8], s: &[u8], nodes: &mut [usize]) -> Nodes
+    requires { ⌜ Asks (Prepared (now p)) × (length (now s) ≤ longest) × (length (now nodes) ≡ tableLength) ⌝ }
+    ensures { λ r. ⌜ Promises (Prepared (now (p .entry))) (λ (P : Protocol). Told (steps P (now (s .entry))) (now (p .entry)) (now (s .entry)) (now (nodes .exit)) r) ⌝ }
 {
-    match read_nodes(file, 0, protocol, arities, rules, nr, nodes) {
+    match read_nodes(p, s, 0, nodes) {
         Nodes::End(n, e) => {
-            if e == file.len() {
+            if e == s.len() {
                 return Nodes::End(n, e);
             }
             Nodes::Broken

@@ -6,10 +6,9 @@ ghost use lib.ListN.{length};
 ghost use Rattle.octets.specs.Limits.{longest};
 ghost use Rattle.lists.specs.Asks.{Asks, Promises, Asks₂, Promises₂};
 ghost use Rattle.protocol.specs.Protocol.{Protocol};
-ghost use Rattle.steps.specs.Nodes.{Node, steps, mostNodes};
-ghost use Rattle.steps.specs.Index.{IndexOf};
-ghost use Rattle.steps.specs.Values.Scan.{NodesAt};
-ghost use Rattle.steps.specs.Values.Filled.{ArityTable};
+ghost use Rattle.prepared.specs.Prepared.{Prepared};
+ghost use Rattle.steps.specs.Nodes.{Node, steps};
+ghost use Rattle.steps.specs.Table.{tableLength, NodesIn};
 ghost use Rattle.steps.specs.Causes.{nodeRuling, listRuling, stepsItem};
 ghost use Rattle.steps.specs.Causes.Code.{rulingOf, counted};
 ghost use Rattle.steps.specs.Causes.Good.{WhereGood};
@@ -25,52 +24,34 @@ pub enum NodesRuling {
     Refused(usize, usize),
 }
 
-// 7, 8 and 9 of the nodes at their places.
-pub fn rule_nodes(
-    file: &[u8],
-    protocol: &[u8],
-    arities: &[u8],
-    ars: &[u8],
-    rules: &[usize],
-    nr: usize,
-    nodes: &[usize],
-    n: usize,
-) -> NodesRuling
-    requires { ⌜ Asks₂ (NodesAt (now protocol) (now arities) (now rules) nr (now file) (now nodes) n) × ArityTable (now protocol) (now arities) (now rules) nr (now ars) × (n ≤ mostNodes) × (n ≤ length (now nodes)) ⌝ }
-    ensures { λ r. ⌜ Promises₂ (NodesAt (now (protocol .entry)) (now (arities .entry)) (now (rules .entry)) nr (now (file .entry)) (now (nodes .entry)) n) (λ (p : Protocol) (xs : List Node). rulingOf r ≡ counted (nodeRuling p xs)) ⌝ }
+// 7, 8 and 9 of the nodes.
+pub fn rule_nodes(p: &[u8], s: &[u8], nodes: &[usize], n: usize) -> NodesRuling
+    requires { ⌜ Asks₂ (NodesIn (now p) (now s) (now nodes) n) ⌝ }
+    ensures { λ r. ⌜ Promises₂ (NodesIn (now (p .entry)) (now (s .entry)) (now (nodes .entry)) n) (λ (P : Protocol) (xs : List Node). rulingOf r ≡ counted (nodeRuling P xs)) ⌝ }
 {
-    let wrong = values::value_pass(file, protocol, arities, rules, nr, nodes, n);
+    let wrong = values::value_pass(p, s, nodes, n);
     if wrong != 0 {
         return NodesRuling::Refused(rewriting::VALUE_WRONG, wrong);
     }
-    let large = size_pass::size_pass(file, protocol, arities, ars, rules, nr, nodes, n);
+    let large = size_pass::size_pass(p, s, nodes, n);
     if large != 0 {
         return NodesRuling::Refused(rewriting::TERM_LONG, large);
     }
-    let twice = names::name_pass(file, protocol, arities, rules, nr, nodes, n);
+    let twice = names::name_pass(p, s, nodes, n);
     if twice != 0 {
         return NodesRuling::Refused(rewriting::NAME_TWICE, twice);
     }
     NodesRuling::Good(n)
 }
 
-// The whole step list; the places of its nodes are filled in.
-pub fn rule_steps(
-    file: &[u8],
-    protocol: &[u8],
-    arities: &[u8],
-    ars: &[u8],
-    rules: &[usize],
-    nr: usize,
-    nodes: &mut [usize],
-) -> NodesRuling
-    requires { ⌜ Asks (IndexOf (now protocol) (now arities) (now rules) nr) × ArityTable (now protocol) (now arities) (now rules) nr (now ars) × (length (now file) ≤ longest) × (mostNodes ≤ length (now nodes)) ⌝ }
-    ensures kept { λ r. ⌜ length (now (nodes .exit)) ≡ length (now (nodes .entry)) ⌝ }
-    ensures ruled { λ r. ⌜ Promises (IndexOf (now (protocol .entry)) (now (arities .entry)) (now (rules .entry)) nr) (λ (p : Protocol). rulingOf r ≡ counted (listRuling p stepsItem (steps p (now (file .entry))))) ⌝ }
-    ensures good { λ r. ⌜ Promises (IndexOf (now (protocol .entry)) (now (arities .entry)) (now (rules .entry)) nr) (λ (p : Protocol). WhereGood p (now (file .entry)) (now (nodes .exit)) r) ⌝ }
+// The whole step list; the table of its nodes is filled in.
+pub fn rule_steps(p: &[u8], s: &[u8], nodes: &mut [usize]) -> NodesRuling
+    requires { ⌜ Asks (Prepared (now p)) × (length (now s) ≤ longest) × (length (now nodes) ≡ tableLength) ⌝ }
+    ensures ruled { λ r. ⌜ Promises (Prepared (now (p .entry))) (λ (P : Protocol). rulingOf r ≡ counted (listRuling P stepsItem (steps P (now (s .entry))))) ⌝ }
+    ensures good { λ r. ⌜ Promises (Prepared (now (p .entry))) (λ (P : Protocol). WhereGood P (now (p .entry)) (now (s .entry)) (now (nodes .exit)) r) ⌝ }
 {
-    match nodes::read_steps(file, protocol, arities, rules, nr, nodes) {
-        Nodes::End(n, _) => rule_nodes(file, protocol, arities, ars, rules, nr, nodes, n),
+    match nodes::read_steps(p, s, nodes) {
+        Nodes::End(n, _) => rule_nodes(p, s, nodes, n),
         Nodes::Broken => NodesRuling::Refused(rewriting::LAYOUT, rewriting::STEPS_ITEM),
         Nodes::NoRule(k) => NodesRuling::Refused(rewriting::NO_SUCH_RULE, k),
     }

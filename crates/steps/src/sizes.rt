@@ -2,19 +2,23 @@
 ghost use mathlib.Core.Path.{_≡_};
 ghost use mathlib.Core.List.{List};
 ghost use Prim.Native.Nat.{ℕ, _≤_, _<_, _+_, suc};
-ghost use lib.ListN.{length, getD};
+ghost use lib.ListN.{length};
 ghost use lib.Dec.{ltb};
 ghost use Rattle.steps.specs.Values.{mostFilledIn};
 ghost use Rattle.octets.specs.Limits.{longest};
 ghost use Rattle.lists.specs.Asks.{Asks, Promises, Asks₂, Promises₂};
-ghost use Rattle.number.specs.Reading.{many};
-ghost use Rattle.term.specs.Term.{Term, symbols};
+ghost use Rattle.term.specs.Term.{Term};
 ghost use Rattle.term.specs.Reader.{symbolAt, kindOf, term};
-ghost use Rattle.protocol.specs.Protocol.{Fact, Rule, fact, facts, rule};
+ghost use Rattle.protocol.specs.Protocol.{Fact, Rule, Protocol, fact, facts};
 ghost use Rattle.protocol.specs.Places.{At, ReadAs};
-ghost use Rattle.steps.specs.Values.Parts.{noTerm, factSmall, listSmall, ruleSmall};
+ghost use Rattle.prepared.specs.Sections.{preparedLength};
+ghost use Rattle.prepared.specs.Prepared.{slotsOf, aritiesOf};
+ghost use Rattle.steps.specs.Values.Parts.{factSmall, listSmall, ruleSmall};
+ghost use Rattle.steps.specs.Values.Filled.{RuleOf};
 ghost use Rattle.steps.specs.Values.Weights.{leafWeight, weigh, weightOf, sizeIn};
-use term::Part;
+use prepared::finding;
+use prepared::list_places;
+use prepared::sections;
 use term::Symbol;
 
 // "filled-in term over 256 symbols"; "Each tag counts as one symbol."
@@ -87,16 +91,16 @@ pub fn term_small(file: &[u8], arities: &[u8], at: usize, sizes: &[usize]) -> bo
 }
 
 // Whether all terms of the fact at a place are small enough.
-pub fn fact_small(file: &[u8], arities: &[u8], ars: &[u8], place: usize, sizes: &[usize]) -> bool
-    requires { ⌜ Asks (At (fact (now file) (now arities) (now ars)) place) × (length (now file) ≤ longest) × ((v : ℕ) → sizeIn (now sizes) v ≤ longest) ⌝ }
-    ensures { λ r. ⌜ Promises (At (fact (now (file .entry)) (now (arities .entry)) (now (ars .entry))) place) (λ (f : Fact). r ≡ factSmall (sizeIn (now (sizes .entry))) f) ⌝ }
+pub fn fact_small(p: &[u8], place: usize, sizes: &[usize]) -> bool
+    requires { ⌜ Asks (At (fact (now p) (slotsOf (now p)) (aritiesOf (now p))) place) × (length (now p) ≡ preparedLength) × ((v : ℕ) → sizeIn (now sizes) v ≤ longest) ⌝ }
+    ensures { λ r. ⌜ Promises (At (fact (now (p .entry)) (slotsOf (now (p .entry))) (aritiesOf (now (p .entry)))) place) (λ (f : Fact). r ≡ factSmall (sizeIn (now (sizes .entry))) f) ⌝ }
 {
-    let y = protocol::places::symbol_of(file, ars, place);
-    let n = ars[y] as usize;
+    let y = finding::symbol_of(p, place);
+    let n = finding::arity_of(p, y);
     let mut j: usize = 0;
     while j < n {
-        let at = protocol::places::term_at(file, arities, ars, place, j);
-        if term_small(file, arities, at, sizes) {
+        let at = finding::term_at(p, place, j);
+        if term_small(p, &p[..sections::ARITIES], at, sizes) {
             j += 1;
         } else {
             return false;
@@ -106,15 +110,15 @@ pub fn fact_small(file: &[u8], arities: &[u8], ars: &[u8], place: usize, sizes: 
 }
 
 // Whether all facts of the list at a place are.
-pub fn list_small(file: &[u8], arities: &[u8], ars: &[u8], place: usize, sizes: &[usize]) -> bool
-    requires { ⌜ Asks (At (facts (now file) (now arities) (now ars)) place) × (length (now file) ≤ longest) × ((v : ℕ) → sizeIn (now sizes) v ≤ longest) ⌝ }
-    ensures { λ r. ⌜ Promises (At (facts (now (file .entry)) (now (arities .entry)) (now (ars .entry))) place) (λ (fs : List Fact). r ≡ listSmall (sizeIn (now (sizes .entry))) fs) ⌝ }
+pub fn list_small(p: &[u8], place: usize, sizes: &[usize]) -> bool
+    requires { ⌜ Asks (At (facts (now p) (slotsOf (now p)) (aritiesOf (now p))) place) × (length (now p) ≡ preparedLength) × ((v : ℕ) → sizeIn (now sizes) v ≤ longest) ⌝ }
+    ensures { λ r. ⌜ Promises (At (facts (now (p .entry)) (slotsOf (now (p .entry))) (aritiesOf (now (p .entry)))) place) (λ (fs : List Fact). r ≡ listSmall (sizeIn (now (sizes .entry))) fs) ⌝ }
 {
-    let n = protocol::places::count_of(file, place);
+    let n = protocol::places::count_of(p, place);
     let mut j: usize = 0;
     while j < n {
-        let at = protocol::places::fact_at(file, arities, ars, place, j);
-        if fact_small(file, arities, ars, at, sizes) {
+        let at = finding::fact_at(p, place, j);
+        if fact_small(p, at, sizes) {
             j += 1;
         } else {
             return false;
@@ -123,41 +127,19 @@ pub fn list_small(file: &[u8], arities: &[u8], ars: &[u8], place: usize, sizes: 
     true
 }
 
-// Whether all terms of the rule at a place are: premises, actions, conclusions.
-pub fn rule_small(file: &[u8], arities: &[u8], ars: &[u8], place: usize, sizes: &[usize]) -> bool
-    requires { ⌜ Asks (At (rule (now file) (now arities) (now ars)) place) × (length (now file) ≤ longest) × ((v : ℕ) → sizeIn (now sizes) v ≤ longest) ⌝ }
-    ensures { λ r. ⌜ Promises (At (rule (now (file .entry)) (now (arities .entry)) (now (ars .entry))) place) (λ (u : Rule). r ≡ ruleSmall (sizeIn (now (sizes .entry))) u) ⌝ }
+// Whether all terms of the rule of a number are: premises, actions, conclusions.
+pub fn rule_small(p: &[u8], number: usize, sizes: &[usize]) -> bool
+    requires { ⌜ Asks₂ (RuleOf (now p) number) × ((v : ℕ) → sizeIn (now sizes) v ≤ longest) ⌝ }
+    ensures { λ r. ⌜ Promises₂ (RuleOf (now (p .entry)) number) (λ (P : Protocol) (u : Rule). r ≡ ruleSmall (sizeIn (now (sizes .entry))) u) ⌝ }
 {
     let mut j: usize = 0;
     while j < protocol::figures::LISTS {
-        let at = protocol::places::list_at(file, arities, ars, place, j);
-        if list_small(file, arities, ars, at, sizes) {
+        let at = list_places::list_place(p, number, j);
+        if list_small(p, at, sizes) {
             j += 1;
         } else {
             return false;
         }
     }
     true
-}
-
-// The sizes of k values from a place on, each into its entry.
-pub fn value_sizes(file: &[u8], arities: &[u8], at: usize, k: usize, sizes: &mut [usize])
-    requires { ⌜ (length (now file) ≤ longest) × (k ≤ length (now sizes)) ⌝ }
-    ensures kept { λ r. ⌜ length (now (sizes .exit)) ≡ length (now (sizes .entry)) ⌝ }
-    ensures told { λ r. ⌜ Promises₂ (ReadAs (many (term (now (file .entry)) (now (arities .entry))) k) at) (λ (vs : List Term) (e : ℕ). (j : ℕ) → j < k → getD (now (sizes .exit)) j 1 ≡ symbols (getD vs j noTerm)) ⌝ }
-{
-    let mut i = at;
-    let mut v: usize = 0;
-    while v < k {
-        match term::term_end(file, arities, i) {
-            Part::End(e, n) => {
-                sizes[v] = n;
-                i = e;
-                v += 1;
-            }
-            Part::Fault => {
-                return;
-            }
-        }
-    }
 }

@@ -1,29 +1,29 @@
 // The values of a node: what fits a variable (7).
 ghost use mathlib.Core.Path.{_≡_};
-ghost use mathlib.Core.Bool.{true};
 ghost use mathlib.Core.List.{List};
-ghost use Prim.Native.Nat.{ℕ, _≤_, _<_, _+_};
-ghost use lib.ListN.{length};
-ghost use Rattle.octets.specs.Limits.{longest};
+ghost use Prim.Native.Nat.{ℕ};
+ghost use lib.ListN.{getD};
 ghost use Rattle.term.specs.Term.{Term};
-ghost use Rattle.term.specs.Reader.{symbolAt, term};
-ghost use Rattle.protocol.specs.Protocol.{Rule, Protocol};
-ghost use Rattle.protocol.specs.Protocol.Walks.{sortsAt};
+ghost use Rattle.term.specs.Reader.{symbolAt};
+ghost use Rattle.protocol.specs.Protocol.{Protocol};
+ghost use Rattle.number.specs.Reading.{below};
 ghost use Rattle.protocol.specs.Places.{valueOf};
-ghost use Rattle.lists.specs.Asks.{Asks₂, Promises₂, Asks₃, Promises₃};
+ghost use Rattle.prepared.specs.Prepared.{placeAt};
+ghost use Rattle.lists.specs.Asks.{Asks, Promises, Asks₂, Promises₂};
 ghost use Rattle.lists.specs.Lists.{firstBad};
-ghost use Rattle.steps.specs.Nodes.{Node, mostNodes};
-ghost use Rattle.steps.specs.Values.Tests.{valueOk, valuesOk, nodeValuesOk};
-ghost use Rattle.steps.specs.Values.Loops.{behindOf, RuleHere, NodeAt, NodeFrom};
-ghost use Rattle.steps.specs.Values.Scan.{asFound, NodesAt};
-ghost use Rattle.steps.specs.Values.Code.{NameIs, ofName, ValueThere};
-use number::Number;
+ghost use Rattle.steps.specs.Nodes.{Node};
+ghost use Rattle.steps.specs.Table.{rowAt, heldAt, NodeIn, NodesIn};
+ghost use Rattle.steps.specs.Values.Tests.{valueOk, nodeValuesOk};
+ghost use Rattle.steps.specs.Values.Scan.{asFound};
+ghost use Rattle.protocol.specs.Figures.{messageSort, variableLimit};
+ghost use Rattle.steps.specs.Values.Code.{NameIs, ofFresh, ofPublic, FormRoom, GroundThere};
+use crate::nodes;
+use prepared::finding;
+use prepared::sections;
 use protocol::figures;
 use term::Fresh;
-use term::Part;
 use term::Public;
 use term::Symbol;
-use term::Walk;
 
 // "over 128 symbols"
 const MOST_IN_VALUE: usize = 128;
@@ -54,64 +54,85 @@ pub fn name_at(file: &[u8], arities: &[u8], at: usize) -> Name
     }
 }
 
-// "each sort (0 message, 1 fresh, 2 public)": what a name fits.
-fn of_sort(sort: usize, name: Name) -> bool
-    ensures { λ r. ⌜ r ≡ ofName sort name ⌝ }
+// "each sort (0 message, 1 fresh, 2 public)": whether a fresh name fits a variable of the sort.
+fn fresh_fits(sort: usize, name: Fresh) -> bool
+    ensures { λ r. ⌜ r ≡ ofFresh sort name ⌝ }
 {
-    if sort == figures::MESSAGE_SORT {
-        return true;
-    }
-    match name {
-        Name::FreshName(_) => sort == figures::FRESH_SORT,
-        Name::PublicName(_) => sort == figures::PUBLIC_SORT,
-        Name::Other => false,
-    }
+    (sort == figures::MESSAGE_SORT) | (sort == figures::FRESH_SORT)
 }
 
-// Whether the value at a place has no variable, fits the sort, has 128 symbols at most and is canonical.
-pub fn value_ok(file: &[u8], arities: &[u8], at: usize, sort: usize) -> bool
-    requires { ⌜ Asks₂ (ValueThere (now arities) (now file) at) ⌝ }
-    ensures { λ r. ⌜ Promises₂ (ValueThere (now (arities .entry)) (now (file .entry)) at) (λ (t : Term) (e : ℕ). r ≡ valueOk sort t) ⌝ }
+// Whether a public name does.
+fn public_fits(sort: usize, name: Public) -> bool
+    ensures { λ r. ⌜ r ≡ ofPublic sort name ⌝ }
 {
-    match term::walk_term(file, arities, at, term::VARIABLE, 0, number::NUMBER_LIMIT) {
-        Walk::End(_, n, held) => {
-            if held {
-                return false;
-            }
-            if MOST_IN_VALUE < n {
-                return false;
-            }
-            if of_sort(sort, name_at(file, arities, at)) {
-                return canonical::is_canonical(file, at, arities);
+    (sort == figures::MESSAGE_SORT) | (sort == figures::PUBLIC_SORT)
+}
+
+// Whether a value without variables, from a place up to another, has 128 symbols at most and is canonical. Its form is made in the output.
+fn message_ok(out: &mut [u8], s: &[u8], arities: &[u8], at: usize, end: usize, size: usize) -> bool
+    requires { ⌜ FormRoom (now out) × Asks (GroundThere (now arities) (now s) at end size) ⌝ }
+    ensures { λ r. ⌜ Promises (GroundThere (now (arities .entry)) (now (s .entry)) at end size) (λ (t : Term). r ≡ valueOk messageSort t) ⌝ }
+{
+    if MOST_IN_VALUE < size {
+        return false;
+    }
+    canonical::is_canonical(out, s, at, end, arities)
+}
+
+// Whether the value fits a variable of the sort. A name has no variable, is one symbol and is canonical.
+pub fn value_ok(
+    out: &mut [u8],
+    s: &[u8],
+    arities: &[u8],
+    at: usize,
+    end: usize,
+    size: usize,
+    sort: usize,
+) -> bool
+    requires { ⌜ FormRoom (now out) × Asks (GroundThere (now arities) (now s) at end size) ⌝ }
+    ensures { λ r. ⌜ Promises (GroundThere (now (arities .entry)) (now (s .entry)) at end size) (λ (t : Term). r ≡ valueOk sort t) ⌝ }
+{
+    match name_at(s, arities, at) {
+        Name::FreshName(f) => fresh_fits(sort, f),
+        Name::PublicName(f) => public_fits(sort, f),
+        Name::Other => {
+            if sort == figures::MESSAGE_SORT {
+                return message_ok(out, s, arities, at, end, size);
             }
             false
         }
-        Walk::Fault => false,
     }
 }
 
-// The place behind the value at a place.
-fn value_end(file: &[u8], arities: &[u8], at: usize) -> usize
-    requires { ⌜ length (now file) ≤ longest ⌝ }
-    ensures { λ r. ⌜ r ≡ behindOf at (term (now (file .entry)) (now (arities .entry)) at) ⌝ }
+// Whether the values of node j, which hold no variable, fit the k variables of its rule, which stands at a place.
+fn values_fit(
+    out: &mut [u8],
+    p: &[u8],
+    s: &[u8],
+    nodes: &[usize],
+    j: usize,
+    place: usize,
+    k: usize,
+) -> bool
+    requires { ⌜ FormRoom (now out) × Asks₂ (NodeIn (now p) (now s) (now nodes) j) × (place ≡ placeAt (now p) (getD (now nodes) (rowAt j) 0)) × (k ≡ valueOf (below (now p) variableLimit place)) × (getD (now nodes) (heldAt j) 0 ≡ 0) ⌝ }
+    ensures { λ r. ⌜ Promises₂ (NodeIn (now (p .entry)) (now (s .entry)) (now (nodes .entry)) j) (λ (P : Protocol) (x : Node). r ≡ nodeValuesOk P x) ⌝ }
 {
-    match term::term_end(file, arities, at) {
-        Part::End(e, _) => e,
-        Part::Fault => at,
-    }
-}
-
-// Whether the k values from a place on fit the variables of the rule at a place of src.
-fn values_fit(file: &[u8], arities: &[u8], at: usize, src: &[u8], place: usize, k: usize) -> bool
-    requires { ⌜ Asks₃ (RuleHere (now arities) (now file) (now src) place at) × (k ≡ valueOf (sortsAt (now src) place)) ⌝ }
-    ensures { λ r. ⌜ Promises₃ (RuleHere (now (arities .entry)) (now (file .entry)) (now (src .entry)) place at) (λ (u : Rule) (vs : List Term) (e : ℕ). r ≡ valuesOk (u .sorts) vs) ⌝ }
-{
-    let mut i = at;
+    let first = nodes::ROW * j + nodes::FIRST_PLACE;
+    let sizes = nodes::ROW * j + nodes::FIRST_SIZE;
     let mut v: usize = 0;
     while v < k {
-        let sort = protocol::places::sort_of(src, place, v as u32);
-        if value_ok(file, arities, i, sort) {
-            i = value_end(file, arities, i);
+        let sort = protocol::places::sort_of(p, place, v as u32);
+        let at = nodes[first + v];
+        let end = nodes[first + (v + 1)];
+        if value_ok(
+            out,
+            s,
+            &p[..sections::ARITIES],
+            at,
+            end,
+            nodes[sizes + v],
+            sort,
+        ) {
             v += 1;
         } else {
             return false;
@@ -120,60 +141,29 @@ fn values_fit(file: &[u8], arities: &[u8], at: usize, src: &[u8], place: usize, 
     true
 }
 
-// The values of a node whose rule number was read.
-fn values_of(
-    file: &[u8],
-    protocol: &[u8],
-    arities: &[u8],
-    rules: &[usize],
-    nr: usize,
-    number: usize,
-    at: usize,
-) -> bool
-    requires { ⌜ Asks₃ (NodeFrom (now protocol) (now arities) (now rules) nr (now file) number at) ⌝ }
-    ensures { λ r. ⌜ Promises₃ (NodeFrom (now (protocol .entry)) (now (arities .entry)) (now (rules .entry)) nr (now (file .entry)) number at) (λ (p : Protocol) (x : Node) (e : ℕ). r ≡ nodeValuesOk p x) ⌝ }
+// Whether the values of node j fit.
+fn node_values(out: &mut [u8], p: &[u8], s: &[u8], nodes: &[usize], j: usize) -> bool
+    requires { ⌜ FormRoom (now out) × Asks₂ (NodeIn (now p) (now s) (now nodes) j) ⌝ }
+    ensures { λ r. ⌜ Promises₂ (NodeIn (now (p .entry)) (now (s .entry)) (now (nodes .entry)) j) (λ (P : Protocol) (x : Node). r ≡ nodeValuesOk P x) ⌝ }
 {
-    let mut own = [0u8; rules::numbered::RULE_ROOM];
-    let found = rules::numbered::find_rule(arities, rules, nr, number, &mut own);
-    let src = rules::numbered::rule_part(protocol, &own, found);
-    let k = crate::nodes::own_variables(src);
-    values_fit(file, arities, at, src, 0, k)
-}
-
-// The values of the node at a place.
-fn node_values(
-    file: &[u8],
-    protocol: &[u8],
-    arities: &[u8],
-    rules: &[usize],
-    nr: usize,
-    place: usize,
-) -> bool
-    requires { ⌜ Asks₂ (NodeAt (now protocol) (now arities) (now rules) nr (now file) place) ⌝ }
-    ensures { λ r. ⌜ Promises₂ (NodeAt (now (protocol .entry)) (now (arities .entry)) (now (rules .entry)) nr (now (file .entry)) place) (λ (p : Protocol) (x : Node). r ≡ nodeValuesOk p x) ⌝ }
-{
-    match number::read_number(file, place) {
-        Number::Value(r, e) => values_of(file, protocol, arities, rules, nr, r as usize, e),
-        Number::Fault => true,
+    let row = nodes::ROW * j;
+    if nodes[row + nodes::HELD] != 0 {
+        return false;
     }
+    let place = finding::place_of(p, nodes[row]);
+    let k = protocol::places::variables_of(p, place);
+    values_fit(out, p, s, nodes, j, place, k)
 }
 
 // 7: the least node that has a value that does not fit; 0 where there is none.
-pub fn value_pass(
-    file: &[u8],
-    protocol: &[u8],
-    arities: &[u8],
-    rules: &[usize],
-    nr: usize,
-    nodes: &[usize],
-    n: usize,
-) -> usize
-    requires { ⌜ Asks₂ (NodesAt (now protocol) (now arities) (now rules) nr (now file) (now nodes) n) × (n ≤ mostNodes) × (n ≤ length (now nodes)) ⌝ }
-    ensures { λ r. ⌜ Promises₂ (NodesAt (now (protocol .entry)) (now (arities .entry)) (now (rules .entry)) nr (now (file .entry)) (now (nodes .entry)) n) (λ (p : Protocol) (xs : List Node). asFound r ≡ firstBad (λ (k : ℕ) (x : Node). nodeValuesOk p x) 1 xs) ⌝ }
+pub fn value_pass(p: &[u8], s: &[u8], nodes: &[usize], n: usize) -> usize
+    requires { ⌜ Asks₂ (NodesIn (now p) (now s) (now nodes) n) ⌝ }
+    ensures { λ r. ⌜ Promises₂ (NodesIn (now (p .entry)) (now (s .entry)) (now (nodes .entry)) n) (λ (P : Protocol) (xs : List Node). asFound r ≡ firstBad (λ (k : ℕ) (x : Node). nodeValuesOk P x) 1 xs) ⌝ }
 {
+    let mut out = [0u8; canonical::FORM_ROOM];
     let mut j: usize = 0;
     while j < n {
-        if node_values(file, protocol, arities, rules, nr, nodes[j]) {
+        if node_values(&mut out, p, s, nodes, j) {
             j += 1;
         } else {
             return j + 1;

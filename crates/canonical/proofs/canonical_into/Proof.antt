@@ -1,6 +1,6 @@
-use Rattle.canonical.proofs.Lent.{part-ready, part-ends, part-done}
-use denote.Ref.{now}
 use native.Mathlib.Omega.{arith}
+use denote.Ref.{now}
+use Rattle.canonical.proofs.Lent.{part-ready, part-ends, part-done}
 use borrow.Author.Needs.{needs}
 use Rattle.canonical.proofs.canonical_into.Statement.{statement}
 use Rattle.canonical.proofs.canonical_into.Tie as tie
@@ -19,8 +19,8 @@ make-requires c κs =
     let c6 = c .before .before .before .before .before .before in
     part-ready _ _ _ _ _ _ (now (c6 .args .out)) _ (c6 .pre)
 
-add-t11 : tie.Need-add-t11
-add-t11 c =
+add-t12 : tie.Need-add-t12
+add-t12 c =
     let c3 = c .before .before .before in
     let c10 = c3 .before .before .before .before .before .before .before in
     let q = part-ends _ _ _ _ _ _ (now (c10 .args .out)) _ _ _ _ (c3 .make .ensures) (c10 .pre) in omega (arith, q .0, q .1)
@@ -37,4 +37,4 @@ returns c =
 pub canonical-into-spec : {M : Type 1} → statement M
 canonical-into-spec =
     tie.close
-    (tie.spec sub-make part-make-start part-make-end make-requires add-t11 same-length returns)
+    (tie.spec sub-make part-make-start part-make-end make-requires add-t12 same-length returns)

@@ -1,5 +1,4 @@
 use Rattle.canonical.proofs.Messages.{message-ready, message-canon}
-use native.Mathlib.Omega.{arith}
 use borrow.Author.Needs.{needs}
 use Rattle.canonical.proofs.canonical_term.Statement.{statement}
 use Rattle.canonical.proofs.canonical_term.Tie as tie
@@ -9,12 +8,17 @@ slice-aggregate-canonical-into c = search needs
 
 canonical-into-requires : tie.Need-canonical-into-requires
 canonical-into-requires c κs =
-    message-ready _ _ _ _ (c .before .before .before .before .pre) _ (omega arith)
+    let c5 = c .before .before .before .before .before in
+    message-ready _ _ _ _ (c5 .pre .2) _ (c5 .pre .0) (c5 .pre .1)
+
+same-length : tie.Need-same-length
+same-length c = search needs
 
 returns : tie.Need-returns
 returns c =
-    message-canon _ _ _ _ _ _ _ _ (omega arith) (c .canonical-into .ensures)
+    let c8 = c .before .before .before .before .before .before .before .before in
+    message-canon _ _ _ _ _ _ _ _ (c8 .pre .0) (c8 .pre .1) (c .before .before .canonical-into .ensures)
 
 pub canonical-term-spec : {M : Type 1} → statement M
 canonical-term-spec =
-    tie.close (tie.spec slice-aggregate-canonical-into canonical-into-requires returns)
+    tie.close (tie.spec slice-aggregate-canonical-into canonical-into-requires same-length returns)

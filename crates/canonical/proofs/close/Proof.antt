@@ -1,5 +1,5 @@
-use Rattle.canonical.proofs.Closing.{inner-done, product-asks, product-done, other-done}
 use mathlib.Core.Path.{sym, _∙_}
+use Rattle.canonical.proofs.Closing.{inner-done, product-asks, product-done, other-done}
 use borrow.Author.Needs.{needs}
 use Rattle.canonical.proofs.close.Statement.{statement}
 use Rattle.canonical.proofs.close.Tie as tie

@@ -1,4 +1,4 @@
-use Rattle.canonical.proofs.Closing.{as-tag, by-tag, exp-asks, exp-done, free-done}
+use Rattle.canonical.proofs.Closing.{as-tag, by-tag, exp-asks, exp-done, in-place, free-done}
 use borrow.Author.Needs.{needs}
 use Rattle.canonical.proofs.reduce.Statement.{statement}
 use Rattle.canonical.proofs.reduce.Tie as tie
@@ -12,7 +12,7 @@ same-length c = search needs
 
 returns : tie.Need-returns
 returns c =
-    by-tag _ _ _ _ _ 5 (c .before .before .before .before .if1 .taken) _ _ (c .before .before .unlock .ensures)
+    by-tag _ _ _ _ _ 5 (c .before .before .before .before .if1 .taken) _ _ (in-place _ _ _ _ 5 _ _ (c .before .before .unlock .ensures))
 
 left-requires : tie.Need-left-requires
 left-requires c κs =
@@ -23,7 +23,7 @@ same-length-2 c = search needs
 
 returns-2 : tie.Need-returns-2
 returns-2 c =
-    by-tag _ _ _ _ _ 8 (c .before .before .before .before .if2 .taken) _ _ (c .before .before .left .ensures)
+    by-tag _ _ _ _ _ 8 (c .before .before .before .before .if2 .taken) _ _ (in-place _ _ _ _ 8 _ _ (c .before .before .left .ensures))
 
 right-requires : tie.Need-right-requires
 right-requires c κs =
@@ -34,7 +34,7 @@ same-length-3 c = search needs
 
 returns-3 : tie.Need-returns-3
 returns-3 c =
-    by-tag _ _ _ _ _ 9 (c .before .before .before .before .if3 .taken) _ _ (c .before .before .right .ensures)
+    by-tag _ _ _ _ _ 9 (c .before .before .before .before .if3 .taken) _ _ (in-place _ _ _ _ 9 _ _ (c .before .before .right .ensures))
 
 exponent-requires : tie.Need-exponent-requires
 exponent-requires c κs =

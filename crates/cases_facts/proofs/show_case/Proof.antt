@@ -1,22 +1,22 @@
-use denote.Ref.{now}
+use borrow.Author.Needs.{needs}
 use Rattle.case_nodes.specs.Good.{WhereGood}
 use mathlib.Core.Path.{subst}
-use borrow.Author.Needs.{needs}
+use denote.Ref.{now}
 use Rattle.cases_facts.proofs.show_case.Statement.{statement}
 use Rattle.cases_facts.proofs.show_case.Tie as tie
 
 rule-case-requires : tie.Need-rule-case-requires
 rule-case-requires c κs = search needs
 
-enum-known-counts : tie.Need-enum-known-counts
-enum-known-counts c = search needs
+enum-known-n : tie.Need-enum-known-n
+enum-known-n c = search needs
 
 show-nodes-requires : tie.Need-show-nodes-requires
 show-nodes-requires c κs =
-    let c5 = c .before .before .before .before .before in
-    let c7 = c5 .before .before in
-    let c14 = c7 .before .before .before .before .before .before .before in
-    (search needs, subst (WhereGood (now (c14 .args .protocol)) _ _ _ _ _) (c5 .counts .given .1) (c7 .rule-case .ensures))
+    let c3 = c .before .before .before in
+    let c5 = c3 .before .before in
+    let c10 = c5 .before .before .before .before .before in
+    subst (WhereGood _ (now (c10 .args .list)) _) (c3 .n .given .1) (c5 .rule-case .ensures)
 
 enum-known-number : tie.Need-enum-known-number
 enum-known-number c = search needs
@@ -35,7 +35,7 @@ show-case-spec =
     tie.close
     (tie.spec
     rule-case-requires
-    enum-known-counts
+    enum-known-n
     show-nodes-requires
     enum-known-number
     show-refusal-requires

@@ -1,19 +1,9 @@
-use lib.Seq.{length-take-le}
-use mathlib.Core.Path.{sym}
-use native.Mathlib.Omega.{arith}
 use borrow.Author.Needs.{needs}
 use Rattle.cases_facts.proofs.show_nodes.Statement.{statement}
 use Rattle.cases_facts.proofs.show_nodes.Tie as tie
 
-slice-aggregate-ars : tie.Need-slice-aggregate-ars
-slice-aggregate-ars c =
-    sym (length-take-le _ _ (omega arith))
-
 facts-of-requires : tie.Need-facts-of-requires
-facts-of-requires c κs =
-    let q = c .before .before .before .before .before .before .before .pre in
-    let index = q .1 .index in
-    ((index .given .0, record { index = index .given .1; good = q .1 .good; short = omega (arith, q .0) }), index .table, search needs)
+facts-of-requires c κs = search needs
 
 slice-aggregate-show-facts : tie.Need-slice-aggregate-show-facts
 slice-aggregate-show-facts c = search needs
@@ -21,15 +11,17 @@ slice-aggregate-show-facts c = search needs
 show-facts-requires : tie.Need-show-facts-requires
 show-facts-requires c κs =
     let c3 = c .before .before .before in
-    let c11 = c3 .before .before .before .before .before .before .before .before in
-    let index = c11 .pre .1 .index in
-    (c3 .facts-of .ensures, index .table, search needs)
+    let c7 = c3 .before .before .before .before in
+    (c3 .facts-of .ensures, c7 .pre, search needs)
 
 show-bar-requires : tie.Need-show-bar-requires
 show-bar-requires c κs = search needs
 
 arguments-of-requires : tie.Need-arguments-of-requires
-arguments-of-requires c κs = search needs
+arguments-of-requires c κs =
+    let c8 = c .before .before .before .before .before .before .before .before in
+    let c12 = c8 .before .before .before .before in
+    (c12 .pre, c8 .facts-of .ensures)
 
 slice-aggregate-show-arguments : tie.Need-slice-aggregate-show-arguments
 slice-aggregate-show-arguments c = search needs
@@ -37,9 +29,8 @@ slice-aggregate-show-arguments c = search needs
 show-arguments-requires : tie.Need-show-arguments-requires
 show-arguments-requires c κs =
     let c3 = c .before .before .before in
-    let c20 = c3 .before .before .before .before .before .before .before .before .before .before .before .before .before .before .before .before .before in
-    let index = c20 .pre .1 .index in
-    (c3 .arguments-of .ensures, index .table, search needs)
+    let c16 = c3 .before .before .before .before .before .before .before .before .before .before .before .before .before in
+    (c3 .arguments-of .ensures, c16 .pre, search needs)
 
 show-bar-requires-2 : tie.Need-show-bar-requires-2
 show-bar-requires-2 c κs = search needs
@@ -50,9 +41,8 @@ slice-aggregate-show-names c = search needs
 show-names-requires : tie.Need-show-names-requires
 show-names-requires c κs =
     let c9 = c .before .before .before .before .before .before .before .before .before in
-    let c26 = c9 .before .before .before .before .before .before .before .before .before .before .before .before .before .before .before .before .before in
-    let index = c26 .pre .1 .index in
-    (c9 .arguments-of .ensures, index .table, search needs)
+    let c22 = c9 .before .before .before .before .before .before .before .before .before .before .before .before .before in
+    (c9 .arguments-of .ensures, c22 .pre, search needs)
 
 returns : tie.Need-returns
 returns c = search needs
@@ -61,7 +51,6 @@ pub show-nodes-spec : {M : Type 1} → statement M
 show-nodes-spec =
     tie.close
     (tie.spec
-    slice-aggregate-ars
     facts-of-requires
     slice-aggregate-show-facts
     show-facts-requires

@@ -1,7 +1,7 @@
-use denote.Ref.{now}
-use mathlib.Core.Path.{sym, _∙_}
-use Rattle.checker.specs.Files.{termRuling}
 use Rattle.checker.specs.Canonical.Inside.{holds-term, no-layout, too-large, form-of, judges-refused, judges-formed}
+use Rattle.checker.specs.Files.{termRuling}
+use mathlib.Core.Path.{sym, _∙_}
+use denote.Ref.{now}
 use borrow.Author.Needs.{needs}
 use Rattle.checker.proofs.under_protocol.Statement.{statement}
 use Rattle.checker.proofs.under_protocol.Tie as tie
@@ -14,11 +14,10 @@ enum-told c = search needs
 
 write-form-requires : tie.Need-write-form-requires
 write-form-requires c κs =
-    let c3 = c .before .before .before in
-    let c7 = c3 .before .before .before .before in
-    let p = c7 .pre in
-    let h = holds-term (now (c7 .args .arities)) (now (c7 .args .term)) (sym (c3 .term-file .ensures) ∙ c .before .enum-told .given .1) in
-    (p .0, h .term, form-of (now (c7 .args .arities)) (now (c7 .args .term)) (p .0) (p .1) h)
+    let c4 = c .before .before .before .before in
+    let c9 = c4 .before .before .before .before .before in
+    let h = holds-term (now (c9 .args .arities)) (now (c9 .args .term)) (sym (c4 .term-file .ensures) ∙ c .before .before .enum-told .given .1) in
+    (c9 .pre .0, (c9 .pre .1 .0, h .term, form-of (now (c9 .args .arities)) (now (c9 .args .term)) (c9 .pre .1 .0) (c9 .pre .1 .1) h))
 
 enum-told-2 : tie.Need-enum-told-2
 enum-told-2 c = search needs
@@ -35,28 +34,32 @@ refused-requires-2 c κs = search needs
 same-length : tie.Need-same-length
 same-length c = search needs
 
+same-length-2 : tie.Need-same-length-2
+same-length-2 c = search needs
+
 returns : tie.Need-returns
 returns c =
     let c4 = c .before .before .before .before in
-    let c6 = c4 .before .before in
-    let c10 = c6 .before .before .before .before in
-    λ free u. let h = holds-term (now (c10 .args .arities)) (now (c10 .args .term)) (sym (c6 .term-file .ensures) ∙ c4 .enum-told .given .1) in
-    judges-formed (termRuling (now (c10 .args .arities)) (now (c10 .args .term))) (h .term) (now (c10 .args .output)) _ (c .before .before .write-form .result)
-    (h .is) (c .before .before .write-form .ensures free (h .term) (form-of (now (c10 .args .arities)) (now (c10 .args .term)) free u h))
+    let c7 = c4 .before .before .before in
+    let c9 = c7 .before .before in
+    let c14 = c9 .before .before .before .before .before in
+    λ free u. let h = holds-term (now (c14 .args .arities)) (now (c14 .args .term)) (sym (c9 .term-file .ensures) ∙ c7 .enum-told .given .1) in
+    judges-formed (termRuling (now (c14 .args .arities)) (now (c14 .args .term))) (h .term) (now (c14 .args .output)) _ (c4 .write-form .result)
+    (h .is) (c4 .write-form .ensures free (h .term) (form-of (now (c14 .args .arities)) (now (c14 .args .term)) free u h))
 
 returns-2 : tie.Need-returns-2
 returns-2 c =
     let c3 = c .before .before .before in
-    let c7 = c3 .before .before .before .before in
-    λ free u. judges-refused (termRuling (now (c7 .args .arities)) (now (c7 .args .term))) 3 4 (now (c7 .args .output)) (c .refused .result)
-    (no-layout (now (c7 .args .arities)) (now (c7 .args .term)) (sym (c3 .term-file .ensures) ∙ c .before .enum-told2 .given .1)) (c .refused .ensures)
+    let c8 = c3 .before .before .before .before .before in
+    λ free u. judges-refused (termRuling (now (c8 .args .arities)) (now (c8 .args .term))) 3 4 (now (c8 .args .output)) (c .refused .result)
+    (no-layout (now (c8 .args .arities)) (now (c8 .args .term)) (sym (c3 .term-file .ensures) ∙ c .before .enum-told2 .given .1)) (c .refused .ensures)
 
 returns-3 : tie.Need-returns-3
 returns-3 c =
     let c3 = c .before .before .before in
-    let c7 = c3 .before .before .before .before in
-    λ free u. judges-refused (termRuling (now (c7 .args .arities)) (now (c7 .args .term))) 8 0 (now (c7 .args .output)) (c .refused2 .result)
-    (too-large (now (c7 .args .arities)) (now (c7 .args .term)) (sym (c3 .term-file .ensures) ∙ c .before .enum-told3 .given .1)) (c .refused2 .ensures)
+    let c8 = c3 .before .before .before .before .before in
+    λ free u. judges-refused (termRuling (now (c8 .args .arities)) (now (c8 .args .term))) 8 0 (now (c8 .args .output)) (c .refused2 .result)
+    (too-large (now (c8 .args .arities)) (now (c8 .args .term)) (sym (c3 .term-file .ensures) ∙ c .before .enum-told3 .given .1)) (c .refused2 .ensures)
 
 pub under-protocol-spec : {M : Type 1} → statement M
 under-protocol-spec =
@@ -70,6 +73,7 @@ under-protocol-spec =
     enum-told-3
     refused-requires-2
     same-length
+    same-length-2
     returns
     returns-2
     returns-3)

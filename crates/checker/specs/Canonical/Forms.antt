@@ -5,6 +5,7 @@ use mathlib.Core.Path.{_≡_, refl, ap, sym, _∙_, subst}
 use native.Mathlib.Omega.{arith}
 use lib.ListN.{length, take}
 use Rattle.term.specs.Sizes.{mostSymbols}
+use Rattle.lists.specs.Asks.{Asks, Asks₂, Promises}
 use Rattle.lists.specs.Choice.{by-size}
 use Rattle.octets.specs.Head.{Stands, stands-part, stands-within}
 use Rattle.octets.specs.Splice.{splice}
@@ -43,7 +44,7 @@ module _ (arities term free : List ℕ) (t : Term) (h : Form arities term free t
   table = subst Builtins (sym (h .table)) (declared free)
 
   -- the file holds a message
-  pub message-at : MessageAt arities term 0 t
+  message-at : MessageAt arities term 0 t
   message-at = record {
     table = table;
     formed = is-term .formed;
@@ -56,18 +57,18 @@ module _ (arities term free : List ℕ) (t : Term) (h : Form arities term free t
   }
 
   -- its canonical form is no longer than the file
-  pub form-bound : need t ≤ termLimit
+  form-bound : need t ≤ termLimit
   form-bound =
       omega (arith, h .short, ap length (is-term .bytes), fewer-bytes (arity arities) (group arities table) t (is-term .formed))
 
 module _ (t : Term) (out : List ℕ) (r : ℕ) (stands : Stands out 0 (encode (canon t)) r) where
-  pub form-length : r ≡ need t
+  form-length : r ≡ need t
   form-length = omega (arith, stands .ends)
 
-  pub form-within : r ≤ length out
+  form-within : r ≤ length out
   form-within = stands-within stands (encode-some (canon t))
 
-  pub form-bytes : take r out ≡ encode (canon t)
+  form-bytes : take r out ≡ encode (canon t)
   form-bytes = ap (λ (k : ℕ). take k out) (let e : r ≡ r - 0 = omega arith in e) ∙ stands-part stands
 
   -- ── what becomes of the output ──
@@ -88,3 +89,17 @@ module _ (t : Term) (out : List ℕ) (r : ℕ) (stands : Stands out 0 (encode (c
         answer = ap {B = Ruling ℕ} passed form-length ∙ sym q;
         left = ap (splice output 0) form-bytes ∙ sym (ap (λ (x : Ruling ℕ). outputAfter x (formOf (passed t)) output) q);
       }
+
+-- ── the form that was made of the file's term ──
+module _ (arities term out : List ℕ) (r : ℕ) (made : Promises (MessageAt arities term 0) (λ (t : Term). Stands out 0 (encode (canon t)) r)) where
+  pub form-stands : (free : List ℕ) (t : Term) → Form arities term free t → Stands out 0 (encode (canon t)) r
+  form-stands free t h = made t (message-at arities term free t h)
+
+  -- it is short, and within the room that it was made in
+  pub form-fits : Asks₂ (Form arities term) → (r ≤ termLimit) × (r ≤ length out)
+  form-fits (free, t, h) =
+      let s = form-stands free t h in
+      (omega (arith, form-length t out r s, form-bound arities term free t h), form-within t out r s)
+
+pub message-asks : (arities term : List ℕ) → Asks₂ (Form arities term) → Asks (MessageAt arities term 0)
+message-asks arities term (free, t, h) = (t, message-at arities term free t h)

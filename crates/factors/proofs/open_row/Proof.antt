@@ -1,14 +1,14 @@
 use borrow.Author.Needs.{needs}
-use mathlib.Core.Path.{refl}
-use Prim.Native.Nat.{_≤_}
-use native.Mathlib.Omega.{arith}
 use Rattle.factors.proofs.EnterPaths.{Moving, moving-first, moving-next, moved}
+use native.Mathlib.Omega.{arith}
+use Prim.Native.Nat.{_≤_}
+use mathlib.Core.Path.{refl}
 use Rattle.factors.proofs.open_row.Statement.{statement}
 use Rattle.factors.proofs.open_row.Tie as tie
 
 abbrev Inv-loop : tie.InvT-loop
 Inv-loop a₀ i n j₀ a j =
-    (i ≤ j) × Moving 0 a₀ a j n
+    (i ≤ j) × Moving 0 2 a₀ a j n
 
 abbrev μ-loop : tie.MeasureT-loop
 μ-loop a₀ i n j₀ a j =
@@ -16,10 +16,10 @@ abbrev μ-loop : tie.MeasureT-loop
 
 loop-holds : tie.Need-loop-holds Inv-loop μ-loop
 loop-holds c =
-    (c .pre .0, moving-first 0 _ _)
+    (c .pre .0, moving-first 0 2 (omega arith) _ _)
 
-sub-x : tie.Need-sub-x Inv-loop μ-loop
-sub-x c = search needs
+sub-j : tie.Need-sub-j Inv-loop μ-loop
+sub-j c = search needs
 
 mul-x : tie.Need-mul-x Inv-loop μ-loop
 mul-x c = search needs
@@ -28,6 +28,9 @@ slice-read-x : tie.Need-slice-read-x Inv-loop μ-loop
 slice-read-x c =
     omega (arith, c .before .before .loop .inv .1 .long, c .before .before .loop .inv .1 .low)
 
+add-a : tie.Need-add-a Inv-loop μ-loop
+add-a c = search needs
+
 mul-a : tie.Need-mul-a Inv-loop μ-loop
 mul-a c = search needs
 
@@ -35,15 +38,12 @@ slice-write-a : tie.Need-slice-write-a Inv-loop μ-loop
 slice-write-a c =
     omega (arith, c .before .before .loop .inv .1 .long, c .before .before .loop .inv .1 .low)
 
-sub-j : tie.Need-sub-j Inv-loop μ-loop
-sub-j c = search needs
-
 loop-less : tie.Need-loop-less Inv-loop μ-loop
 loop-less c = search needs
 
 loop-again : tie.Need-loop-again Inv-loop μ-loop
 loop-again c =
-    (omega arith, moving-next 0 _ _ _ _ _ refl (omega arith) (c .before .before .before .pre .1) (c .before .before .loop .inv .1))
+    (omega arith, moving-next 0 2 (omega arith) _ _ _ _ _ refl (omega arith) (c .before .before .before .pre .1) (c .before .before .loop .inv .1))
 
 same-length : tie.Need-same-length Inv-loop μ-loop
 same-length c =
@@ -51,7 +51,7 @@ same-length c =
 
 returns : tie.Need-returns Inv-loop μ-loop
 returns c =
-    moved 0 _ _ _ _ _ (c .before .loop .inv .0) (c .loop-test .left) (c .before .loop .inv .1)
+    moved 0 2 (omega arith) _ _ _ _ _ (c .before .loop .inv .0) (c .loop-test .left) (c .before .loop .inv .1)
 
 pub open-row-spec : {M : Type 1} → statement M
 open-row-spec =
@@ -60,12 +60,12 @@ open-row-spec =
     Inv-loop
     μ-loop
     loop-holds
-    sub-x
+    sub-j
     mul-x
     slice-read-x
+    add-a
     mul-a
     slice-write-a
-    sub-j
     loop-less
     loop-again
     same-length

@@ -1,17 +1,19 @@
--- The first of some terms, the others, the arguments of a term.
+-- The first of some terms, the others, the arguments of a term, terms behind others.
 use Prim.Native.Nat.{ℕ, _+_, _≤_, _<_}
-use mathlib.Core.Path.{_≡_, ap, sym, _∙_}
+use mathlib.Core.Path.{_≡_, refl, ap, sym, _∙_, subst}
 use mathlib.Core.List.{List, [], _++_, append-nil, append-assoc}
+use mathlib.Core.Option.{Option}
 use native.Mathlib.Omega.{arith}
 use lib.ListN.{length, drop}
-use Rattle.octets.specs.Head.{Bytes, stands-at, stands-within, stands-join, behind}
-use Rattle.term.specs.Term.{Term, app, Terms, nil, _&_, encode, encodes}
+use Rattle.octets.specs.Head.{Bytes, Stands, stands-at, stands-within, stands-join, behind}
+use Rattle.term.specs.Term.{Term, leaf, app, Terms, nil, _&_, count, encode, encodes, symbols, symbolss, Formeds, InRanges}
+use Rattle.term.specs.Arity.{arity}
 use Rattle.number.specs.Groups.{groups}
 use Rattle.term.specs.Term.Laws.{encode-some}
 use Rattle.term.specs.Reader.{term}
 use Rattle.term.specs.Reader.Exact.{term-back, behind-tag}
 use Rattle.term.specs.Walk.{bytesOf}
-use Rattle.factors.specs.Laid.{Laid, OneAt}
+use Rattle.factors.specs.Laid.{Laid, OneAt, also}
 
 module _ {arities src : List ℕ} {at : ℕ} where
   -- ── the first and the others ──
@@ -67,3 +69,44 @@ args-of {src = src} {at} {e} {f} {ts} O = record {
   range = O .range .1;
   there = stands-at src (at + length (groups f)) (encodes ts) (drop e src) (behind-tag src f ts at (drop e src) (O .there .there));
 }
+
+-- ── some terms and others behind them ──
+pub also-count : (ts us : Terms) → count (also ts us) ≡ count ts + count us
+also-count nil us = omega arith
+also-count (t & ts) us = omega (arith, also-count ts us)
+
+pub also-symbols : (ts us : Terms) → symbolss (also ts us) ≡ symbolss ts + symbolss us
+also-symbols nil us = omega arith
+also-symbols (t & ts) us = omega (arith, also-symbols ts us)
+
+pub also-bytes : (ts us : Terms) → encodes (also ts us) ≡ encodes ts ++ encodes us
+also-bytes nil us = refl
+also-bytes (t & ts) us = ap (λ (x : List ℕ). encode t ++ x) (also-bytes ts us) ∙ sym (append-assoc (encode t) (encodes ts) (encodes us))
+
+also-formed : (ar : ℕ → Option ℕ) (ts us : Terms) → Formeds ar ts → Formeds ar us → Formeds ar (also ts us)
+also-formed ar nil us a b = b
+also-formed ar (t & ts) us a b = (a .0, also-formed ar ts us (a .1) b)
+
+also-range : (ts us : Terms) → InRanges ts → InRanges us → InRanges (also ts us)
+also-range nil us a b = b
+also-range (t & ts) us a b = (a .0, also-range ts us (a .1) b)
+
+pub laid-also :
+    {arities src : List ℕ} {at e : ℕ} (ts us : Terms) → Laid arities src at ts → at + length (encodes ts) ≡ e → Laid arities src e us
+    → Laid arities src at (also ts us)
+laid-also {arities} {src} {at} {e} ts us A q B = record {
+  formed = also-formed (arity arities) ts us (A .formed) (B .formed);
+  range = also-range ts us (A .range) (B .range);
+  there =
+      let j = stands-join (A .there) (subst (λ (i : ℕ). Stands src i (encodes us) (i + length (encodes us))) (sym q) (B .there)) in
+      stands-at src at (encodes (also ts us)) (drop (at + length (encodes ts) + length (encodes us)) src) (rw (also-bytes ts us) (j .there));
+}
+
+-- a term has a symbol, and so have some terms each
+pub some-symbol : (t : Term) → 0 < symbols t
+some-symbol (leaf k n) = omega arith
+some-symbol (app f ts) = omega arith
+
+pub count-symbols : (ts : Terms) → count ts ≤ symbolss ts
+count-symbols nil = omega arith
+count-symbols (t & ts) = omega (arith, some-symbol t, count-symbols ts)

@@ -21,29 +21,29 @@ use Rattle.facts.specs.Calls.{factAt, argumentAt, Compared}
 
 -- ── facts ──
 pub same-by-bytes :
-    (p : Protocol) (f g : Fact) → FactFormed p f → FactFormed p g → (r : Both) → Compared want.All f want.All g r
+    (P : Protocol) (f g : Fact) → FactFormed P f → FactFormed P g → (r : Both) → Compared want.All f want.All g r
     → (r .symbols && r .bytes) ≡ sameFact f g
-same-by-bytes p f g a b r h = ap₂ _&&_ (h .symbols) (h .bytes) ∙ fact-by-bytes p f g a b
+same-by-bytes P f g a b r h = ap₂ _&&_ (h .symbols) (h .bytes) ∙ fact-by-bytes P f g a b
 
 -- ── arguments ──
 one-bytes : (f : Fact) (j : ℕ) → wantedBytes (want.One j) f ≡ encode (canon (getD (f .terms) j noTerm))
 one-bytes f j = append-nil (encode (canon (getD (f .terms) j noTerm)))
 
-module _ (p : Protocol) (a : FactId) (i : ℕ) (x : Node) where
+module _ (P : Protocol) (a : FactId) (i : ℕ) (x : Node) where
   pub arguments-test :
       (b : FactId) (j : ℕ) (y : Node) (r : Both)
-      → Compared (want.One i) (factAt p (a .list) (a .number) x) (want.One j) (factAt p (b .list) (b .number) y) r
-      → r .bytes ≡ sameTerm (argumentAt p (a .list) (a .number) i x) (argumentAt p (b .list) (b .number) j y)
+      → Compared (want.One i) (factAt P (a .list) (a .number) x) (want.One j) (factAt P (b .list) (b .number) y) r
+      → r .bytes ≡ sameTerm (argumentAt P (a .list) (a .number) i x) (argumentAt P (b .list) (b .number) j y)
   arguments-test b j y r h =
       h .bytes
-      ∙ ap₂ (λ (l m : List ℕ). isEqual (compareBytes l m)) (one-bytes (factAt p (a .list) (a .number) x) i) (one-bytes (factAt p (b .list) (b .number) y) j)
-      ∙ term-by-bytes (argumentAt p (a .list) (a .number) i x) (argumentAt p (b .list) (b .number) j y)
+      ∙ ap₂ (λ (l m : List ℕ). isEqual (compareBytes l m)) (one-bytes (factAt P (a .list) (a .number) x) i) (one-bytes (factAt P (b .list) (b .number) y) j)
+      ∙ term-by-bytes (argumentAt P (a .list) (a .number) i x) (argumentAt P (b .list) (b .number) j y)
 
   -- a name is its own canonical form
   pub public-test :
-      (n : ℕ) (r : Bool) → r ≡ isEqual (compareBytes (wantedBytes (want.One i) (factAt p (a .list) (a .number) x)) (encode (leaf public n)))
-      → r ≡ sameTerm (argumentAt p (a .list) (a .number) i x) (leaf public n)
+      (n : ℕ) (r : Bool) → r ≡ isEqual (compareBytes (wantedBytes (want.One i) (factAt P (a .list) (a .number) x)) (encode (leaf public n)))
+      → r ≡ sameTerm (argumentAt P (a .list) (a .number) i x) (leaf public n)
   public-test n r h =
       h
-      ∙ ap (λ (l : List ℕ). isEqual (compareBytes l (encode (leaf public n)))) (one-bytes (factAt p (a .list) (a .number) x) i)
-      ∙ term-by-bytes (argumentAt p (a .list) (a .number) i x) (leaf public n)
+      ∙ ap (λ (l : List ℕ). isEqual (compareBytes l (encode (leaf public n)))) (one-bytes (factAt P (a .list) (a .number) x) i)
+      ∙ term-by-bytes (argumentAt P (a .list) (a .number) i x) (leaf public n)

@@ -4,7 +4,6 @@ use mathlib.Core.List.{List}
 use mathlib.Core.Bool.{true}
 use mathlib.Core.Logic.{_↔_}
 use mathlib.Core.Path.{_≡_}
-use Rattle.octets.specs.Head.{Bytes}
 use Rattle.lists.specs.All.{All}
 use Rattle.term.specs.Term.{public, leaf, Formed}
 use Rattle.term.specs.Arity.{arity, tagArities}
@@ -12,59 +11,54 @@ use Rattle.message.specs.Promise.{Message, SameMessage, publicName}
 use Rattle.message.specs.Substitution.{Ground}
 use Rattle.message.specs.Theorems.{declared}
 use Rattle.protocol.specs.Protocol.{Fact, Protocol, noFact}
-use Rattle.protocol.specs.Protocol.Limits.{Within}
-use Rattle.steps.specs.Nodes.{Node, NodeWithin}
+use Rattle.steps.specs.Nodes.{Node}
 use Rattle.lists.specs.All.Laws.{all-inside}
 use Rattle.steps.specs.Facts.{factsOf, sameFact, sameTerm, SameFact}
-use Rattle.steps.specs.Facts.Formed.{FactFormed, facts-formed, formed-decides, node-ground, facts-ground}
+use Rattle.steps.specs.Facts.Formed.{FactFormed, formed-decides, node-ground, facts-ground}
 use Rattle.steps.specs.Facts.Laws.{term-decides}
 use Rattle.steps.specs.Values.Parts.{noTerm}
 use Rattle.facts.specs.declared.writing.Wanted.{Wanted}
-use Rattle.facts.specs.declared.writing.Wanted.the-variants as want
 use Rattle.facts.specs.declared.nodes.FactId.{FactId}
-use Rattle.facts.specs.Calls.{factAt, argumentAt, FactOf}
-use Rattle.facts.specs.Calls.Laws.{fact-within}
+use Rattle.facts.specs.Calls.{factAt, argumentAt, FactIn, WholeFact, OneOf}
+use Rattle.facts.specs.Calls.Laws.{fact-listed, listed-formed}
 
-module _ (p : Protocol) (file : List ℕ) (fit : Within p) (bytes : Bytes file) where
-  module _ (a : FactId) (q : Wanted) (x : Node) (f : FactOf p file a q x) where
-    within : NodeWithin p x
-    within = fact-within p file bytes a q x f
+module _ {p s nodes : List ℕ} {P : Protocol} where
+  module _ {a : FactId} {q : Wanted} {x : Node} (f : FactIn p s nodes a q P x) where
+    pub fact-formed : FactFormed P (factAt P (a .list) (a .number) x)
+    fact-formed = listed-formed (fact-listed f)
 
-    pub fact-of-formed : FactFormed p (factAt p (a .list) (a .number) x)
-    fact-of-formed = all-inside (FactFormed p) noFact (factsOf p (a .list) x) (facts-formed p fit x within (a .list)) (a .number) (f .listed)
-
-    pub fact-of-ground : All Ground (factAt p (a .list) (a .number) x .terms)
-    fact-of-ground =
-        all-inside (λ (g : Fact). All Ground (g .terms)) noFact (factsOf p (a .list) x)
-        (facts-ground p fit x within (node-ground p x within (f .right)) (a .list)) (a .number) (f .listed)
+    pub fact-ground : All Ground (factAt P (a .list) (a .number) x .terms)
+    fact-ground =
+        all-inside (λ (g : Fact). All Ground (g .terms)) noFact (factsOf P (a .list) x)
+        (facts-ground P (f .node .prepared .body .within) x (f .node .within) (node-ground P x (f .node .within) (f .right)) (a .list)) (a .number)
+        (f .listed)
 
   -- an argument is a message
-  abbrev pub argument : (a : FactId) (j : ℕ) (x : Node) → FactOf p file a (want.One j) x → Message (arity (tagArities (p .functions)))
+  abbrev pub argument : (a : FactId) (j : ℕ) (x : Node) → OneOf p s nodes a j P x → Message (arity (tagArities (P .functions)))
   argument a j x f = record {
-    term = argumentAt p (a .list) (a .number) j x;
-    formed =
-        all-inside (Formed (arity (tagArities (p .functions)))) noTerm (factAt p (a .list) (a .number) x .terms) (fact-of-formed a _ x f .each) j (f .has);
-    ground = all-inside Ground noTerm (factAt p (a .list) (a .number) x .terms) (fact-of-ground a _ x f) j (f .has);
+    term = argumentAt P (a .list) (a .number) j x;
+    formed = all-inside (Formed (arity (tagArities (P .functions)))) noTerm (factAt P (a .list) (a .number) x .terms) (fact-formed f .each) j (f .has);
+    ground = all-inside Ground noTerm (factAt P (a .list) (a .number) x .terms) (fact-ground f) j (f .has);
   }
 
   -- ── "equal facts count as the same fact" ──
   pub same-fact-means :
-      (a b : FactId) (x y : Node) → FactOf p file a want.All x → FactOf p file b want.All y
-      → (sameFact (factAt p (a .list) (a .number) x) (factAt p (b .list) (b .number) y) ≡ true)
-      ↔ SameFact (arity (tagArities (p .functions))) (factAt p (a .list) (a .number) x) (factAt p (b .list) (b .number) y)
-  same-fact-means a b x y f g = formed-decides p fit _ _ (fact-of-formed a _ x f) (fact-of-formed b _ y g)
+      (a b : FactId) (x y : Node) → WholeFact p s nodes a P x → WholeFact p s nodes b P y
+      → (sameFact (factAt P (a .list) (a .number) x) (factAt P (b .list) (b .number) y) ≡ true)
+      ↔ SameFact (arity (tagArities (P .functions))) (factAt P (a .list) (a .number) x) (factAt P (b .list) (b .number) y)
+  same-fact-means a b x y f g = formed-decides P (f .node .prepared .body .within) _ _ (fact-formed f) (fact-formed g)
 
   -- ── "Two messages count as equal exactly when the paper's ten equations make them equal" ──
   pub same-argument-means :
-      (a : FactId) (i : ℕ) (x : Node) (f : FactOf p file a (want.One i) x) (b : FactId) (j : ℕ) (y : Node) (g : FactOf p file b (want.One j) y)
-      → (sameTerm (argumentAt p (a .list) (a .number) i x) (argumentAt p (b .list) (b .number) j y) ≡ true)
-      ↔ SameMessage (arity (tagArities (p .functions))) (argument a i x f) (argument b j y g)
+      (a : FactId) (i : ℕ) (x : Node) (f : OneOf p s nodes a i P x) (b : FactId) (j : ℕ) (y : Node) (g : OneOf p s nodes b j P y)
+      → (sameTerm (argumentAt P (a .list) (a .number) i x) (argumentAt P (b .list) (b .number) j y) ≡ true)
+      ↔ SameMessage (arity (tagArities (P .functions))) (argument a i x f) (argument b j y g)
   same-argument-means a i x f b j y g =
-      term-decides (arity (tagArities (p .functions))) (declared (p .functions)) _ _ (argument a i x f .formed) (argument b j y g .formed)
+      term-decides (arity (tagArities (P .functions))) (declared (P .functions)) _ _ (argument a i x f .formed) (argument b j y g .formed)
 
   pub is-public-means :
-      (a : FactId) (i : ℕ) (x : Node) (f : FactOf p file a (want.One i) x) (n : ℕ)
-      → (sameTerm (argumentAt p (a .list) (a .number) i x) (leaf public n) ≡ true)
-      ↔ SameMessage (arity (tagArities (p .functions))) (argument a i x f) (publicName (arity (tagArities (p .functions))) n)
+      (a : FactId) (i : ℕ) (x : Node) (f : OneOf p s nodes a i P x) (n : ℕ)
+      → (sameTerm (argumentAt P (a .list) (a .number) i x) (leaf public n) ≡ true)
+      ↔ SameMessage (arity (tagArities (P .functions))) (argument a i x f) (publicName (arity (tagArities (P .functions))) n)
   is-public-means a i x f n =
-      term-decides (arity (tagArities (p .functions))) (declared (p .functions)) _ _ (argument a i x f .formed) tt
+      term-decides (arity (tagArities (P .functions))) (declared (P .functions)) _ _ (argument a i x f .formed) tt

@@ -11,8 +11,7 @@ use Rattle.rewriting.specs.Graph as graph
 use Rattle.rewriting.specs.Graph.{Place, inNode, premiseAt, conclusionAt}
 use Rattle.protocol.specs.Figures.{premiseList, conclusionList}
 use Rattle.protocol.specs.Protocol.{Fact, Protocol, noFact}
-use Rattle.steps.specs.Nodes.{Node}
-use Rattle.steps.specs.Nodes.Code.{noNode}
+use Rattle.steps.specs.Nodes.{Node, noNode}
 use Rattle.steps.specs.Facts.{factsOf}
 use Rattle.steps.specs.Runs.{rewritten, rewrittens}
 use Rattle.facts.specs.Calls.{factAt}

@@ -7,7 +7,7 @@ use native.Mathlib.Omega.{arith}
 use lib.ListN.{length, getD, drop, length-append, length-map}
 use Rattle.message.specs.Filled.{filleds}
 use Rattle.lists.specs.Asks.{Asks₂, Promises₂}
-use Rattle.term.specs.Sizes.{mostSymbols}
+use Rattle.term.specs.Sizes.{mostSymbols, termRoom}
 use Rattle.octets.specs.Head.{Bytes}
 use Rattle.octets.specs.Splice.Prefix.{Wrote, widen}
 use Rattle.number.specs.Layout.{flat}
@@ -23,6 +23,7 @@ use Rattle.canonical.specs.Contract.{Job, Out}
 use Rattle.canonical.specs.Contract.Laws.{written-canons}
 use Rattle.protocol.specs.Protocol.{Fact}
 use Rattle.protocol.specs.Places.{termPlace}
+use Rattle.prepared.specs.Prepared.{slotsOf, aritiesOf}
 use Rattle.lists.specs.All.Laws.{all-inside, map-at}
 use Rattle.steps.specs.Facts.{valueAt, filledFact}
 use Rattle.steps.specs.Values.Parts.{noTerm, term-there}
@@ -45,15 +46,14 @@ part-few θ (suc j) (t ∷ ts) l =
     let r = part-few θ j ts (omega arith) in
     omega (arith, r, length-append (encode (sub θ t)) (flat encode (map (sub θ) ts)))
 
-module _ (arities ars vals starts src : List ℕ) (place n o : ℕ) (bytes : Bytes src) (vs : List Term) (f : Fact)
-    (J : FactJob arities ars vals starts src place n o vs f) where
+module _ (p s starts : List ℕ) (place n o : ℕ) (bytes : Bytes p) (vs : List Term) (f : Fact) (J : FactJob p s starts place n o vs f) where
   argument-job :
-      (x at : ℕ) → x < length (f .terms) → at ≡ termPlace src arities ars place x
-      → Job arities vals starts src at 1 n o (valueAt vs) (getD (f .terms) x noTerm & nil)
+      (x at : ℕ) → x < length (f .terms) → at ≡ termPlace p (slotsOf p) (aritiesOf p) place x
+      → Job (slotsOf p) s starts p at 1 n o (valueAt vs) (getD (f .terms) x noTerm & nil)
   argument-job x at l ha =
       let t : Term = getD (f .terms) x noTerm in
-      let (e, h) = term-there src arities ars bytes place f (J .here) x at l ha in
-      let g = term-form src arities bytes t at e h in
+      let (e, h) = term-there p (slotsOf p) (aritiesOf p) bytes place f (J .here) x at l ha in
+      let g = term-form p (slotsOf p) bytes t at e h in
       let few = part-few (valueAt vs) x (f .terms) l in
       let same = ap length (append-nil (encode (sub (valueAt vs) t))) in
       record {
@@ -61,8 +61,8 @@ module _ (arities ars vals starts src : List ℕ) (place n o : ℕ) (bytes : Byt
         many = refl;
         formed = (g .0 .0, tt);
         range = (g .0 .1, tt);
-        rest = drop e src;
-        there = g .1 .there ∙ ap (λ (l : List ℕ). l ++ drop e src) (sym (append-nil (encode t)));
+        rest = drop e p;
+        there = g .1 .there ∙ ap (λ (l : List ℕ). l ++ drop e p) (sym (append-nil (encode t)));
         values = λ v i. J .values v (occurs-at v x (f .terms) l (⊎-elim (λ q. q) (λ q. absurd q) i));
         small = (all-inside (λ t. symbols (sub (valueAt vs) t) ≤ mostSymbols) noTerm (f .terms) (J .small) x l, tt);
         room = omega (arith, J .room, J .few, few, same);
@@ -74,40 +74,40 @@ module _ (arities ars vals starts src : List ℕ) (place n o : ℕ) (bytes : Byt
   argument-few x l =
       let us : List Term = filledFact vs f .terms in
       let m : x < length us = omega (arith, length-map (f .terms) (sub (valueAt vs))) in
-      let b = fewer-bytes (arity arities) (group arities (J .table)) (getD us x noTerm)
-      (all-inside (Formed (arity arities)) noTerm us (job-formed arities ars vals starts src place n o bytes vs f J) x m) in
+      let b = fewer-bytes (arity (slotsOf p)) (group (slotsOf p) (J .table)) (getD us x noTerm)
+      (all-inside (Formed (arity (slotsOf p))) noTerm us (job-formed p s starts place n o bytes vs f J) x m) in
       let c = part-few (valueAt vs) x (f .terms) l in
       omega (arith, b, c, J .few, ap (λ (t : Term). length (encode t)) (sym (map-at (sub (valueAt vs)) (f .terms) x noTerm noTerm l)))
 
-module _ (arities ars vals starts src : List ℕ) (place : ℕ) (bytes : Bytes src) (x at : ℕ) (ha : at ≡ termPlace src arities ars place x) where
-  pub argument-ready : (n o : ℕ) → Asks₂ (WantedJob arities ars vals starts src place n o (want.One x)) → Asks₂ (Job arities vals starts src at 1 n o)
+module _ (p s starts : List ℕ) (place : ℕ) (bytes : Bytes p) (x at : ℕ) (ha : at ≡ termPlace p (slotsOf p) (aritiesOf p) place x) where
+  pub argument-ready : (n o : ℕ) → Asks₂ (WantedJob p s starts place n o (want.One x)) → Asks₂ (Job (slotsOf p) s starts p at 1 n o)
   argument-ready n o r = (
     valueAt (r .0),
     getD (r .1 .terms) x noTerm & nil,
-    argument-job arities ars vals starts src place n o bytes (r .0) (r .1) (r .2 .job) x at (r .2 .has) ha,
+    argument-job p s starts place n o bytes (r .0) (r .1) (r .2 .job) x at (r .2 .has) ha,
   )
 
   pub argument-done :
-      (out out′ : List ℕ) (o at′ o′ : ℕ) → Promises₂ (Job arities vals starts src at 1 (length out) o)
-      (λ (θ : ℕ → Term) (ts : Terms). Out (o + length (encodes (subs θ ts))) at out o out′ at′ o′ (encodes ts) (encodes (filleds θ ts)))
-      → Promises₂ (WantedJob arities ars vals starts src place (length out) o (want.One x))
+      (out out′ : List ℕ) (o at′ o′ : ℕ) → Promises₂ (Job (slotsOf p) s starts p at 1 (length out) o)
+      (λ (θ : ℕ → Term) (ts : Terms). Out (o + length (encodes (subs θ ts)) + termRoom) at out o out′ at′ o′ (encodes ts) (encodes (filleds θ ts)))
+      → Promises₂ (WantedJob p s starts place (length out) o (want.One x))
       (λ (vs : List Term) (f : Fact). Put out o out′ o′ (wantedBytes (want.One x) (filledFact vs f)))
   argument-done out out′ o at′ o′ done vs f w =
       let J = w .job in
       let l : x < length (f .terms) = w .has in
       let t : Term = getD (f .terms) x noTerm in
-      let j = argument-job arities ars vals starts src place (length out) o bytes vs f J x at l ha in
+      let j = argument-job p s starts place (length out) o bytes vs f J x at l ha in
       let e : sub (valueAt vs) t ≡ getD (filledFact vs f .terms) x noTerm = sym (map-at (sub (valueAt vs)) (f .terms) x noTerm noTerm l) in
       record {
         wrote =
             widen (o + factRoom) (omega (arith, J .few, part-few (valueAt vs) x (f .terms) l, ap length (append-nil (encode (sub (valueAt vs) t)))))
-            (subst (λ (q : List ℕ). Wrote (o + length (encodes (subs (valueAt vs) (t & nil)))) out o out′ o′ q)
-            (written-canons arities vals starts src at 1 (length out) o (valueAt vs) (t & nil) j ∙ ap (λ (u : Term). encode (canon u) ++ []) e)
+            (subst (λ (q : List ℕ). Wrote (o + length (encodes (subs (valueAt vs) (t & nil))) + termRoom) out o out′ o′ q)
+            (written-canons (slotsOf p) s starts p at 1 (length out) o (valueAt vs) (t & nil) j ∙ ap (λ (u : Term). encode (canon u) ++ []) e)
             (done (valueAt vs) (t & nil) j .wrote));
         few =
             omega (
               arith,
-              argument-few arities ars vals starts src place (length out) o bytes vs f J x l,
+              argument-few p s starts place (length out) o bytes vs f J x l,
               ap length (append-nil (encode (canon (getD (filledFact vs f .terms) x noTerm)))),
             );
       }

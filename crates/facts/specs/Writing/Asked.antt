@@ -13,7 +13,7 @@ use Rattle.number.specs.Groups.{numberLimit}
 use Rattle.number.specs.Layout.{flat}
 use Rattle.lists.specs.All.{All}
 use Rattle.term.specs.Term.{variable, Term, leaf, encode, symbols, InRange, Occurss}
-use Rattle.term.specs.Reader.{terms, term}
+use Rattle.term.specs.Reader.{terms}
 use Rattle.term.specs.Walk.{holds}
 use Rattle.term.specs.Walk.Holds.{occurs-below}
 use Rattle.message.specs.Substitution.{sub}
@@ -25,13 +25,13 @@ use Rattle.canonical.specs.Contract.{Value}
 use Rattle.protocol.specs.Protocol.{Fact, fact, leafIn}
 use Rattle.protocol.specs.Protocol.Limits.{TermWithin}
 use Rattle.protocol.specs.Places.{Here}
-use Rattle.protocol.specs.Index.{Placed}
+use Rattle.prepared.specs.Sections.{preparedLength}
+use Rattle.prepared.specs.Prepared.{slotsOf, aritiesOf}
 use Rattle.lists.specs.All.Laws.{all-at, none-all}
 use Rattle.steps.specs.Facts.{valueAt}
-use Rattle.facts.specs.Writing.Places.{placed-value}
+use Rattle.facts.specs.Writing.Places.{Placed, placed-value}
 use Rattle.facts.specs.Writing.{FactJob, factRoom}
 use Rattle.facts.specs.Writing.Whole.{fact-terms}
-use Rattle.steps.specs.Values.Parts.{noTerm}
 
 -- ── the variables of a fact's terms ──
 all-below :
@@ -52,39 +52,38 @@ filled-few arities θ (t ∷ ts) a h file =
     omega (arith, b, r, file .0, length-append (encode (sub θ t)) (flat encode (map (sub θ) ts)))
 
 -- ── the values stand at their places, each its own canonical form ──
-pub record Valued (arities file starts : List ℕ) (vs : List Term) (k : ℕ) : Type 0 where
-  pub table : Builtins arities
-  pub bytes : Bytes file
-  pub short : length file ≤ longest
-  pub placed : Placed (term file arities) noTerm starts vs k
-  pub many : k ≤ length starts
+pub record Valued (p s starts : List ℕ) (vs : List Term) : Type 0 where
+  pub bytes : Bytes s
+  pub short : length s ≤ longest
+  pub placed : Placed s (slotsOf p) starts vs
   pub own : All (λ t. canon t ≡ t) vs
 
 -- a fact of no other variables, its terms small enough filled in
-pub record Fillable (arities ars src : List ℕ) (place : ℕ) (vs : List Term) (k : ℕ) (f : Fact) : Type 0 where
-  pub bytes : Bytes src
-  pub short : length src ≤ longest
-  pub here : Here (fact src arities ars) f place
-  pub bound : leafIn 0 k numberLimit f ≡ false
+pub record Fillable (p : List ℕ) (place : ℕ) (vs : List Term) (f : Fact) : Type 0 where
+  pub bytes : Bytes p
+  pub long : length p ≡ preparedLength
+  pub table : Builtins (slotsOf p)
+  pub here : Here (fact p (slotsOf p) (aritiesOf p)) f place
+  pub bound : leafIn 0 (length vs) numberLimit f ≡ false
   pub few : length (f .terms) ≤ 8
   pub small : All (λ t. symbols (sub (valueAt vs) t) ≤ mostSymbols) (f .terms)
 
-module _ (arities ars file starts src : List ℕ) (place : ℕ) (vs : List Term) (k : ℕ) (f : Fact) (has : Valued arities file starts vs k)
-    (fits : Fillable arities ars src place vs k f) where
-  within : All (TermWithin arities) (f .terms)
-  within = fact-terms src arities ars place (fits .bytes) f (fits .here) .0
+module _ (p s starts : List ℕ) (place : ℕ) (vs : List Term) (f : Fact) (has : Valued p s starts vs) (fits : Fillable p place vs f) where
+  within : All (TermWithin (slotsOf p)) (f .terms)
+  within = fact-terms p (slotsOf p) (aritiesOf p) place (fits .bytes) f (fits .here) .0
 
-  value-of : (v : ℕ) → Occurss variable v (terms (f .terms)) → Value arities file starts v (valueAt vs v)
+  value-of : (v : ℕ) → Occurss variable v (terms (f .terms)) → Value (slotsOf p) s starts v (valueAt vs v)
   value-of v o =
-      placed-value file arities starts vs k (has .bytes) (has .placed) (has .many) v
-      (all-below arities k v (f .terms) within (none-all (λ t. holds t 0 k numberLimit) (f .terms) (fits .bound)) o)
+      placed-value s (slotsOf p) starts vs (has .bytes) (has .placed) v
+      (all-below (slotsOf p) (length vs) v (f .terms) within (none-all (λ t. holds t 0 (length vs) numberLimit) (f .terms) (fits .bound)) o)
       (all-at (λ t. canon t ≡ t) (leaf variable v) refl vs (has .own) v)
 
-  pub fillable-job : (n o : ℕ) → o + factRoom ≤ n → n ≤ longest → FactJob arities ars file starts src place n o vs f
+  pub fillable-job : (n o : ℕ) → o + factRoom ≤ n → n ≤ longest → FactJob p s starts place n o vs f
   fillable-job n o room short =
-      let b = filled-few arities (valueAt vs) (f .terms) within (λ v q. value-of v q .range) (fits .small) in
+      let b = filled-few (slotsOf p) (valueAt vs) (f .terms) within (λ v q. value-of v q .range) (fits .small) in
       record {
-        table = has .table;
+        long = fits .long;
+        table = fits .table;
         here = fits .here;
         values = value-of;
         small = fits .small;
@@ -92,5 +91,4 @@ module _ (arities ars file starts src : List ℕ) (place : ℕ) (vs : List Term)
         room = room;
         short = short;
         values-short = has .short;
-        source-short = fits .short;
       }

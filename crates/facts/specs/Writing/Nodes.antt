@@ -2,13 +2,15 @@
 use Prim.Native.Nat.{ℕ, _+_, _≤_}
 use mathlib.Core.List.{List, [], _∷_, List·Memᴰ·head, List·Memᴰ·tail}
 use mathlib.Core.Bool.{false}
-use mathlib.Core.Path.{_≡_, refl, sym, subst}
+use mathlib.Core.Path.{_≡_, refl, ap, sym, _∙_, subst}
 use native.Mathlib.Omega.{arith}
-use lib.ListN.{length, getD}
+use lib.ListN.{length, getD, take, drop, length-drop}
+use lib.Seq.{length-take-le}
 use Rattle.octets.specs.Limits.{longest}
 use Rattle.term.specs.Sizes.{mostSymbols}
 use Rattle.octets.specs.Head.{Bytes}
 use Rattle.number.specs.Groups.{numberLimit}
+use Rattle.number.specs.Reading.{got}
 use Rattle.lists.specs.Lists.{anyBy, _∈_}
 use Rattle.lists.specs.All.{All}
 use Rattle.term.specs.Term.{symbols}
@@ -24,16 +26,19 @@ use Rattle.canonical.specs.Contract.Laws.{own-canonical}
 use Rattle.protocol.specs.Protocol.{Fact, Rule, Own, Protocol, listOf, noFact, factArities, fact, leafIn}
 use Rattle.protocol.specs.Protocol.Limits.{FactWithin, OwnWithin, RuleWithin, Within}
 use Rattle.protocol.specs.Places.{Here}
-use Rattle.protocol.specs.Index.{Placed}
+use Rattle.prepared.specs.Prepared.{slotsOf, aritiesOf}
+use Rattle.prepared.specs.Prepared.Laws.{part-at}
 use Rattle.rules.specs.Numbered.Limits.{rule-within}
 use Rattle.lists.specs.All.Laws.{all-map, all-both, all-at, map-all, none-all}
 use Rattle.steps.specs.Nodes.{Node, NodeWithin}
 use Rattle.steps.specs.Facts.{valueAt}
 use Rattle.steps.specs.Facts.Formed.{same-rule, node-fits, list-within}
 use Rattle.facts.specs.Writing.{FactJob, factRoom}
+use Rattle.facts.specs.Writing.Places.{Placed}
 use Rattle.facts.specs.Writing.Asked.{fillable-job}
 use Rattle.steps.specs.Values.{NodeRight}
 use Rattle.steps.specs.Values.Parts.{noTerm}
+use Rattle.steps.specs.Table.{placeCount, placesAt, NodeIn}
 
 each-member : {A : Type 0} (P : A → Type 0) (xs : List A) → ((x : A) → x ∈ xs → P x) → All P xs
 each-member P [] h = tt
@@ -45,16 +50,16 @@ arities-few os w y =
     all-at (λ (a : ℕ). a ≤ 8) 0 (omega arith) (factArities os)
     (omega arith, (omega arith, (omega arith, (omega arith, map-all OwnWithin (λ (a : ℕ). a ≤ 8) (λ o. o .arity) (λ o q. omega (arith, q .small)) os w)))) y
 
-module _ (p : Protocol) (fit : Within p) (x : Node) (b : NodeWithin p x) (r : NodeRight p x) where
-  lawful : RuleWithin (tagArities (p .functions)) (factArities (p .symbols)) (b .is)
-  lawful = rule-within p fit (x .rule) (b .is) (b .known)
+module _ (P : Protocol) (fit : Within P) (x : Node) (b : NodeWithin P x) (r : NodeRight P x) where
+  lawful : RuleWithin (tagArities (P .functions)) (factArities (P .symbols)) (b .is)
+  lawful = rule-within P fit (x .rule) (b .is) (b .known)
 
   -- they are their own canonical forms
   node-own : All (λ t. canon t ≡ t) (x .values)
   node-own =
-      all-map (λ t. Good (tagArities (p .functions)) t × Canonical t) (λ t. canon t ≡ t)
-      (λ t g. own-canonical (tagArities (p .functions)) (declared (p .functions)) t (g .0 .0) .1 (g .1)) (x .values)
-      (all-both (Good (tagArities (p .functions))) Canonical (x .values) (b .each) (node-fits p x b r Canonical (λ sort v f. f .canonical)))
+      all-map (λ t. Good (tagArities (P .functions)) t × Canonical t) (λ t. canon t ≡ t)
+      (λ t g. own-canonical (tagArities (P .functions)) (declared (P .functions)) t (g .0 .0) .1 (g .1)) (x .values)
+      (all-both (Good (tagArities (P .functions))) Canonical (x .values) (b .each) (node-fits P x b r Canonical (λ sort v f. f .canonical)))
 
   abbrev Small : Fact → Type 0
   Small f = All (λ t. symbols (sub (valueAt (x .values)) t) ≤ mostSymbols) (f .terms)
@@ -66,7 +71,7 @@ module _ (p : Protocol) (fit : Within p) (x : Node) (b : NodeWithin p x) (r : No
   node-small =
       each-member (All Small) (b .is .lists) (λ fs m. each-member Small fs (λ f k.
       each-member (λ t. symbols (sub (valueAt (x .values)) t) ≤ mostSymbols) (f .terms) (λ t l.
-      r .small t (record { facts = fs; fact = f; of-rule = subst (λ (u : Rule). fs ∈ u .lists) (sym (same-rule p x b r)) m; of-facts = k; of-fact = l }))))
+      r .small t (record { facts = fs; fact = f; of-rule = subst (λ (u : Rule). fs ∈ u .lists) (sym (same-rule P x b r)) m; of-facts = k; of-fact = l }))))
 
   node-bound : All (All Bound) (b .is .lists)
   node-bound =
@@ -76,23 +81,48 @@ module _ (p : Protocol) (fit : Within p) (x : Node) (b : NodeWithin p x) (r : No
 
   node-few : (list : ℕ) → All (λ f. length (f .terms) ≤ 8) (listOf list (b .is))
   node-few list =
-      all-map (FactWithin (tagArities (p .functions)) (factArities (p .symbols))) (λ f. length (f .terms) ≤ 8)
-      (λ f q. omega (arith, q .takes, arities-few (p .symbols) (fit .symbols) (f .symbol))) (listOf list (b .is)) (list-within p (b .is) lawful list)
+      all-map (FactWithin (tagArities (P .functions)) (factArities (P .symbols))) (λ f. length (f .terms) ≤ 8)
+      (λ f q. omega (arith, q .takes, arities-few (P .symbols) (fit .symbols) (f .symbol))) (listOf list (b .is)) (list-within P (b .is) lawful list)
 
-  -- fact i of one of its lists, which stands at a place of src, can be written with its values, which stand at their places in file
+-- ── of a node in the table ──
+-- the places of its values, and the place behind the last
+abbrev pub placesOf : List ℕ → ℕ → List ℕ
+placesOf nodes j = take placeCount (drop (placesAt j) nodes)
+
+module _ {p s nodes : List ℕ} {j : ℕ} {P : Protocol} {x : Node} (h : NodeIn p s nodes j P x) where
+  node-placed : Placed s (slotsOf p) (placesOf nodes j) (x .values)
+  node-placed = record {
+    each = λ v l.
+        ap (term s (slotsOf p)) (part-at nodes (placesAt j) placeCount v (omega (arith, h .row .few))) ∙ h .row .places v l
+        ∙ ap (got (getD (x .values) v noTerm)) (sym (part-at nodes (placesAt j) placeCount (v + 1) (omega (arith, h .row .few))));
+    many =
+        let n : length (placesOf nodes j) ≡ placeCount =
+        length-take-le placeCount (drop (placesAt j) nodes) (omega (arith, length-drop (placesAt j) nodes, h .few, h .long)) in
+        omega (arith, n, h .row .few);
+  }
+
+  -- fact i of a list of its rule, which stands at a place of p, can be written with its values
   pub node-job :
-      (arities ars file starts src : List ℕ) (place list i n o : ℕ) → arities ≡ tagArities (p .functions) → Bytes file → Bytes src
-      → Placed (term file arities) noTerm starts (x .values) (length (b .is .sorts)) → Here (fact src arities ars) (getD (listOf list (b .is)) i noFact) place
-      → length (b .is .sorts) ≤ length starts → length file ≤ longest → length src ≤ longest → o + factRoom ≤ n → n ≤ longest
-      → FactJob arities ars file starts src place n o (x .values) (getD (listOf list (b .is)) i noFact)
-  node-job arities ars file starts src place list i n o same bs bsrc placed here many short short-src room short-out =
-      fillable-job arities ars file starts src place (x .values) (length (b .is .sorts)) (getD (listOf list (b .is)) i noFact)
-      (record { table = subst Builtins (sym same) (declared (p .functions)); bytes = bs; short = short; placed = placed; many = many; own = node-own })
+      Bytes p → Bytes s → NodeRight P x → (place list i n o : ℕ)
+      → Here (fact p (slotsOf p) (aritiesOf p)) (getD (listOf list (h .within .is)) i noFact) place → o + factRoom ≤ n → n ≤ longest
+      → FactJob p s (placesOf nodes j) place n o (x .values) (getD (listOf list (h .within .is)) i noFact)
+  node-job bp bs right place list i n o here room short =
+      let b = h .within in
+      let fit = h .prepared .body .within in
+      let f : Fact = getD (listOf list (b .is)) i noFact in
+      fillable-job p s (placesOf nodes j) place (x .values) f
+      (record { bytes = bs; short = h .short; placed = node-placed; own = node-own P fit x b right })
       (record {
-        bytes = bsrc;
-        short = short-src;
+        bytes = bp;
+        long = h .prepared .long;
+        table = subst Builtins (sym (h .prepared .body .slotted)) (declared (P .functions));
         here = here;
-        bound = all-at Bound noFact refl (listOf list (b .is)) (all-at (All Bound) [] tt (b .is .lists) node-bound list) i;
-        few = all-at (λ f. length (f .terms) ≤ 8) noFact (omega arith) (listOf list (b .is)) (node-few list) i;
-        small = all-at Small noFact tt (listOf list (b .is)) (all-at (All Small) [] tt (b .is .lists) node-small list) i;
-      }) n o room short-out
+        bound =
+            ap (λ (k : ℕ). leafIn 0 k numberLimit f) (b .takes)
+            ∙ all-at (Bound P fit x b right) noFact refl (listOf list (b .is))
+            (all-at (All (Bound P fit x b right)) [] tt (b .is .lists) (node-bound P fit x b right) list) i;
+        few = all-at (λ f. length (f .terms) ≤ 8) noFact (omega arith) (listOf list (b .is)) (node-few P fit x b right list) i;
+        small =
+            all-at (Small P fit x b right) noFact tt (listOf list (b .is))
+            (all-at (All (Small P fit x b right)) [] tt (b .is .lists) (node-small P fit x b right) list) i;
+      }) n o room short

@@ -1,5 +1,5 @@
 -- All arguments of a fact that stands at a place, with a node's values filled in.
-use Prim.Native.Nat.{ℕ, _+_, _≤_}
+use Prim.Native.Nat.{ℕ, _+_, _≤_, _<_}
 use mathlib.Core.List.{List, [], _∷_, _++_, map}
 use mathlib.Core.Logic.{inl, inr}
 use mathlib.Core.Path.{_≡_, refl, ap, sym, _∙_, subst, subst₂}
@@ -7,7 +7,7 @@ use native.Mathlib.Omega.{arith}
 use lib.ListN.{length, getD, drop, length-append}
 use Rattle.message.specs.Filled.{filleds}
 use Rattle.lists.specs.Asks.{Asks₂, Promises₂}
-use Rattle.term.specs.Sizes.{mostSymbols}
+use Rattle.term.specs.Sizes.{mostSymbols, termRoom}
 use Rattle.octets.specs.Head.{Bytes, Stands}
 use Rattle.octets.specs.Splice.Prefix.{Wrote, widen}
 use Rattle.number.specs.Reading.{Read, andThen, below, many}
@@ -31,9 +31,12 @@ use Rattle.protocol.specs.Protocol.Limits.{TermWithin}
 use Rattle.protocol.specs.Protocol.Exact.{rule-term-exact}
 use Rattle.protocol.specs.Places.{placeOf, valueOf, Here, termPlace}
 use Rattle.protocol.specs.Places.Laws.{fact-fields}
+use Rattle.protocol.specs.Figures.{symbolCount}
+use Rattle.prepared.specs.Prepared.{slotsOf, aritiesOf}
+use Rattle.prepared.specs.Prepared.Laws.{arities-length}
 use Rattle.steps.specs.Facts.{valueAt, filledFact}
 use Rattle.steps.specs.Facts.Bytes.{canonBytes}
-use Rattle.steps.specs.Values.Parts.{terms-many}
+use Rattle.steps.specs.Values.Parts.{symbol-inside, terms-many}
 use Rattle.facts.specs.declared.writing.Wanted.{Wanted}
 use Rattle.facts.specs.declared.writing.Wanted.the-variants as want
 use Rattle.facts.specs.Writing.{factRoom, FactJob, WantedJob, Put, wantedBytes}
@@ -81,28 +84,31 @@ canon-few arities table (t ∷ ts) a =
     omega (arith, b, r, length-append (encode t) (flat encode ts), length-append (encode (canon t)) (canonBytes ts))
 
 -- ── a fact's arguments are k terms at the place of the first ──
-module _ (arities ars vals starts src : List ℕ) (place n o : ℕ) (bytes : Bytes src) (vs : List Term) (f : Fact)
-    (J : FactJob arities ars vals starts src place n o vs f) where
-  first-place : termPlace src arities ars place 0 ≡ fact-fields src arities ars place f (J .here) .behind
+module _ (p s starts : List ℕ) (place n o : ℕ) (bytes : Bytes p) (vs : List Term) (f : Fact) (J : FactJob p s starts place n o vs f) where
+  first-place : termPlace p (slotsOf p) (aritiesOf p) place 0 ≡ fact-fields p (slotsOf p) (aritiesOf p) place f (J .here) .behind
   unfolding termPlace many
   first-place =
-      ap (λ (r : Read ℕ). placeOf (andThen r (λ y e. many (ruleTerm src arities) 0 e))) (fact-fields src arities ars place f (J .here) .symbol)
+      ap (λ (r : Read ℕ). placeOf (andThen r (λ y e. many (ruleTerm p (slotsOf p)) 0 e))) (fact-fields p (slotsOf p) (aritiesOf p) place f (J .here) .symbol)
+
+  pub symbol-listed : (y : ℕ) → y ≡ valueOf (below p (length (aritiesOf p)) place) → y < symbolCount
+  symbol-listed y hy =
+      omega (arith, hy, symbol-inside p (slotsOf p) (aritiesOf p) bytes place f (J .here), arities-length p (omega (arith, J .long)))
 
   pub fact-job :
-      (y at k : ℕ) → y ≡ valueOf (below src (length ars) place) → k ≡ getD ars y 0 → at ≡ termPlace src arities ars place 0
-      → Job arities vals starts src at k n o (valueAt vs) (terms (f .terms))
+      (y at k : ℕ) → y ≡ valueOf (below p (length (aritiesOf p)) place) → k ≡ getD (aritiesOf p) y 0 → at ≡ termPlace p (slotsOf p) (aritiesOf p) place 0
+      → Job (slotsOf p) s starts p at k n o (valueAt vs) (terms (f .terms))
   fact-job y at k hy hk ha =
-      let m = fact-terms src arities ars place bytes f (J .here) in
-      let g = terms-good arities (f .terms) (m .0) in
+      let m = fact-terms p (slotsOf p) (aritiesOf p) place bytes f (J .here) in
+      let g = terms-good (slotsOf p) (f .terms) (m .0) in
       record {
         table = J .table;
-        many = count-terms (f .terms) ∙ sym (terms-many src arities ars bytes place f (J .here) y hy) ∙ sym hk;
+        many = count-terms (f .terms) ∙ sym (terms-many p (slotsOf p) (aritiesOf p) bytes place f (J .here) y hy) ∙ sym hk;
         formed = g .0;
         range = g .1;
-        rest = drop (J .here .next) src;
+        rest = drop (J .here .next) p;
         there =
-            ap (λ (i : ℕ). drop i src) (ha ∙ first-place) ∙ m .1 .there
-            ∙ ap (λ (l : List ℕ). l ++ drop (J .here .next) src) (sym (encodes-terms (f .terms)));
+            ap (λ (i : ℕ). drop i p) (ha ∙ first-place) ∙ m .1 .there
+            ∙ ap (λ (l : List ℕ). l ++ drop (J .here .next) p) (sym (encodes-terms (f .terms)));
         values = J .values;
         small = each-terms (λ t. symbols (sub (valueAt vs) t) ≤ mostSymbols) (f .terms) (J .small);
         room = omega (arith, J .room, J .few, ap length (filled-bytes (valueAt vs) (f .terms)));
@@ -110,44 +116,43 @@ module _ (arities ars vals starts src : List ℕ) (place n o : ℕ) (bytes : Byt
         values-short = J .values-short;
       }
 
-  pub job-formed : All (Formed (arity arities)) (filledFact vs f .terms)
+  pub job-formed : All (Formed (arity (slotsOf p))) (filledFact vs f .terms)
   job-formed =
-      filled-formed arities (valueAt vs) (f .terms) (fact-terms src arities ars place bytes f (J .here) .0) (λ v i. J .values v i .formed)
+      filled-formed (slotsOf p) (valueAt vs) (f .terms) (fact-terms p (slotsOf p) (aritiesOf p) place bytes f (J .here) .0) (λ v i. J .values v i .formed)
 
   fact-few : length (canonBytes (filledFact vs f .terms)) ≤ factRoom
-  fact-few = omega (arith, J .few, canon-few arities (J .table) (filledFact vs f .terms) job-formed)
+  fact-few = omega (arith, J .few, canon-few (slotsOf p) (J .table) (filledFact vs f .terms) job-formed)
 
-module _ (arities ars vals starts src : List ℕ) (place : ℕ) (bytes : Bytes src) (y at k : ℕ)
-    (hy : y ≡ valueOf (below src (length ars) place)) (hk : k ≡ getD ars y 0) (ha : at ≡ termPlace src arities ars place 0) where
-  pub fact-ready : (n o : ℕ) → Asks₂ (WantedJob arities ars vals starts src place n o want.All) → Asks₂ (Job arities vals starts src at k n o)
-  fact-ready n o r = (valueAt (r .0), terms (r .1 .terms), fact-job arities ars vals starts src place n o bytes (r .0) (r .1) (r .2 .job) y at k hy hk ha)
+module _ (p s starts : List ℕ) (place : ℕ) (bytes : Bytes p) (y at k : ℕ) (hy : y ≡ valueOf (below p (length (aritiesOf p)) place))
+    (hk : k ≡ getD (aritiesOf p) y 0) (ha : at ≡ termPlace p (slotsOf p) (aritiesOf p) place 0) where
+  pub fact-ready : (n o : ℕ) → Asks₂ (WantedJob p s starts place n o want.All) → Asks₂ (Job (slotsOf p) s starts p at k n o)
+  fact-ready n o r = (valueAt (r .0), terms (r .1 .terms), fact-job p s starts place n o bytes (r .0) (r .1) (r .2 .job) y at k hy hk ha)
 
   pub fact-done :
-      (out out′ : List ℕ) (o at′ o′ : ℕ) → Promises₂ (Job arities vals starts src at k (length out) o)
-      (λ (θ : ℕ → Term) (ts : Terms). Out (o + length (encodes (subs θ ts))) at out o out′ at′ o′ (encodes ts) (encodes (filleds θ ts)))
-      → Promises₂ (WantedJob arities ars vals starts src place (length out) o want.All)
+      (out out′ : List ℕ) (o at′ o′ : ℕ) → Promises₂ (Job (slotsOf p) s starts p at k (length out) o)
+      (λ (θ : ℕ → Term) (ts : Terms). Out (o + length (encodes (subs θ ts)) + termRoom) at out o out′ at′ o′ (encodes ts) (encodes (filleds θ ts)))
+      → Promises₂ (WantedJob p s starts place (length out) o want.All)
       (λ (vs : List Term) (f : Fact). Put out o out′ o′ (wantedBytes want.All (filledFact vs f)))
   fact-done out out′ o at′ o′ done vs f w =
       let J = w .job in
-      let j = fact-job arities ars vals starts src place (length out) o bytes vs f J y at k hy hk ha in
+      let j = fact-job p s starts place (length out) o bytes vs f J y at k hy hk ha in
       record {
         wrote =
             widen (o + factRoom) (omega (arith, J .few))
-            (subst₂ (λ (p q : List ℕ). Wrote (o + length p) out o out′ o′ q) (filled-bytes (valueAt vs) (f .terms))
-            (written-canons arities vals starts src at k (length out) o (valueAt vs) (terms (f .terms)) j ∙ canonical-bytes (valueAt vs) (f .terms))
+            (subst₂ (λ (l q : List ℕ). Wrote (o + length l + termRoom) out o out′ o′ q) (filled-bytes (valueAt vs) (f .terms))
+            (written-canons (slotsOf p) s starts p at k (length out) o (valueAt vs) (terms (f .terms)) j ∙ canonical-bytes (valueAt vs) (f .terms))
             (done (valueAt vs) (terms (f .terms)) j .wrote));
-        few = fact-few arities ars vals starts src place (length out) o bytes vs f J;
+        few = fact-few p s starts place (length out) o bytes vs f J;
       }
 
 -- ── by what is wanted ──
-module _ (arities ars vals starts src : List ℕ) (place : ℕ) (p q : Wanted) (same : p ≡ q) where
-  pub ready-as : (n o : ℕ) → Asks₂ (WantedJob arities ars vals starts src place n o p) → Asks₂ (WantedJob arities ars vals starts src place n o q)
-  ready-as n o h = subst (λ (w : Wanted). (Asks₂ (WantedJob arities ars vals starts src place n o w))) same h
+module _ (p s starts : List ℕ) (place : ℕ) (v w : Wanted) (same : v ≡ w) where
+  pub ready-as : (n o : ℕ) → Asks₂ (WantedJob p s starts place n o v) → Asks₂ (WantedJob p s starts place n o w)
+  ready-as n o h = subst (λ (q : Wanted). (Asks₂ (WantedJob p s starts place n o q))) same h
 
   pub done-as :
-      (out out′ : List ℕ) (o o′ : ℕ) → Promises₂ (WantedJob arities ars vals starts src place (length out) o q)
-      (λ (vs : List Term) (f : Fact). Put out o out′ o′ (wantedBytes q (filledFact vs f)))
-      → Promises₂ (WantedJob arities ars vals starts src place (length out) o p) (λ (vs : List Term) (f : Fact). Put out o out′ o′
-      (wantedBytes p (filledFact vs f)))
-  done-as out out′ o o′ h = subst (λ (w : Wanted). (Promises₂ (WantedJob arities ars vals starts src place (length out) o w)
-      (λ (vs : List Term) (f : Fact). Put out o out′ o′ (wantedBytes w (filledFact vs f))))) (sym same) h
+      (out out′ : List ℕ) (o o′ : ℕ) → Promises₂ (WantedJob p s starts place (length out) o w)
+      (λ (vs : List Term) (f : Fact). Put out o out′ o′ (wantedBytes w (filledFact vs f)))
+      → Promises₂ (WantedJob p s starts place (length out) o v) (λ (vs : List Term) (f : Fact). Put out o out′ o′ (wantedBytes v (filledFact vs f)))
+  done-as out out′ o o′ h = subst (λ (q : Wanted). (Promises₂ (WantedJob p s starts place (length out) o q)
+      (λ (vs : List Term) (f : Fact). Put out o out′ o′ (wantedBytes q (filledFact vs f))))) (sym same) h

@@ -63,6 +63,19 @@ pub number-in : (file : List ℕ) (at : ℕ) → readIn mostGroups file at ≡ r
 unfolding readNumber
 number-in file at = refl
 
+-- ── a group that another follows ──
+module _ (file : List ℕ) (at : ℕ) (inside : at < length file) (more : 128 ≤ getD file at 0) where
+  number-more : readNumber file at ≡ longer (getD file at 0) (readIn (mostGroups - 1) file (at + 1))
+  number-more = sym (number-in file at) ∙ now-more file at mostGroups (λ z. omega arith) inside more
+
+  pub two-end : length file ≤ at + 1 → readNumber file at ≡ fault
+  two-end h = number-more ∙ ap (longer (getD file at 0)) (now-end file (at + 1) (mostGroups - 1) h)
+
+  pub two-groups :
+      at + 1 < length file → getD file (at + 1) 0 < 128
+      → readNumber file at ≡ longer (getD file at 0) (got (getD file (at + 1) 0) (at + 1 + 1))
+  two-groups h l = number-more ∙ ap (longer (getD file at 0)) (now-one file (at + 1) (mostGroups - 1) (λ z. omega arith) h l)
+
 -- ── what is written reads back ──
 module _ (n at : ℕ) (file rest : List ℕ) (e : drop at file ≡ groups n ++ rest) where
   one-back : (k : ℕ) → n < 128 → readIn (suc k) file at ≡ got n (at + length (groups n))

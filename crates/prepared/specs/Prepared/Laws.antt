@@ -37,7 +37,7 @@ module _ (p : List ℕ) (long : bodyLength ≤ length p) where
   arities-length = length-take-le symbolCount (drop aritiesAt p) (omega (arith, length-drop aritiesAt p))
 
 -- ── what the entries of a fact symbol are ──
-part-at : (p : List ℕ) (at n i : ℕ) → i < n → getD (take n (drop at p)) i 0 ≡ getD p (at + i) 0
+pub part-at : (p : List ℕ) (at n i : ℕ) → i < n → getD (take n (drop at p)) i 0 ≡ getD p (at + i) 0
 part-at p at n i h = getD-take n (drop at p) i 0 h ∙ getD-drop at p i 0
 
 module _ (p : List ℕ) (P : Protocol) (f : Body p P) (y : ℕ) (known : y < length (factArities (P .symbols))) where

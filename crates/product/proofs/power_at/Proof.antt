@@ -1,31 +1,46 @@
+use Rattle.product.proofs.PowerPaths.{power-asks, power-order, power-end, powered-none, powered-some}
 use mathlib.Core.Path.{refl}
 use native.Mathlib.Omega.{arith}
-use Rattle.product.proofs.PowerPaths.{power-asks, move-asks, powered-none, power-fits, power-part, power-copies, powered-some}
 use borrow.Author.Needs.{needs}
 use Rattle.product.proofs.power_at.Statement.{statement}
 use Rattle.product.proofs.power_at.Tie as tie
 
-slice-aggregate-write-product : tie.Need-slice-aggregate-write-product
-slice-aggregate-write-product c = search needs
-
 write-product-requires : tie.Need-write-product-requires
 write-product-requires c κs =
-    let c4 = c .before .before .before .before in
-    let r = c4 .args in power-asks (r .arities .now) (r .out .now) (r .o) (r .b) (r .z) (r .k) (c4 .pre)
+    let c3 = c .before .before .before in
+    let r = c3 .args in power-asks (r .arities .now) (r .out .now) (r .o) (r .b) (r .z) (r .k) (r .e) (c3 .pre)
 
 sub-copy-within : tie.Need-sub-copy-within
-sub-copy-within c = search needs
+sub-copy-within c =
+    let c4 = c .before .before .before .before in
+    let c8 = c4 .before .before .before .before in
+    let r = c8 .args in let z = power-order (r .arities .now) (r .out .now) (r .o) (r .b) (r .z) (r .k) (r .e) (c8 .pre) in let n = power-end (r .arities .now)
+    (r .out .now) (r .o) (r .b) (r .z) (r .k) (r .e) _ _ (c4 .write-product .ensures) (c4 .write-product .kept .0) (c8 .pre) in omega
+    (arith, c4 .write-product .kept .0)
 
 copy-within-requires : tie.Need-copy-within-requires
 copy-within-requires c κs =
-    let c8 = c .before .before .before .before .before .before .before .before in
-    let r = c8 .args in move-asks (r .arities .now) (r .out .now) (r .o) (r .b) (r .z) (r .k) _ (omega arith) (omega arith) (c8 .pre)
+    let c4 = c .before .before .before .before in
+    let c8 = c4 .before .before .before .before in
+    let r = c8 .args in let z = power-order (r .arities .now) (r .out .now) (r .o) (r .b) (r .z) (r .k) (r .e) (c8 .pre) in let n = power-end (r .arities .now)
+    (r .out .now) (r .o) (r .b) (r .z) (r .k) (r .e) _ _ (c4 .write-product .ensures) (c4 .write-product .kept .0) (c8 .pre) in
+    (omega (arith, c4 .write-product .kept .0), omega (arith, c4 .write-product .kept .0))
 
 sub-result : tie.Need-sub-result
-sub-result c = search needs
+sub-result c =
+    let c7 = c .before .before .before .before .before .before .before in
+    let c11 = c7 .before .before .before .before in
+    let r = c11 .args in let z = power-order (r .arities .now) (r .out .now) (r .o) (r .b) (r .z) (r .k) (r .e) (c11 .pre) in let n = power-end
+    (r .arities .now) (r .out .now) (r .o) (r .b) (r .z) (r .k) (r .e) _ _ (c7 .write-product .ensures) (c7 .write-product .kept .0) (c11 .pre) in omega
+    arith
 
 add-result : tie.Need-add-result
-add-result c = search needs
+add-result c =
+    let c7 = c .before .before .before .before .before .before .before in
+    let c11 = c7 .before .before .before .before in
+    let r = c11 .args in let z = power-order (r .arities .now) (r .out .now) (r .o) (r .b) (r .z) (r .k) (r .e) (c11 .pre) in let n = power-end
+    (r .arities .now) (r .out .now) (r .o) (r .b) (r .z) (r .k) (r .e) _ _ (c7 .write-product .ensures) (c7 .write-product .kept .0) (c11 .pre) in omega
+    (arith, c7 .write-product .kept .0, c .before .before .copy-within .kept .0)
 
 same-length : tie.Need-same-length
 same-length c = search needs
@@ -33,75 +48,112 @@ same-length c = search needs
 returns : tie.Need-returns
 returns c =
     let c4 = c .before .before .before .before in
-    let c6 = c4 .before .before in
-    let c11 = c6 .before .before .before .before .before in
-    let r = c11 .args in powered-none (r .arities .now) (r .out .now) (r .o) (r .b) (r .z) (r .k) _ refl _ _ (c6 .write-product .ensures) (c4 .if1 .taken) _
-    (c .before .before .copy-within .ensures)
+    let c7 = c4 .before .before .before in
+    let c11 = c7 .before .before .before .before in
+    let r = c11 .args in powered-none (r .arities .now) (r .out .now) (r .o) (r .b) (r .z) (r .k) (r .e) _ _ (c7 .write-product .ensures)
+    (c7 .write-product .kept .0) (c4 .if1 .taken) _ (c .before .before .copy-within .ensures)
 
 add-copy-within : tie.Need-add-copy-within
-add-copy-within c = search needs
+add-copy-within c =
+    let c4 = c .before .before .before .before in
+    let c8 = c4 .before .before .before .before in
+    let r = c8 .args in let z = power-order (r .arities .now) (r .out .now) (r .o) (r .b) (r .z) (r .k) (r .e) (c8 .pre) in let n = power-end (r .arities .now)
+    (r .out .now) (r .o) (r .b) (r .z) (r .k) (r .e) _ _ (c4 .write-product .ensures) (c4 .write-product .kept .0) (c8 .pre) in omega
+    (arith, c4 .write-product .kept .0)
 
 sub-copy-within-2 : tie.Need-sub-copy-within-2
-sub-copy-within-2 c = search needs
+sub-copy-within-2 c =
+    let c4 = c .before .before .before .before in
+    let c8 = c4 .before .before .before .before in
+    let r = c8 .args in let z = power-order (r .arities .now) (r .out .now) (r .o) (r .b) (r .z) (r .k) (r .e) (c8 .pre) in let n = power-end (r .arities .now)
+    (r .out .now) (r .o) (r .b) (r .z) (r .k) (r .e) _ _ (c4 .write-product .ensures) (c4 .write-product .kept .0) (c8 .pre) in omega
+    (arith, c4 .write-product .kept .0)
 
 copy-within-requires-2 : tie.Need-copy-within-requires-2
 copy-within-requires-2 c κs =
-    let c8 = c .before .before .before .before .before .before .before .before in
-    let r = c8 .args in move-asks (r .arities .now) (r .out .now) (r .o) (r .b) (r .z) (r .k) _ (omega arith) (omega arith) (c8 .pre)
+    let c4 = c .before .before .before .before in
+    let c8 = c4 .before .before .before .before in
+    let r = c8 .args in let z = power-order (r .arities .now) (r .out .now) (r .o) (r .b) (r .z) (r .k) (r .e) (c8 .pre) in let n = power-end (r .arities .now)
+    (r .out .now) (r .o) (r .b) (r .z) (r .k) (r .e) _ _ (c4 .write-product .ensures) (c4 .write-product .kept .0) (c8 .pre) in
+    (omega (arith, c4 .write-product .kept .0), omega (arith, c4 .write-product .kept .0))
 
-add-copy-into : tie.Need-add-copy-into
-add-copy-into c = search needs
+add-y : tie.Need-add-y
+add-y c =
+    let c7 = c .before .before .before .before .before .before .before in
+    let c11 = c7 .before .before .before .before in
+    let r = c11 .args in let z = power-order (r .arities .now) (r .out .now) (r .o) (r .b) (r .z) (r .k) (r .e) (c11 .pre) in let n = power-end
+    (r .arities .now) (r .out .now) (r .o) (r .b) (r .z) (r .k) (r .e) _ _ (c7 .write-product .ensures) (c7 .write-product .kept .0) (c11 .pre) in omega
+    (arith, c7 .write-product .kept .0, c .before .before .copy-within2 .kept .0)
 
-sub-copy-into : tie.Need-sub-copy-into
-sub-copy-into c = search needs
+sub-y : tie.Need-sub-y
+sub-y c =
+    let c7 = c .before .before .before .before .before .before .before in
+    let c11 = c7 .before .before .before .before in
+    let r = c11 .args in let z = power-order (r .arities .now) (r .out .now) (r .o) (r .b) (r .z) (r .k) (r .e) (c11 .pre) in let n = power-end
+    (r .arities .now) (r .out .now) (r .o) (r .b) (r .z) (r .k) (r .e) _ _ (c7 .write-product .ensures) (c7 .write-product .kept .0) (c11 .pre) in omega
+    (arith, c7 .write-product .kept .0, c .before .before .copy-within2 .kept .0)
 
-add-copy-into-2 : tie.Need-add-copy-into-2
-add-copy-into-2 c = search needs
+add-y-2 : tie.Need-add-y-2
+add-y-2 c =
+    let c7 = c .before .before .before .before .before .before .before in
+    let c11 = c7 .before .before .before .before in
+    let r = c11 .args in let z = power-order (r .arities .now) (r .out .now) (r .o) (r .b) (r .z) (r .k) (r .e) (c11 .pre) in let n = power-end
+    (r .arities .now) (r .out .now) (r .o) (r .b) (r .z) (r .k) (r .e) _ _ (c7 .write-product .ensures) (c7 .write-product .kept .0) (c11 .pre) in omega
+    (arith, c7 .write-product .kept .0, c .before .before .copy-within2 .kept .0)
 
-array-share-prefix-tmp : tie.Need-array-share-prefix-tmp
-array-share-prefix-tmp c =
+sub-copy-within-3 : tie.Need-sub-copy-within-3
+sub-copy-within-3 c =
     let c3 = c .before .before .before in
-    let c5 = c3 .before .before in
-    let c7 = c5 .before .before in
-    let c12 = c7 .before .before .before .before .before in
-    let r = c12 .args in let z = power-fits (r .arities .now) (r .out .now) (r .o) (r .b) (r .z) (r .k) _ refl _ _ (c7 .write-product .ensures) (c5 .if1 .left)
-    _ (c3 .copy-within2 .ensures) (c3 .copy-within2 .kept .0) (c12 .pre) in omega arith
+    let c8 = c3 .before .before .before .before .before in
+    let c12 = c8 .before .before .before .before in
+    let r = c12 .args in let z = power-order (r .arities .now) (r .out .now) (r .o) (r .b) (r .z) (r .k) (r .e) (c12 .pre) in let n = power-end
+    (r .arities .now) (r .out .now) (r .o) (r .b) (r .z) (r .k) (r .e) _ _ (c8 .write-product .ensures) (c8 .write-product .kept .0) (c12 .pre) in omega
+    (arith, c8 .write-product .kept .0, c3 .copy-within2 .kept .0)
 
-slice-aggregate-copy-into : tie.Need-slice-aggregate-copy-into
-slice-aggregate-copy-into c =
-    let c4 = c .before .before .before .before in
-    let c6 = c4 .before .before in
-    let c8 = c6 .before .before in
-    let c13 = c8 .before .before .before .before .before in
-    let r = c13 .args in power-part (r .arities .now) (r .out .now) (r .o) (r .b) (r .z) (r .k) _ refl _ _ (c8 .write-product .ensures) (c6 .if1 .left) _
-    (c4 .copy-within2 .ensures) (c4 .copy-within2 .kept .0) (c13 .pre)
+copy-within-requires-3 : tie.Need-copy-within-requires-3
+copy-within-requires-3 c κs =
+    let c3 = c .before .before .before in
+    let c8 = c3 .before .before .before .before .before in
+    let c12 = c8 .before .before .before .before in
+    let r = c12 .args in let z = power-order (r .arities .now) (r .out .now) (r .o) (r .b) (r .z) (r .k) (r .e) (c12 .pre) in let n = power-end
+    (r .arities .now) (r .out .now) (r .o) (r .b) (r .z) (r .k) (r .e) _ _ (c8 .write-product .ensures) (c8 .write-product .kept .0) (c12 .pre) in
+    (omega (arith, c3 .copy-within2 .kept .0), omega (arith, c3 .copy-within2 .kept .0))
 
-copy-into-requires : tie.Need-copy-into-requires
-copy-into-requires c κs =
-    let c4 = c .before .before .before .before in
-    let c6 = c4 .before .before in
-    let c8 = c6 .before .before in
-    let c13 = c8 .before .before .before .before .before in
-    let r = c13 .args in power-copies (r .arities .now) (r .out .now) (r .o) (r .b) (r .z) (r .k) _ refl _ _ (c8 .write-product .ensures) (c6 .if1 .left) _
-    (c4 .copy-within2 .ensures) (c4 .copy-within2 .kept .0) (c13 .pre)
+sub-result-2 : tie.Need-sub-result-2
+sub-result-2 c =
+    let c6 = c .before .before .before .before .before .before in
+    let c11 = c6 .before .before .before .before .before in
+    let c15 = c11 .before .before .before .before in
+    let r = c15 .args in let z = power-order (r .arities .now) (r .out .now) (r .o) (r .b) (r .z) (r .k) (r .e) (c15 .pre) in let n = power-end
+    (r .arities .now) (r .out .now) (r .o) (r .b) (r .z) (r .k) (r .e) _ _ (c11 .write-product .ensures) (c11 .write-product .kept .0) (c15 .pre) in omega
+    (arith, c11 .write-product .kept .0, c6 .copy-within2 .kept .0, c .before .before .copy-within3 .kept .0)
+
+add-result-2 : tie.Need-add-result-2
+add-result-2 c =
+    let c6 = c .before .before .before .before .before .before in
+    let c11 = c6 .before .before .before .before .before in
+    let c15 = c11 .before .before .before .before in
+    let r = c15 .args in let z = power-order (r .arities .now) (r .out .now) (r .o) (r .b) (r .z) (r .k) (r .e) (c15 .pre) in let n = power-end
+    (r .arities .now) (r .out .now) (r .o) (r .b) (r .z) (r .k) (r .e) _ _ (c11 .write-product .ensures) (c11 .write-product .kept .0) (c15 .pre) in omega
+    (arith, c11 .write-product .kept .0, c6 .copy-within2 .kept .0, c .before .before .copy-within3 .kept .0)
 
 same-length-2 : tie.Need-same-length-2
 same-length-2 c = search needs
 
 returns-2 : tie.Need-returns-2
 returns-2 c =
-    let c7 = c .before .before .before .before .before .before .before in
-    let c9 = c7 .before .before in
-    let c11 = c9 .before .before in
-    let c16 = c11 .before .before .before .before .before in
-    let r = c16 .args in powered-some (r .arities .now) (r .out .now) (r .o) (r .b) (r .z) (r .k) _ refl _ _ (c11 .write-product .ensures) (c9 .if1 .left) _
-    (c7 .copy-within2 .ensures) (c7 .copy-within2 .kept .0) _ _ (c .before .before .copy-into .ensures .0) (c .before .before .copy-into .ensures .1)
+    let c6 = c .before .before .before .before .before .before in
+    let c8 = c6 .before .before in
+    let c11 = c8 .before .before .before in
+    let c15 = c11 .before .before .before .before in
+    let r = c15 .args in powered-some (r .arities .now) (r .out .now) (r .o) (r .b) (r .z) (r .k) (r .e) _ _ (c11 .write-product .ensures)
+    (c11 .write-product .kept .0) (c8 .if1 .left) _ (c6 .copy-within2 .ensures) (c6 .copy-within2 .kept .0) _ _ refl
+    (c .before .before .copy-within3 .ensures)
 
 pub power-at-spec : {M : Type 1} → statement M
 power-at-spec =
     tie.close
     (tie.spec
-    slice-aggregate-write-product
     write-product-requires
     sub-copy-within
     copy-within-requires
@@ -112,11 +164,12 @@ power-at-spec =
     add-copy-within
     sub-copy-within-2
     copy-within-requires-2
-    add-copy-into
-    sub-copy-into
-    add-copy-into-2
-    array-share-prefix-tmp
-    slice-aggregate-copy-into
-    copy-into-requires
+    add-y
+    sub-y
+    add-y-2
+    sub-copy-within-3
+    copy-within-requires-3
+    sub-result-2
+    add-result-2
     same-length-2
     returns-2)

@@ -1,42 +1,64 @@
 use borrow.Author.Needs.{needs}
-use lib.ListN.{length, length-set}
-use mathlib.Core.Path.{_≡_, refl, sym, _∙_}
-use native.Mathlib.Omega.{arith}
-use Prim.Native.Nat.{_≤_, _-_}
-use Rattle.octets.specs.Splice.Prefix.{Wrote}
+use Rattle.product.proofs.PutPaths.{many-first, many-room, many-behind, many-more}
 use Rattle.product.specs.Chain.{repeated}
-use Rattle.product.proofs.PutPaths.{many-first, many-room, many-more}
+use Rattle.product.specs.Writing.{bytesIn}
+use Rattle.octets.specs.Splice.Prefix.{Wrote}
+use Prim.Native.Nat.{_≤_, _-_}
+use native.Mathlib.Omega.{arith}
+use mathlib.Core.Path.{_≡_, refl, sym, _∙_}
+use lib.ListN.{length, length-set}
 use Rattle.product.proofs.put_many.Statement.{statement}
 use Rattle.product.proofs.put_many.Tie as tie
 
 abbrev Inv-loop : tie.InvT-loop
-Inv-loop out₀ o x m p₀ i₀ out p i =
-    (length out ≡ length out₀) × (i ≤ m) × Wrote (length out₀) out₀ o out p (repeated i x)
+Inv-loop out₀ o a e m len p₀ i₀ out p i =
+    (length out ≡ length out₀) × (i ≤ m) × Wrote p out₀ o out p (repeated i (bytesIn out₀ a e))
 
 abbrev μ-loop : tie.MeasureT-loop
-μ-loop out₀ o x m p₀ i₀ out p i =
+μ-loop out₀ o a e m len p₀ i₀ out p i =
     m - i
+
+sub-len : tie.Need-sub-len Inv-loop μ-loop
+sub-len c = search needs
 
 loop-holds : tie.Need-loop-holds Inv-loop μ-loop
 loop-holds c =
-    let r = c .before .before .args in (refl, omega arith, many-first (r .x .now) (r .o) (r .m) (r .out .now) (c .before .before .pre))
+    let r = c .before .args in (refl, omega arith, many-first (r .out .now) (r .o) (r .a) (r .e) (r .m) (c .before .pre))
 
 slice-write-out : tie.Need-slice-write-out Inv-loop μ-loop
 slice-write-out c =
+    let c3 = c .before .before .before in
+    let r = c3 .args in let z = many-room (r .out .now) (r .o) (r .a) (r .e) (r .m) (c3 .pre) _ _ _ (c .before .loop .inv) (c .loop-test .taken) in omega arith
+
+add-copy-within : tie.Need-add-copy-within Inv-loop μ-loop
+add-copy-within c =
     let c4 = c .before .before .before .before in
-    let r = c4 .args in let z = many-room (r .x .now) (r .o) (r .m) (r .out .now) (c4 .pre) _ _ _ (c .before .loop .inv) (c .loop-test .taken) in omega arith
+    let r = c4 .args in let z = many-room (r .out .now) (r .o) (r .a) (r .e) (r .m) (c4 .pre) _ _ _ (c .before .before .loop .inv)
+    (c .before .loop-test .taken) in omega arith
 
-add-copy-into : tie.Need-add-copy-into Inv-loop μ-loop
-add-copy-into c =
-    let c5 = c .before .before .before .before .before in
-    let r = c5 .args in let z = many-room (r .x .now) (r .o) (r .m) (r .out .now) (c5 .pre) _ _ _ (c .before .before .loop .inv) (c .before .loop-test .taken)
-    in omega arith
+copy-within-requires : tie.Need-copy-within-requires Inv-loop μ-loop
+copy-within-requires c κs =
+    let c4 = c .before .before .before .before in
+    let r = c4 .args in let z = many-room (r .out .now) (r .o) (r .a) (r .e) (r .m) (c4 .pre) _ _ _ (c .before .before .loop .inv)
+    (c .before .loop-test .taken) in let y = many-behind (r .out .now) (r .o) (r .a) (r .e) (r .m) (c4 .pre) _ _ _ (c .before .before .loop .inv)
+    (c .before .loop-test .taken) in
+    (rw length-set (omega (arith, c4 .pre .0, c4 .pre .1)), rw length-set z)
 
-copy-into-requires : tie.Need-copy-into-requires Inv-loop μ-loop
-copy-into-requires c κs =
-    let c5 = c .before .before .before .before .before in
-    let r = c5 .args in let z = many-room (r .x .now) (r .o) (r .m) (r .out .now) (c5 .pre) _ _ _ (c .before .before .loop .inv) (c .before .loop-test .taken)
-    in rw length-set z
+add-p : tie.Need-add-p Inv-loop μ-loop
+add-p c =
+    let c4 = c .before .before .before .before in
+    let c5 = c4 .before in
+    let c7 = c5 .before .before in
+    let r = c7 .args in let z = many-room (r .out .now) (r .o) (r .a) (r .e) (r .m) (c7 .pre) _ _ _ (c5 .loop .inv) (c4 .loop-test .taken) in omega
+    (arith, c .before .before .copy-within .kept)
+
+add-p-2 : tie.Need-add-p-2 Inv-loop μ-loop
+add-p-2 c =
+    let c4 = c .before .before .before .before in
+    let c5 = c4 .before in
+    let c7 = c5 .before .before in
+    let r = c7 .args in let z = many-room (r .out .now) (r .o) (r .a) (r .e) (r .m) (c7 .pre) _ _ _ (c5 .loop .inv) (c4 .loop-test .taken) in omega
+    (arith, c .before .before .copy-within .kept)
 
 add-i : tie.Need-add-i Inv-loop μ-loop
 add-i c = search needs
@@ -48,13 +70,12 @@ loop-again : tie.Need-loop-again Inv-loop μ-loop
 loop-again c =
     let c4 = c .before .before .before .before in
     let c5 = c4 .before in
-    let c8 = c5 .before .before .before in
-    let r = c8 .args in (
-      c .before .before .copy-into .kept .0 ∙ length-set (c5 .loop .out) (c5 .loop .p) 12 ∙ c5 .loop .inv .0,
+    let c7 = c5 .before .before in
+    let r = c7 .args in (
+      c .before .before .copy-within .kept .0 ∙ length-set (c5 .loop .out) (c5 .loop .p) 12 ∙ c5 .loop .inv .0,
       omega arith,
-      many-more
-          (r .x .now) (r .o) (r .m) (r .out .now) (c8 .pre) _ _ _ (c5 .loop .inv) (c4 .loop-test .taken) _ _ (c .before .before .copy-into .ensures .0)
-          (c .before .before .copy-into .ensures .1),
+      many-more (r .out .now) (r .o) (r .a) (r .e) (r .m) (c7 .pre) _ _ _ (c5 .loop .inv) (c4 .loop-test .taken) _ _ refl
+          (c .before .before .copy-within .ensures),
     )
 
 same-length : tie.Need-same-length Inv-loop μ-loop
@@ -63,7 +84,7 @@ same-length c =
 
 returns : tie.Need-returns Inv-loop μ-loop
 returns c =
-    let z : c .before .loop .i ≡ c .before .before .before .before .args .m = omega arith in rw (sym z) (c .before .loop .inv .2)
+    let z : c .before .loop .i ≡ c .before .before .before .args .m = omega arith in rw (sym z) (c .before .loop .inv .2)
 
 pub put-many-spec : {M : Type 1} → statement M
 put-many-spec =
@@ -71,10 +92,13 @@ put-many-spec =
     (tie.spec
     Inv-loop
     μ-loop
+    sub-len
     loop-holds
     slice-write-out
-    add-copy-into
-    copy-into-requires
+    add-copy-within
+    copy-within-requires
+    add-p
+    add-p-2
     add-i
     loop-less
     loop-again

@@ -15,7 +15,7 @@ use Rattle.message.specs.Product.{Exps, empty, part, times, ups}
 use Rattle.message.specs.Parts.{neg}
 use Rattle.message.specs.Gather.{any}
 use Rattle.factors.specs.Mass.{size}
-use Rattle.factors.specs.Rows.{Rows}
+use Rattle.factors.specs.Rows.{startOf, endOf, Rows}
 use Rattle.product.specs.Side.{rise, side, Next}
 
 pub side-ups : (l : Exps) → side false l ≡ ups l
@@ -32,17 +32,17 @@ side-downs (part t (pos (suc k)) l) = side-downs l
 side-downs (part t (negsuc k) l) = ap (times (suc k) t) (side-downs l)
 
 -- ── in a table ──
-module _ (src S E : List ℕ) (P : List ℤ) (n : ℕ) (m : Bool) where
+module _ (src Q : List ℕ) (P : List ℤ) (n : ℕ) (m : Bool) where
   -- the entries from i on have the factors of l on the side
   pub record From (i : ℕ) (l : Exps) : Type 0 where
     pub rest : Exps
-    pub rows : Rows src S E P i rest
+    pub rows : Rows src Q P i rest
     pub count : i + size rest ≡ n
     pub same : side m l ≡ side m rest
 
   -- entries that do not stand on the side are passed over
   pub from-next :
-      (l : Exps) (i r : ℕ) → i ≤ r → r ≤ n → ((j : ℕ) → i ≤ j → j < r → rise m (getD P j (pos 0)) ≡ 0) → Rows src S E P i l
+      (l : Exps) (i r : ℕ) → i ≤ r → r ≤ n → ((j : ℕ) → i ≤ j → j < r → rise m (getD P j (pos 0)) ≡ 0) → Rows src Q P i l
       → i + size l ≡ n → From r l
   unfolding Rows size side
   from-next empty i r f w Z R c = record { rest = empty; rows = tt; count = omega arith; same = refl }
@@ -57,13 +57,13 @@ module _ (src S E : List ℕ) (P : List ℤ) (n : ℕ) (m : Bool) where
   -- the entry at i, and those behind it
   pub record Entry (i : ℕ) (l : Exps) : Type 0 where
     pub t : Term
-    pub there : Stands src (getD S i 0) (encode t) (getD E i 0)
+    pub there : Stands src (startOf Q i) (encode t) (endOf Q i)
     pub others : Exps
-    pub rows : Rows src S E P (i + 1) others
+    pub rows : Rows src Q P (i + 1) others
     pub count : i + 1 + size others ≡ n
     pub is : side m l ≡ times (rise m (getD P i (pos 0))) t (side m others)
 
-  pub entry : (i : ℕ) (l : Exps) → i < n → Rows src S E P i l → i + size l ≡ n → Entry i l
+  pub entry : (i : ℕ) (l : Exps) → i < n → Rows src Q P i l → i + size l ≡ n → Entry i l
   unfolding Rows size side
   entry i empty h R c = absurd (omega arith)
   entry i (part t k l) h R c =
@@ -75,7 +75,7 @@ module _ (src S E : List ℕ) (P : List ℤ) (n : ℕ) (m : Bool) where
 
   -- whether an entry is left
   more-is :
-      (j : ℕ) (l : Exps) → (j < n → 0 < rise m (getD P j (pos 0))) → j ≤ n → Rows src S E P j l → j + size l ≡ n
+      (j : ℕ) (l : Exps) → (j < n → 0 < rise m (getD P j (pos 0))) → j ≤ n → Rows src Q P j l → j + size l ≡ n
       → ltb j n ≡ any (side m l)
   unfolding size side
   more-is j empty g w R c = le-ltb j n (omega arith)
@@ -84,7 +84,7 @@ module _ (src S E : List ℕ) (P : List ℤ) (n : ℕ) (m : Bool) where
       lt-ltb j n (omega arith) ∙ sym (ap any (X .is) ∙ any-times _ (X .t) (side m (X .others)) (g (omega arith)))
 
   -- from the next that stands on the side
-  pub after-next : (l : Exps) (i r : ℕ) → Next P i n m r → Rows src S E P i l → i + size l ≡ n → From r l × (ltb r n ≡ any (side m l))
+  pub after-next : (l : Exps) (i r : ℕ) → Next P i n m r → Rows src Q P i l → i + size l ≡ n → From r l × (ltb r n ≡ any (side m l))
   after-next l i r N R c =
       let F = from-next l i r (N .from) (N .within) (N .none) R c in
       (F, more-is r (F .rest) (N .here) (N .within) (F .rows) (F .count) ∙ ap any (sym (F .same)))

@@ -2,7 +2,7 @@
 use Prim.Native.Nat.{ℕ}
 use mathlib.Core.List.{List}
 use mathlib.Core.Bool.{Bool}
-use mathlib.Core.Path.{_≡_, refl, ap, _∙_}
+use mathlib.Core.Path.{_≡_, refl, ap, sym, _∙_}
 use lib.ListN.{length}
 use Rattle.protocol.specs.Figures.{sortCount, factLimit, variableLimit}
 use Rattle.number.specs.Reading.{Read, got, fault, andThen, below, many, seen}
@@ -24,6 +24,11 @@ end-place q fault = refl
 -- a walk's end, where the walk stands for a reading
 pub end-walk : {A : Type 0} (q : A → Bool) (r : Read A) {w : Seen} {n : ℕ} → n ≡ endOf w → w ≡ seen q r → n ≡ placeOf r
 end-walk q r h k = h ∙ ap endOf k ∙ end-place q r
+
+-- the first of several stands at their start
+pub first-place : {A : Type 0} (p : ℕ → Read A) (i e : ℕ) → i ≡ 0 → e ≡ placeOf (many p i e)
+unfolding many
+first-place p i e h = sym (ap (λ (k : ℕ). placeOf (many p k e)) h)
 
 place-then : {A B : Type 0} (f : A → ℕ → Read B) {r o : Read A} → r ≡ o → placeOf (andThen r f) ≡ placeOf (andThen o f)
 place-then {A} f h = ap (λ (o : Read A). placeOf (andThen o f)) h

@@ -70,6 +70,12 @@ module _ (file arities ars : List ℕ) where
     pub vars-law : valueOf (sortsAt file at) ≡ length (r .sorts)
     vars-law = ap valueOf sorts-are
 
+    pub variables-law : valueOf (below file variableLimit at) ≡ length (r .sorts)
+    unfolding counted
+    variables-law =
+        cut-got (below file variableLimit at) _ (rule-parts .sorts) (λ n c hn hm.
+        ap valueOf hn ∙ sym (many-length (below file sortCount) n c (rule-parts .behind) (r .sorts) hm))
+
     -- the sort of variable v
     pub sort-law : (v : ℕ) → v < length (r .sorts) → valueOf (sortOf file at v) ≡ getD (r .sorts) v 0
     unfolding sortOf counted

@@ -1,27 +1,24 @@
 -- What the code finds for a rule number: the rule's bytes, written out; its place in the protocol file; or no rule.
 use Prim.Native.Nat.{ℕ, _+_, _-_, _≤_, _<_}
-use mathlib.Core.List.{List, [], append-nil}
+use mathlib.Core.List.{List}
 use mathlib.Core.Option.{some, none}
-use mathlib.Core.Path.{_≡_, ap, ap₂, sym, _∙_, subst}
+use mathlib.Core.Path.{_≡_, ap, sym, _∙_, subst}
 use native.Mathlib.Omega.{arith}
-use lib.ListN.{length, getD, take, getElem?}
+use lib.ListN.{length, getD, getElem?}
 use lib.Dec.{ltb}
 use borrow.Author.Tests.{lt-ltb, le-ltb}
 use Rattle.lists.specs.Choice.{pick, by-size}
-use Rattle.octets.specs.Head.{Bytes}
 use Rattle.lists.specs.All.{All}
 use Rattle.lists.specs.Lists.Laws.{at-inside, at-outside}
 use Rattle.term.specs.Arity.{arity, tagArities, undeclared}
 use Rattle.term.specs.Arity.Laws.{slot-inside, arity-none, arity-some}
-use Rattle.protocol.specs.Protocol.{Rule, Protocol, emptyRule, factArities, encodeRule, rule}
-use Rattle.protocol.specs.Protocol.Limits.{Within}
-use Rattle.protocol.specs.Protocol.Exact.{rule-exact, few-arities}
+use Rattle.protocol.specs.Protocol.{Rule, Protocol, emptyRule, encodeRule, rule}
 use Rattle.protocol.specs.Places.{Here}
-use Rattle.protocol.specs.Index.{Entries, Placed}
+use Rattle.protocol.specs.Index.{Placed}
 use Rattle.rules.specs.declared.numbered.FoundRule.{FoundRule}
 use Rattle.rules.specs.declared.numbered.FoundRule.the-variants as fd
 use Rattle.rules.specs.Numbered.{fixed, applies, applied, ruleOf, firstOwnRule}
-use Rattle.rules.specs.Numbered.Limits.{Slot, takes, empty, slot-at, rule-within}
+use Rattle.rules.specs.Numbered.Limits.{Slot, takes, empty, slot-at}
 use Rattle.rules.specs.Numbered.Writing.{Holds}
 
 -- ── an apply-rule ──
@@ -117,27 +114,3 @@ module _ (p : Protocol) (n : ℕ) where
         })
         (λ l. subst (λ (x : FoundRule). Finds p file slots′ ars n x out) (sym (e ∙ place-none places nr (n - 31) l))
         (of-own h ∙ at-outside (p .rules) (n - 31) (omega (arith, q .count))))
-
--- what is written is read as that rule, like a rule of the file
-pub written-reads :
-    (p : Protocol) → Within p → (n len : ℕ) (out : List ℕ) → (w : WrittenAs p n len out) → Bytes (take len out)
-    → Here (rule (take len out) (tagArities (p .functions)) (factArities (p .symbols))) (w .its) 0
-written-reads p v n len out w bytes =
-    let few : length (factArities (p .symbols)) ≤ 36 = few-arities (p .symbols) (v .few-symbols) in
-    record {
-      next = 0 + length (encodeRule (w .its));
-      reads =
-          rule-exact (take len out) bytes (tagArities (p .functions)) (factArities (p .symbols)) (omega arith)
-          .back (w .its) 0 [] (rule-within p v n (w .its) (w .is)) (w .holds .bytes ∙ sym (append-nil (encodeRule (w .its))));
-    }
-
--- the same under the index of a file
-pub written-here :
-    {file : List ℕ} {ns nr : ℕ} {arities ars flags places : List ℕ} (i : Entries file ns nr arities ars flags places) (n len : ℕ) (out : List ℕ)
-    → (w : WrittenAs (i .is) n len out) → Bytes (take len out) → Here (rule (take len out) arities (take ns ars)) (w .its) 0
-written-here {file} {ns} {nr} {arities} {ars} i n len out w bytes =
-    let h = written-reads (i .is) (i .within) n len out w bytes in
-    record {
-      next = h .next;
-      reads = ap₂ (λ (a b : List ℕ). rule (take len out) a b 0) (i .slotted) (i .tabled) ∙ h .reads;
-    }

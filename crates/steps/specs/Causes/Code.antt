@@ -3,21 +3,21 @@ use Prim.Native.Nat.{ℕ, zero, suc, _≤_}
 use mathlib.Core.List.{List}
 use mathlib.Core.Option.{Option, none, some}
 use mathlib.Core.Path.{_≡_, refl, ap, sym, _∙_, subst}
+use native.Mathlib.Omega.{arith}
 use lib.ListN.{length}
-use Rattle.lists.specs.Asks.{Asks₂}
 use Rattle.lists.specs.Lists.{firstBad}
 use Rattle.rewriting.specs.Table.{Ruling, passed, refused, orRefuse}
 use Rattle.rewriting.specs.Writer.{firstNameTwice}
 use Rattle.octets.specs.Head.{Bytes}
 use Rattle.octets.specs.Limits.{longest}
 use Rattle.protocol.specs.Protocol.{Protocol}
-use Rattle.protocol.specs.Index.{Placed}
-use Rattle.steps.specs.Nodes.{Node, Reading, node, steps, mostNodes}
-use Rattle.steps.specs.Nodes.Code.{noNode, NodesAre, Told}
+use Rattle.prepared.specs.Prepared.{Prepared}
+use Rattle.steps.specs.Nodes.{Node, Reading, steps}
+use Rattle.steps.specs.Nodes.Code.{NodesAre, Told}
 use Rattle.steps.specs.Nodes.Exact.{steps-form}
-use Rattle.steps.specs.Index.{IndexOf}
+use Rattle.steps.specs.Table.{tableLength, NodesIn}
 use Rattle.steps.specs.Values.Tests.{nodeValuesOk, nodeTermsOk}
-use Rattle.steps.specs.Values.Scan.{asFound, NodesAt}
+use Rattle.steps.specs.Values.Scan.{asFound}
 use Rattle.steps.specs.Runs.{rewrittens}
 use Rattle.steps.specs.Causes.{stepsItem, nodeRuling, listRuling}
 use Rattle.steps.specs.declared.nodes.Nodes.{Nodes}
@@ -78,38 +78,37 @@ module _ (p : Protocol) (xs : List Node) where
             ap {B = Ruling ℕ} passed (sym l) ∙ ap (λ (o : Option ℕ). Passes none none o) (sym (found-none k h) ∙ names) ∙ second
 
 -- ── the whole list, as it was read ──
-module _ (p : Protocol) (file nodes : List ℕ) (r : Nodes) (told : Told (steps p file) p file nodes r) where
+module _ (P : Protocol) (p s nodes : List ℕ) (r : Nodes) (told : Told (steps P s) p s nodes r) where
   abbrev Whole : Ruling ℕ
-  Whole = counted (listRuling p stepsItem (steps p file))
+  Whole = counted (listRuling P stepsItem (steps P s))
+
+  as-told : {q : Nodes} → r ≡ q → Told (steps P s) p s nodes q
+  as-told h = subst (Told (steps P s) p s nodes) h told
 
   pub list-broken : r ≡ all.Broken → refused 3 stepsItem ≡ Whole
-  list-broken h =
-      ap (λ (q : Reading (List Node)). counted (listRuling p stepsItem q)) (sym (subst (Told (steps p file) p file nodes) h told))
+  list-broken h = ap (λ (q : Reading (List Node)). counted (listRuling P stepsItem q)) (sym (as-told h))
 
   pub list-unknown : {k : ℕ} → r ≡ all.NoRule k → refused 6 k ≡ Whole
-  list-unknown h =
-      ap (λ (q : Reading (List Node)). counted (listRuling p stepsItem q)) (sym (subst (Told (steps p file) p file nodes) h told))
+  list-unknown h = ap (λ (q : Reading (List Node)). counted (listRuling P stepsItem q)) (sym (as-told h))
 
   module _ {n e : ℕ} (h : r ≡ all.End n e) where
-    pub list-read : NodesAre (steps p file) p file nodes n e
-    list-read = subst (Told (steps p file) p file nodes) h told
+    pub list-read : NodesAre (steps P s) p s nodes n e
+    list-read = as-told h
 
-    pub list-few : Bytes file → n ≤ mostNodes
-    list-few bytes =
+    -- the nodes that were read stand in the table
+    pub list-in : Prepared p P → Bytes s → length nodes ≡ tableLength → length s ≤ longest → NodesIn p s nodes n P (list-read .items)
+    list-in f bytes long short =
         let t = list-read in
-        let f : length (t .items) ≤ mostNodes = steps-form p file bytes (t .items) e (t .there) .0 .few in
-        subst (λ k. k ≤ mostNodes) (t .placed .count) f
+        let w = steps-form P s bytes (t .items) e (t .there) .0 in
+        record {
+          prepared = f;
+          count = t .count;
+          few = omega (arith, w .few, t .count);
+          within = w .each;
+          rows = t .rows;
+          long = long;
+          short = short;
+        }
 
-    pub list-nodes :
-        (j : NodesRuling) → ((xs : List Node) → Placed (node p file) noNode nodes xs n → rulingOf j ≡ counted (nodeRuling p xs)) → rulingOf j ≡ Whole
-    list-nodes j k =
-        let t = list-read in
-        k (t .items) (t .placed) ∙ ap (λ (q : Reading (List Node)). counted (listRuling p stepsItem q)) (sym (t .there))
-
--- the nodes that were read are nodes of some protocol with this index
-pub list-some :
-    {protocol arities rules : List ℕ} {nr : ℕ} {p : Protocol} (i : IndexOf protocol arities rules nr p) (file nodes : List ℕ) → length file ≤ longest
-    → (r : Nodes) → Told (steps p file) p file nodes r → {n e : ℕ} → r ≡ all.End n e → Asks₂ (NodesAt protocol arities rules nr file nodes n)
-list-some {p = p} i file nodes short r told h =
-    let t = list-read p file nodes r told h in
-    (p, t .items, record { index = i; placed = t .placed; short = short })
+    pub list-nodes : (j : NodesRuling) → rulingOf j ≡ counted (nodeRuling P (list-read .items)) → rulingOf j ≡ Whole
+    list-nodes j k = k ∙ ap (λ (q : Reading (List Node)). counted (listRuling P stepsItem q)) (sym (list-read .there))

@@ -1,34 +1,46 @@
 -- What a good answer says of the nodes: each stands at its place, they are right, and no name is made twice.
-use Prim.Native.Nat.{ℕ, _≤_}
+use Prim.Native.Nat.{ℕ, _≤_, _<_}
 use mathlib.Core.List.{List}
 use mathlib.Core.Path.{_≡_, refl, ap, sym, _∙_, subst}
-use lib.ListN.{length}
+use native.Mathlib.Omega.{arith}
+use lib.ListN.{length, getD}
+use lib.Dec.{eqb}
+use Rattle.lists.specs.Choice.{cut, clash}
+use Rattle.octets.specs.Limits.{longest}
 use Rattle.octets.specs.Head.{Bytes}
 use Rattle.lists.specs.All.{All}
 use Rattle.rewriting.specs.Table.{Ruling, passed, refused, Ruled}
 use Rattle.rewriting.specs.Table.Laws.{refused-passed, passed-inj, passed-good}
 use Rattle.protocol.specs.Protocol.{Protocol}
-use Rattle.protocol.specs.Index.{Placed}
-use Rattle.steps.specs.Nodes.{Node, mostNodes, read, NodeWithin, node, steps}
-use Rattle.steps.specs.Nodes.Code.{noNode, NodesAre}
-use Rattle.steps.specs.Nodes.Exact.{steps-form}
+use Rattle.prepared.specs.Prepared.{Prepared}
+use Rattle.steps.specs.Nodes.{Node, noNode, Reading, read, broken, no-rule, allOf, NodeWithin, nodeList, steps}
+use Rattle.steps.specs.Nodes.Code.{NodesAre}
+use Rattle.steps.specs.Nodes.Exact.{nodes-form, steps-form}
+use Rattle.steps.specs.Table.{tableLength, Row, NodesIn}
+use Rattle.steps.specs.Values.{NodeRight}
 use Rattle.steps.specs.Causes.{nodeRows, nodeRuling}
 use Rattle.steps.specs.Causes.Laws.{Passing, nodes-ruled}
 use Rattle.steps.specs.Causes.Code.{rulingOf, counted}
 use Rattle.steps.specs.declared.ruling.NodesRuling.{NodesRuling}
 use Rattle.steps.specs.declared.ruling.NodesRuling.the-variants as jd
 
--- a step list that is good: its n nodes at their places
-pub record GoodSteps (p : Protocol) (file nodes : List ℕ) (n : ℕ) : Type 0 where
+-- nodes of a step list or graph that are good: read from a place on up to another, each with its row in the table
+pub record GoodNodes (P : Protocol) (p s : List ℕ) (at : ℕ) (nodes : List ℕ) (n e : ℕ) : Type 0 where
   pub items : List Node
-  pub there : steps p file ≡ read items (length file)
-  pub placed : Placed (node p file) noNode nodes items n
-  pub few : n ≤ mostNodes
-  pub passing : Passing p items
+  pub there : nodeList P s at ≡ read items e
+  pub count : length items ≡ n
+  pub rows : (j : ℕ) → j < n → Row p s nodes j (getD items j noNode)
+  pub passing : Passing P items
 
-abbrev pub WhereGood : Protocol → List ℕ → List ℕ → NodesRuling → Type 0
-WhereGood p file nodes (jd.Good n) = GoodSteps p file nodes n
-WhereGood p file nodes (jd.Refused m k) = Unit {0}
+-- a step list has nothing before and behind them
+abbrev pub WhereGood : Protocol → List ℕ → List ℕ → List ℕ → NodesRuling → Type 0
+WhereGood P p s nodes (jd.Good n) = GoodNodes P p s 0 nodes n (length s)
+WhereGood P p s nodes (jd.Refused m k) = Unit {0}
+
+-- they stand in the table, and they are right
+pub record RightNodes (p s nodes : List ℕ) (n : ℕ) (P : Protocol) (xs : List Node) : Type 0 where
+  pub stand : NodesIn p s nodes n P xs
+  pub right : All (NodeRight P) xs
 
 -- ── laws ──
 count-of : (q : Ruling (List Node)) (n : ℕ) → passed n ≡ counted q → (xs : List Node) × (q ≡ passed xs) × (n ≡ length xs)
@@ -44,17 +56,47 @@ good-passing p xs within n h =
     (subst (Ruled (nodeRows p xs) (λ zs. (zs ≡ xs) × Passing p zs)) e (nodes-ruled p xs within)) in
     (l ∙ ap length (g .0), subst (Passing p) (g .0) (g .1))
 
-pub where-good :
-    (p : Protocol) (file nodes : List ℕ) → Bytes file → (n e : ℕ) (t : NodesAre (steps p file) p file nodes n e) (j : NodesRuling)
-    → rulingOf j ≡ counted (nodeRuling p (t .items)) → WhereGood p file nodes j
-where-good p file nodes bytes n e t (jd.Good m) h =
-    let f = steps-form p file bytes (t .items) e (t .there) in
-    let g = good-passing p (t .items) (f .0 .each) m h in
-    record {
-      items = t .items;
-      there = t .there ∙ ap (read (t .items)) (f .2);
-      placed = subst (Placed (node p file) noNode nodes (t .items)) (sym (t .placed .count) ∙ sym (g .0)) (t .placed);
-      few = subst (λ (k : ℕ). k ≤ mostNodes) (sym (g .0)) (f .0 .few);
-      passing = g .1;
-    }
-where-good p file nodes bytes n e t (jd.Refused m k) h = tt
+-- the nodes of a whole step list
+list-of-all : (s : List ℕ) (r : Reading (List Node)) (xs : List Node) (e : ℕ) → allOf s r ≡ read xs e → r ≡ read xs e
+list-of-all s (read ys d) xs e h =
+    cut _ _ _ (eqb d (length s)) h
+    (λ t h. h)
+    (λ t h. clash (cc))
+list-of-all s broken xs e h = clash (cc)
+list-of-all s (no-rule k) xs e h = clash (cc)
+
+module _ (P : Protocol) (p s nodes : List ℕ) (bytes : Bytes s) where
+  pub where-good :
+      (n e : ℕ) (t : NodesAre (steps P s) p s nodes n e) (j : NodesRuling) → rulingOf j ≡ counted (nodeRuling P (t .items)) → WhereGood P p s nodes j
+  unfolding steps
+  where-good n e t (jd.Good m) h =
+      let f = steps-form P s bytes (t .items) e (t .there) in
+      let g = good-passing P (t .items) (f .0 .each) m h in
+      let same : n ≡ m = sym (t .count) ∙ sym (g .0) in
+      record {
+        items = t .items;
+        there = list-of-all s (nodeList P s 0) (t .items) e (t .there) ∙ ap (read (t .items)) (f .2);
+        count = t .count ∙ same;
+        rows = λ j l. t .rows j (omega arith);
+        passing = g .1;
+      }
+  where-good n e t (jd.Refused m k) h = tt
+
+  -- what callers above have of good nodes
+  pub good-right :
+      Prepared p P → length nodes ≡ tableLength → length s ≤ longest → (at n e : ℕ) (g : GoodNodes P p s at nodes n e)
+      → RightNodes p s nodes n P (g .items)
+  good-right f long short at n e g =
+      let w = nodes-form P s bytes (g .items) at e (g .there) .0 in
+      record {
+        stand = record {
+          prepared = f;
+          count = g .count;
+          few = omega (arith, w .few, g .count);
+          within = w .each;
+          rows = g .rows;
+          long = long;
+          short = short;
+        };
+        right = g .passing .right;
+      }

@@ -1,18 +1,17 @@
 -- The name of a node, as the code reads it.
-use Prim.Native.Nat.{ℕ}
+use Prim.Native.Nat.{ℕ, _+_, _<_}
 use mathlib.Core.List.{List, [], _∷_}
 use mathlib.Core.Bool.{Bool}
-use mathlib.Core.Option.{Option, none, some}
+use mathlib.Core.Option.{Option, none, some, Option·some-injective}
 use mathlib.Core.Path.{_≡_, ap, sym, _∙_, subst}
 use native.Mathlib.Omega.{arith}
-use lib.ListN.{length}
+use lib.ListN.{length, getD}
 use borrow.Author.Tests.{eq-eqb, ne-eqb}
 use Rattle.lists.specs.Choice.{pick}
 use Rattle.octets.specs.Head.{Bytes}
-use Rattle.number.specs.Reading.{got, andThen, many}
-use Rattle.number.specs.Reading.Laws.{cut-got}
-use Rattle.term.specs.Term.{Term}
-use Rattle.term.specs.Arity.{tagArities}
+use Rattle.number.specs.Reading.{got}
+use Rattle.lists.specs.All.Laws.{same-inside}
+use Rattle.term.specs.Term.{variable, Term, leaf}
 use Rattle.term.specs.Reader.{symbolAt, term}
 use Rattle.term.specs.declared.Fresh.{Fresh}
 use Rattle.term.specs.declared.Public.{Public}
@@ -25,12 +24,13 @@ use Rattle.steps.specs.declared.values.Name.{Name}
 use Rattle.steps.specs.declared.values.Name.the-variants as nm
 use Rattle.steps.specs.declared.names.Made.{Made}
 use Rattle.steps.specs.declared.names.Made.the-variants as md
-use Rattle.steps.specs.Nodes.{Node, node-of, values}
-use Rattle.steps.specs.Nodes.Code.{index-slots}
+use Rattle.prepared.specs.Prepared.{slotsOf}
+use Rattle.steps.specs.Nodes.{Node}
+use Rattle.steps.specs.Table.{rowAt, placesAt, NodeIn}
 use Rattle.steps.specs.Facts.{valueAt, freshNumber}
 use Rattle.steps.specs.Facts as facts
 use Rattle.steps.specs.Values.Code.{NameIs, leaf-is, no-fresh}
-use Rattle.steps.specs.Values.Loops.{NodeFrom}
+use Rattle.steps.specs.Values.Parts.{noTerm}
 use Rattle.steps.specs.Names.{MadeIs}
 
 -- a fresh name by its symbol
@@ -61,25 +61,29 @@ pub zero-sorts : (p : Protocol) (n : ℕ) → n ≡ 0 → (u : Rule) × (ruleOf 
 unfolding fixed
 zero-sorts p n h = (fixed n, of-fixed p n (omega arith), ap (λ (k : ℕ). fixed k .sorts) h)
 
-module _ {protocol arities rules : List ℕ} {nr : ℕ} {file : List ℕ} {r d : ℕ} {p : Protocol} {x : Node} {e : ℕ}
-    (f : NodeFrom protocol arities rules nr file r d p x e) where
-  pub zero-name : Bytes file → r ≡ 0 → (m : Made) → NumberIs (symbolAt file arities d) m → MadeIs (facts.madeName x) m
-  unfolding many
-  zero-name bytes z m h =
-      let (u, a, b) = zero-sorts p r z in
-      let q : andThen (many (term file (tagArities (p .functions))) 1 d) (λ vs b. got (node-of r vs) b) ≡ got x e =
-      ap (λ (l : List ℕ). andThen (many (term file (tagArities (p .functions))) (length l) d) (λ vs b. got (node-of r vs) b)) (sym b)
-      ∙ sym (ap (λ (o : Option Rule). values p file r o d) a) ∙ f .reads in
-      cut-got (many (term file (tagArities (p .functions))) 1 d) _ q (λ vs c hv q.
-      cut-got (term file (tagArities (p .functions)) d) _ hv (λ t k ht hv.
-      let g : node-of r vs ≡ x = cc in
-      let w : t ∷ [] ≡ vs = cc in
-      let v : t ≡ valueAt (x .values) 0 = ap (λ (l : List Term). valueAt l 0) w ∙ ap (λ (y : Node). valueAt (y .values) 0) g in
-      let n : facts.madeName x ≡ freshNumber t =
-      ap (λ (b : Bool). pick b (freshNumber (valueAt (x .values) 0)) none) (eq-eqb (x .rule) 0 (f .is-number ∙ z)) ∙ ap freshNumber (sym v) in
-      subst (λ (o : Option ℕ). MadeIs o m) (sym n)
-      (number-of file (tagArities (p .functions)) d bytes t k ht m (subst (λ (l : List ℕ). NumberIs (symbolAt file l d) m) (index-slots (f .index)) h))))
+module _ {p s nodes : List ℕ} {j : ℕ} {P : Protocol} {x : Node} (h : NodeIn p s nodes j P x) where
+  abbrev number : ℕ
+  number = getD nodes (rowAt j) 0
 
-  pub other-name : (r ≡ 0 → ⊥) → facts.madeName x ≡ none
+  -- a node of rule 0 has one value
+  zero-values : number ≡ 0 → length (x .values) ≡ 1
+  zero-values z =
+      let (u, a, b) = zero-sorts P (x .rule) (sym (h .row .rule) ∙ z) in
+      let c : h .within .is ≡ u = Option·some-injective (h .within .is) u (sym (h .within .known) ∙ a) in
+      h .within .takes ∙ ap (λ (w : Rule). length (w .sorts)) c ∙ ap length b
+
+  pub zero-name :
+      Bytes s → number ≡ 0 → (m : Made) → NumberIs (symbolAt s (slotsOf p) (getD nodes (rowAt j + 1) 0)) m → MadeIs (facts.madeName x) m
+  zero-name bytes z m q =
+      let l : 0 < length (x .values) = omega (arith, zero-values z) in
+      let o : placesAt j + 0 ≡ placesAt j = omega arith in
+      let v : getD (x .values) 0 noTerm ≡ valueAt (x .values) 0 = same-inside (x .values) 0 noTerm (leaf variable 0) l in
+      let n : facts.madeName x ≡ freshNumber (getD (x .values) 0 noTerm) =
+      ap (λ (b : Bool). pick b (freshNumber (valueAt (x .values) 0)) none) (eq-eqb (x .rule) 0 (sym (h .row .rule) ∙ z)) ∙ ap freshNumber (sym v) in
+      subst (λ (o : Option ℕ). MadeIs o m) (sym n)
+      (number-of s (slotsOf p) (getD nodes (placesAt j) 0) bytes (getD (x .values) 0 noTerm) (getD nodes (placesAt j + (0 + 1)) 0)
+      (ap (λ (k : ℕ). term s (slotsOf p) (getD nodes k 0)) (sym o) ∙ h .row .places 0 l) m q)
+
+  pub other-name : (number ≡ 0 → ⊥) → facts.madeName x ≡ none
   other-name z =
-      ap (λ (b : Bool). pick b (freshNumber (valueAt (x .values) 0)) none) (ne-eqb (x .rule) 0 (λ q. z (sym (f .is-number) ∙ q)))
+      ap (λ (b : Bool). pick b (freshNumber (valueAt (x .values) 0)) none) (ne-eqb (x .rule) 0 (λ q. z (h .row .rule ∙ q)))

@@ -23,7 +23,7 @@ use Rattle.steps.specs.Runs.{rewrittens}
 use Rattle.steps.specs.Values.Scan.{asFound, found-is}
 use Rattle.steps.specs.declared.names.Made.{Made}
 use Rattle.steps.specs.declared.names.Made.the-variants as md
-use Rattle.steps.specs.Nodes.Code.{noNode}
+use Rattle.steps.specs.Nodes.{noNode}
 use Rattle.steps.specs.Names.{madeBy, isMade, againIn, MadeIs, nameEntry, entryOf, Entered}
 
 made-append : (xs ys : List Node) → madeBy (xs ++ ys) ≡ madeBy xs ++ madeBy ys

@@ -1,37 +1,37 @@
 -- What code answers of a value.
 use Prim.Native.Nat.{ℕ, zero, suc, _≤_, _<_}
 use mathlib.Core.List.{List}
-use mathlib.Core.Bool.{Bool, true, false, not, _&&_, and-false}
+use mathlib.Core.Bool.{Bool, true, false, not, _&&_, _||_, and-false, and-true}
 use mathlib.Core.Option.{none}
-use mathlib.Core.Path.{_≡_, refl, ap, ap₂, sym, _∙_}
+use mathlib.Core.Path.{_≡_, refl, ap, ap₂, sym, _∙_, subst}
 use native.Mathlib.Omega.{arith}
 use lib.ListN.{length}
 use lib.Dec.{ltb, eqb}
-use borrow.Author.Tests.{lt-ltb, le-ltb, eq-eqb, ne-eqb}
+use borrow.Author.Tests.{lt-ltb, le-ltb, ne-eqb}
 use mathlib.Core.Logic.{_↔_}
 use Rattle.steps.specs.Values.{mostInValue}
 use Rattle.octets.specs.Limits.{longest}
 use Rattle.message.specs.Canon.{canon}
 use Rattle.lists.specs.Asks.{Promises}
-use Rattle.lists.specs.Choice.{pick, clash}
+use Rattle.lists.specs.Choice.{clash}
+use Rattle.octets.specs.Compare.{isEqual}
+use Rattle.octets.specs.Compare.Laws.{compare-refl}
 use Rattle.octets.specs.Head.{Bytes}
 use Rattle.number.specs.Groups.{numberLimit}
 use Rattle.number.specs.Reading.{got, many}
 use Rattle.number.specs.Reading.Laws.{cut-got}
-use Rattle.term.specs.Term.{public, fresh, Term, leaf, app, symbols}
+use Rattle.term.specs.Term.{Kind, public, fresh, Term, leaf, app, encode, symbols}
 use Rattle.term.specs.Reader.{terms, kindOf, symbolAt, build, term}
 use Rattle.term.specs.Reader.Laws.{leaf-at, term-build}
 use Rattle.term.specs.Reader.Exact.{term-form}
-use Rattle.term.specs.Walk.{holds, walked}
+use Rattle.term.specs.Walk.{holds}
 use Rattle.term.specs.declared.Fresh.{Fresh}
 use Rattle.term.specs.declared.Public.{Public}
 use Rattle.term.specs.declared.Symbol.{Symbol}
 use Rattle.term.specs.declared.Symbol.the-variants as sy
-use Rattle.term.specs.declared.Walk.{Walk}
-use Rattle.term.specs.declared.Walk.the-variants as wk
 use Rattle.lists.specs.Tests.{by-bool, true-false, not-true}
 use Rattle.canonical.specs.Builtins.{Builtins, group}
-use Rattle.canonical.specs.Contract.{MessageAt}
+use Rattle.canonical.specs.Contract.{MessageIn, formRoom}
 use Rattle.steps.specs.declared.values.Name.{Name}
 use Rattle.steps.specs.declared.values.Name.the-variants as nm
 use Rattle.steps.specs.Facts.{freshNumber}
@@ -45,17 +45,37 @@ NameIs y (nm.FreshName f) = (e : ℕ) × (y ≡ sy.Leaf 2 (f .0) e)
 NameIs y (nm.PublicName f) = (e : ℕ) × (y ≡ sy.Leaf 1 (f .0) e)
 NameIs y nm.Other = (n e : ℕ) → (y ≡ sy.Leaf 2 n e → ⊥) × (y ≡ sy.Leaf 1 n e → ⊥)
 
--- what a name fits
+-- what a name fits: a fresh one, a public one, a value that is none
+abbrev pub ofFresh : ℕ → Fresh → Bool
+ofFresh sort f = eqb sort 0 || eqb sort 1
+
+abbrev pub ofPublic : ℕ → Public → Bool
+ofPublic sort f = eqb sort 0 || eqb sort 2
+
 abbrev pub ofName : ℕ → Name → Bool
-ofName sort (nm.FreshName f) = pick (eqb sort 0) true (eqb sort 1)
-ofName sort (nm.PublicName f) = pick (eqb sort 0) true (eqb sort 2)
+ofName sort (nm.FreshName f) = ofFresh sort f
+ofName sort (nm.PublicName f) = ofPublic sort f
 ofName sort nm.Other = eqb sort 0
+
+-- there is room to make a form in
+pub record FormRoom (out : List ℕ) : Type 0 where
+  pub enough : formRoom ≤ length out
+  pub short : length out ≤ longest
 
 -- the term t stands at a place, under a table of the built-in functions
 pub record ValueThere (arities file : List ℕ) (at : ℕ) (t : Term) (e : ℕ) : Type 0 where
   pub table : Builtins arities
   pub there : term file arities at ≡ got t e
   pub short : length file ≤ longest
+
+-- it holds no variable, and has so many symbols
+pub record GroundThere (arities file : List ℕ) (at end size : ℕ) (t : Term) : Type 0 where
+  pub is : ValueThere arities file at t end
+  pub ground : holds t 0 0 numberLimit ≡ false
+  pub sized : size ≡ symbols t
+
+pub room-kept : {out out′ : List ℕ} → FormRoom out → length out′ ≡ length out → FormRoom out′
+room-kept r e = record { enough = omega (arith, r .enough); short = omega (arith, r .short) }
 
 -- ── a name by its symbol ──
 module _ {y : Symbol} where
@@ -73,25 +93,9 @@ module _ {y : Symbol} where
   other-fault h m d = ((λ g. clash (cc)), (λ g. clash (cc)))
 
 -- ── what a name fits ──
-module _ (sort : ℕ) where
-  pub fits-any : (x : Name) → sort ≡ 0 → true ≡ ofName sort x
-  fits-any (nm.FreshName f) h = sym (ap (λ (b : Bool). pick b true (eqb sort 1)) (eq-eqb sort 0 h))
-  fits-any (nm.PublicName f) h = sym (ap (λ (b : Bool). pick b true (eqb sort 2)) (eq-eqb sort 0 h))
-  fits-any nm.Other h = sym (eq-eqb sort 0 h)
-
-  module _ (x : Name) (some-sort : sort ≡ 0 → ⊥) where
-    pub fits-fresh : {f : Fresh} → x ≡ nm.FreshName f → eqb sort 1 ≡ ofName sort x
-    fits-fresh h = sym (ap (ofName sort) h ∙ ap (λ (b : Bool). pick b true (eqb sort 1)) (ne-eqb sort 0 some-sort))
-
-    pub fits-public : {f : Public} → x ≡ nm.PublicName f → eqb sort 2 ≡ ofName sort x
-    fits-public h = sym (ap (ofName sort) h ∙ ap (λ (b : Bool). pick b true (eqb sort 2)) (ne-eqb sort 0 some-sort))
-
-    pub fits-none : x ≡ nm.Other → false ≡ ofName sort x
-    fits-none h = sym (ap (ofName sort) h ∙ ne-eqb sort 0 some-sort)
-
-neither : (k n : ℕ) → n < 3 → pick (eqb (suc (suc (suc k))) 0) true (eqb (suc (suc (suc k))) n) ≡ false
+neither : (k n : ℕ) → n < 3 → (eqb (suc (suc (suc k))) 0 || eqb (suc (suc (suc k))) n) ≡ false
 neither k n l =
-    ap₂ (λ (a b : Bool). pick a true b) (ne-eqb (suc (suc (suc k))) 0 (λ h. omega arith)) (ne-eqb (suc (suc (suc k))) n (λ h. omega arith))
+    ap₂ _||_ (ne-eqb (suc (suc (suc k))) 0 (λ h. omega arith)) (ne-eqb (suc (suc (suc k))) n (λ h. omega arith))
 
 -- ── the term of a symbol ──
 module _ (file arities : List ℕ) (at : ℕ) (bytes : Bytes file) (t : Term) (e : ℕ) (there : term file arities at ≡ got t e) where
@@ -142,13 +146,13 @@ module _ (file arities : List ℕ) (at : ℕ) (bytes : Bytes file) (t : Term) (e
           sym (ap freshNumber i))
       go sy.Fault g b = clash (cc)
 
-  sorts-fresh : (sort n : ℕ) → pick (eqb sort 0) true (eqb sort 1) ≡ ofSort sort (leaf fresh n)
+  sorts-fresh : (sort n : ℕ) → (eqb sort 0 || eqb sort 1) ≡ ofSort sort (leaf fresh n)
   sorts-fresh zero n = refl
   sorts-fresh (suc zero) n = refl
   sorts-fresh (suc (suc zero)) n = refl
   sorts-fresh (suc (suc (suc k))) n = neither k 1 (omega arith)
 
-  sorts-public : (sort n : ℕ) → pick (eqb sort 0) true (eqb sort 2) ≡ ofSort sort (leaf public n)
+  sorts-public : (sort n : ℕ) → (eqb sort 0 || eqb sort 2) ≡ ofSort sort (leaf public n)
   sorts-public zero n = refl
   sorts-public (suc zero) n = refl
   sorts-public (suc (suc zero)) n = refl
@@ -165,25 +169,31 @@ module _ (file arities : List ℕ) (at : ℕ) (bytes : Bytes file) (t : Term) (e
   name-sort sort (nm.PublicName f) (d, h) = sorts-public sort (f .0) ∙ ap (ofSort sort) (sym (leaf-is 1 (f .0) d h))
   name-sort sort nm.Other h = let (a, b) = no-name h in sorts-other sort a b
 
+  -- a name fits just where its sort does
+  names-ok : (k : Kind) (n : ℕ) → holds (leaf k n) 0 0 numberLimit ≡ false → (sort : ℕ) → t ≡ leaf k n → ofSort sort t ≡ valueOk sort t
+  names-ok k n h sort e =
+      let c : isCanonical (leaf k n) ≡ true = ap isEqual (compare-refl (encode (leaf k n))) in
+      let one : valueOk sort (leaf k n) ≡ ofSort sort (leaf k n) =
+      ap₂ (λ (a b : Bool). not a && (ofSort sort (leaf k n) && b)) h c ∙ and-true (ofSort sort (leaf k n)) in
+      ap (ofSort sort) e ∙ sym one ∙ sym (ap (valueOk sort) e)
+
+  module _ (sort : ℕ) (x : Name) (is : NameIs (symbolAt file arities at) x) (b : Bool) where
+    pub fresh-ok : {f : Fresh} → x ≡ nm.FreshName f → b ≡ ofFresh sort f → b ≡ valueOk sort t
+    fresh-ok {f} h e =
+        let (d, q) = subst (NameIs (symbolAt file arities at)) h is in
+        e ∙ sym (ap (ofName sort) h) ∙ name-sort sort x is ∙ names-ok fresh (f .0) refl sort (leaf-is 2 (f .0) d q)
+
+    pub public-ok : {f : Public} → x ≡ nm.PublicName f → b ≡ ofPublic sort f → b ≡ valueOk sort t
+    public-ok {f} h e =
+        let (d, q) = subst (NameIs (symbolAt file arities at)) h is in
+        e ∙ sym (ap (ofName sort) h) ∙ name-sort sort x is ∙ names-ok public (f .0) refl sort (leaf-is 1 (f .0) d q)
+
+  -- what is no name fits no sort of names
+  pub other-sort : (sort : ℕ) (x : Name) → NameIs (symbolAt file arities at) x → x ≡ nm.Other → (sort ≡ 0 → ⊥) → ofSort sort t ≡ false
+  other-sort sort x is h n = sym (name-sort sort x is) ∙ ap (ofName sort) h ∙ ne-eqb sort 0 n
+
 -- ── the whole test ──
 module _ (file arities : List ℕ) (at : ℕ) (t : Term) (e : ℕ) (v : ValueThere arities file at t e) (sort : ℕ) where
-  -- what the walk says of it
-  pub walk-is : {w : Walk} {d n : ℕ} {b : Bool} → w ≡ walked 0 0 numberLimit (term file arities at) → w ≡ wk.End d n b → (symbols t ≡ n) ×
-      (holds t 0 0 numberLimit ≡ b)
-  walk-is {w} {d} {n} {b} h k =
-      let g : wk.End e (symbols t) (holds t 0 0 numberLimit) ≡ wk.End d n b = sym (h ∙ ap (walked 0 0 numberLimit) (v .there)) ∙ k in
-      let a : symbols t ≡ n = cc in
-      let c : holds t 0 0 numberLimit ≡ b = cc in
-      (a, c)
-
-  pub walk-none : {C : Type 0} {w : Walk} → w ≡ walked 0 0 numberLimit (term file arities at) → w ≡ wk.Fault → C
-  walk-none h k =
-      let g : wk.End e (symbols t) (holds t 0 0 numberLimit) ≡ wk.Fault = sym (h ∙ ap (walked 0 0 numberLimit) (v .there)) ∙ k in
-      clash (cc)
-
-  pub not-held : holds t 0 0 numberLimit ≡ true → false ≡ valueOk sort t
-  not-held h = sym (ap (λ (b : Bool). not b && (ofSort sort t && (ltb (symbols t) (suc mostInValue) && isCanonical t))) h)
-
   pub not-long : mostInValue < symbols t → false ≡ valueOk sort t
   not-long h =
       sym (ap (λ (b : Bool). not (holds t 0 0 numberLimit) && (ofSort sort t && (b && isCanonical t))) (le-ltb (symbols t) (suc mostInValue) (omega arith))
@@ -201,26 +211,29 @@ module _ (file arities : List ℕ) (at : ℕ) (t : Term) (e : ℕ) (v : ValueThe
       (lt-ltb (symbols t) (suc mostInValue) (omega arith)))
 
   module _ (bytes : Bytes file) where
-    -- it is a message
-    pub message : holds t 0 0 numberLimit ≡ false → symbols t ≤ mostInValue → MessageAt arities file at t
+    -- it is a message, and ends there
+    pub message : holds t 0 0 numberLimit ≡ false → symbols t ≤ mostInValue → MessageIn arities file at e t
     message h l =
         let f = term-form file arities bytes t at e (v .there) in
         record {
-          table = v .table;
-          formed = f .0 .0;
-          ground = none-ground t (f .0 .1) h;
-          range = f .0 .1;
-          rest = _;
-          there = f .1 .there;
-          small = omega arith;
-          short = v .short;
+          is = record {
+            table = v .table;
+            formed = f .0 .0;
+            ground = none-ground t (f .0 .1) h;
+            range = f .0 .1;
+            rest = _;
+            there = f .1 .there;
+            small = omega arith;
+            short = v .short;
+          };
+          ends = f .1 .ends;
         }
 
-    pub canonical-is : (b : Bool) → Promises (MessageAt arities file at) (λ (t : Term). (b ≡ true) ↔ (canon t ≡ t)) → MessageAt arities file at t → b ≡
+    pub canonical-is : (b : Bool) → Promises (MessageIn arities file at e) (λ (t : Term). (b ≡ true) ↔ (canon t ≡ t)) → MessageIn arities file at e t → b ≡
         isCanonical t
     canonical-is b h m =
         let c = h t m in
-        let d = canon-decides arities (group arities (v .table)) t (m .formed) in
+        let d = canon-decides arities (group arities (v .table)) t (m .is .formed) in
         by-bool (isCanonical t)
         (λ q. c .1 (d .0 q) ∙ sym q)
         (λ q. not-true b (λ r. true-false (isCanonical t) (d .1 (c .0 r)) q) ∙ sym q)

@@ -1,4 +1,4 @@
--- A pass over the nodes by their places: the least node that fails a test, 0 where none does.
+-- A pass over the nodes by their numbers: the least node that fails a test, 0 where none does.
 use Prim.Native.Nat.{ℕ, zero, suc, _+_, _≤_, _<_}
 use mathlib.Core.List.{List}
 use mathlib.Core.Bool.{Bool, true, false, not, cond}
@@ -8,14 +8,7 @@ use native.Mathlib.Omega.{arith}
 use native.Mathlib.Numerals.{add-one}
 use lib.ListN.{length, getD, drop, drop-of-length-le}
 use lib.Seq.{drop-cons}
-use Rattle.octets.specs.Limits.{longest}
-use Rattle.protocol.specs.Protocol.{Protocol}
-use Rattle.protocol.specs.Index.{Placed}
 use Rattle.lists.specs.Lists.{firstBad}
-use Rattle.steps.specs.Index.{IndexOf}
-use Rattle.steps.specs.Nodes.{Node, node}
-use Rattle.steps.specs.Nodes.Code.{noNode}
-use Rattle.steps.specs.Values.Loops.{NodeAt}
 
 -- what the code's number says
 abbrev pub asFound : ℕ → Option ℕ
@@ -24,18 +17,6 @@ asFound (suc k) = some (suc k)
 
 pub found-is : (k : ℕ) → asFound (k + 1) ≡ some (k + 1)
 found-is k = rw add-one
-
--- the nodes stand at their places, under the tables of their protocol
-pub record NodesAt (protocol arities rules : List ℕ) (nr : ℕ) (file nodes : List ℕ) (n : ℕ) (p : Protocol) (xs : List Node) : Type 0 where
-  pub index : IndexOf protocol arities rules nr p
-  pub placed : Placed (node p file) noNode nodes xs n
-  pub short : length file ≤ longest
-
-pub node-at :
-    {protocol arities rules : List ℕ} {nr : ℕ} {file nodes : List ℕ} {n : ℕ} {p : Protocol} {xs : List Node}
-    → NodesAt protocol arities rules nr file nodes n p xs → (k : ℕ) → k < n
-    → NodeAt protocol arities rules nr file (getD nodes k 0) p (getD xs k noNode)
-node-at h k l = record { index = h .index; here = h .placed .each k l; short = h .short }
 
 module _ {A : Type 0} (ok : A → Bool) (d : A) (xs : List A) where
   -- what is left is what there was

@@ -1,53 +1,47 @@
 use borrow.Author.Needs.{needs}
-use native.Mathlib.Omega.{arith}
-use Prim.Native.Nat.{_-_, _≤_}
-use mathlib.Core.Path.{_≡_}
+use Rattle.facts.specs.Owed.{asks-facts, room-kept}
 use lib.ListN.{length}
-use Rattle.facts.specs.Calls.Laws.{both-at}
-use Rattle.facts.specs.Owed.{room-kept}
+use mathlib.Core.Path.{_≡_}
+use Prim.Native.Nat.{_-_, _≤_}
+use native.Mathlib.Omega.{arith}
 use Rattle.cases_facts.proofs.outcome.first_argument.Statement.{statement}
 use Rattle.cases_facts.proofs.outcome.first_argument.Tie as tie
 
 abbrev Inv-loop : tie.InvT-loop
-Inv-loop k out₀ file protocol arities ars rules nr each n x i₀ out i =
-    (i ≤ n) × (length out ≡ length out₀)
+Inv-loop k out₀ p s nodes n each count x i₀ out i =
+    (i ≤ count) × (length out ≡ length out₀)
 
 abbrev μ-loop : tie.MeasureT-loop
-μ-loop k out₀ file protocol arities ars rules nr each n x i₀ out i =
-    n - i
+μ-loop k out₀ p s nodes n each count x i₀ out i =
+    count - i
 
 mul-x : tie.Need-mul-x Inv-loop μ-loop
 mul-x c =
-    omega (arith, c .before .before .before .before .before .before .before .pre .1 .few)
+    omega (arith, c .before .before .before .before .before .pre .1 .few)
 
 array-copy-out-x : tie.Need-array-copy-out-x Inv-loop μ-loop
 array-copy-out-x c =
-    omega (arith, c .before .before .before .before .before .before .before .pre .1 .few)
+    omega (arith, c .before .before .before .before .before .pre .1 .few)
 
 loop-holds : tie.Need-loop-holds Inv-loop μ-loop
 loop-holds c = search needs
 
 mul-y : tie.Need-mul-y Inv-loop μ-loop
 mul-y c =
-    omega (arith, c .before .before .before .before .before .before .before .before .before .before .pre .1 .few)
+    omega (arith, c .before .before .before .before .before .before .before .before .pre .1 .few)
 
 array-copy-out-y : tie.Need-array-copy-out-y Inv-loop μ-loop
 array-copy-out-y c =
-    omega (arith, c .before .before .before .before .before .before .before .before .before .before .pre .1 .few)
+    omega (arith, c .before .before .before .before .before .before .before .before .pre .1 .few)
 
 same-argument-requires : tie.Need-same-argument-requires Inv-loop μ-loop
 same-argument-requires c κs =
-    let c12 = c .before .before .before .before .before .before .before .before .before .before .before .before in
-    let l = c12 .pre .1 in
-    (both-at (l .each _ (omega arith)) (l .each _ (c12 .pre .0)), c12 .pre .2, room-kept _ _ _ (search needs) (c12 .pre .3))
+    let c10 = c .before .before .before .before .before .before .before .before .before .before in
+    (asks-facts (c10 .pre .2) (c10 .pre .1 .each _ (omega arith)) (c10 .pre .1 .each _ (c10 .pre .0)), room-kept _ _ _ (search needs) (c10 .pre .3))
 
 add-result : tie.Need-add-result Inv-loop μ-loop
 add-result c =
-    omega (
-      arith,
-      c .before .before .before .before .before .before .before .before .before .before .before .before .before .before .before .before .pre .1
-          .few,
-    )
+    omega (arith, c .before .before .before .before .before .before .before .before .before .before .before .before .before .before .pre .1 .few)
 
 same-length : tie.Need-same-length Inv-loop μ-loop
 same-length c = search needs
@@ -57,11 +51,7 @@ returns c = search needs
 
 add-i : tie.Need-add-i Inv-loop μ-loop
 add-i c =
-    omega (
-      arith,
-      c .before .before .before .before .before .before .before .before .before .before .before .before .before .before .before .before .pre .1
-          .few,
-    )
+    omega (arith, c .before .before .before .before .before .before .before .before .before .before .before .before .before .before .pre .1 .few)
 
 loop-less : tie.Need-loop-less Inv-loop μ-loop
 loop-less c = search needs

@@ -1,34 +1,34 @@
 use borrow.Author.Needs.{needs}
-use native.Mathlib.Omega.{arith}
-use Prim.Native.Nat.{_-_, _≤_}
-use mathlib.Core.Path.{_≡_}
-use lib.ListN.{length}
 use Rattle.facts.specs.Owed.{room-kept}
+use lib.ListN.{length}
+use mathlib.Core.Path.{_≡_}
+use Prim.Native.Nat.{_-_, _≤_}
+use native.Mathlib.Omega.{arith}
 use Rattle.cases_facts.proofs.outcome.show_arguments.Statement.{statement}
 use Rattle.cases_facts.proofs.outcome.show_arguments.Tie as tie
 
 abbrev Inv-loop : tie.InvT-loop
-Inv-loop arguments out₀ file protocol arities ars rules nr n k₀ out k =
-    (k ≤ n) × (length out ≡ length out₀)
+Inv-loop arguments out₀ p s nodes n count k₀ out k =
+    (k ≤ count) × (length out ≡ length out₀)
 
 abbrev μ-loop : tie.MeasureT-loop
-μ-loop arguments out₀ file protocol arities ars rules nr n k₀ out k =
-    n - k
+μ-loop arguments out₀ p s nodes n count k₀ out k =
+    count - k
 
 loop-holds : tie.Need-loop-holds Inv-loop μ-loop
 loop-holds c = search needs
 
 first-argument-requires : tie.Need-first-argument-requires Inv-loop μ-loop
 first-argument-requires c κs =
-    let c9 = c .before .before .before .before .before .before .before .before .before in
-    (search needs, c9 .pre .0, c9 .pre .1, room-kept _ _ _ (search needs) (c9 .pre .2))
+    let c7 = c .before .before .before .before .before .before .before in
+    (search needs, c7 .pre .0, c7 .pre .1, room-kept _ _ _ (search needs) (c7 .pre .2))
 
 show-more-requires : tie.Need-show-more-requires Inv-loop μ-loop
 show-more-requires c κs = search needs
 
 add-k : tie.Need-add-k Inv-loop μ-loop
 add-k c =
-    omega (arith, c .before .before .before .before .before .before .before .before .before .before .before .before .before .pre .0 .few)
+    omega (arith, c .before .before .before .before .before .before .before .before .before .before .before .pre .0 .few)
 
 loop-less : tie.Need-loop-less Inv-loop μ-loop
 loop-less c = search needs

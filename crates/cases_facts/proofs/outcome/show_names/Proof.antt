@@ -1,39 +1,42 @@
 use borrow.Author.Needs.{needs}
-use native.Mathlib.Omega.{arith}
-use Prim.Native.Nat.{_-_, _≤_}
-use mathlib.Core.Path.{_≡_}
-use lib.ListN.{length}
 use Rattle.facts.specs.Owed.{room-kept}
+use lib.ListN.{length}
+use mathlib.Core.Path.{_≡_}
+use Prim.Native.Nat.{_-_, _≤_}
+use native.Mathlib.Omega.{arith}
 use Rattle.cases_facts.proofs.outcome.show_names.Statement.{statement}
 use Rattle.cases_facts.proofs.outcome.show_names.Tie as tie
 
 abbrev Inv-loop : tie.InvT-loop
-Inv-loop out₀ file protocol arities ars rules nr each n k₀ out k =
-    (k ≤ n) × (length out ≡ length out₀)
+Inv-loop out₀ p s nodes n each count k₀ out k =
+    (k ≤ count) × (length out ≡ length out₀)
 
 abbrev μ-loop : tie.MeasureT-loop
-μ-loop out₀ file protocol arities ars rules nr each n k₀ out k =
-    n - k
+μ-loop out₀ p s nodes n each count k₀ out k =
+    count - k
 
 loop-holds : tie.Need-loop-holds Inv-loop μ-loop
 loop-holds c = search needs
 
 mul-public-name : tie.Need-mul-public-name Inv-loop μ-loop
-mul-public-name c = search needs
+mul-public-name c =
+    omega (arith, c .before .before .before .before .before .before .before .pre .0 .few)
 
 array-copy-out-public-name : tie.Need-array-copy-out-public-name Inv-loop μ-loop
-array-copy-out-public-name c = search needs
+array-copy-out-public-name c =
+    omega (arith, c .before .before .before .before .before .before .before .pre .0 .few)
 
 public-name-requires : tie.Need-public-name-requires Inv-loop μ-loop
 public-name-requires c κs =
-    let c11 = c .before .before .before .before .before .before .before .before .before .before .before in
-    (c11 .pre .0 .each _ (omega arith), c11 .pre .1, room-kept _ _ _ (search needs) (c11 .pre .2))
+    let c9 = c .before .before .before .before .before .before .before .before .before in
+    (c9 .pre .0 .each _ (omega arith), c9 .pre .1, room-kept _ _ _ (search needs) (c9 .pre .2))
 
 show-more-requires : tie.Need-show-more-requires Inv-loop μ-loop
 show-more-requires c κs = search needs
 
 add-k : tie.Need-add-k Inv-loop μ-loop
-add-k c = search needs
+add-k c =
+    omega (arith, c .before .before .before .before .before .before .before .before .before .before .before .before .before .pre .0 .few)
 
 loop-less : tie.Need-loop-less Inv-loop μ-loop
 loop-less c = search needs

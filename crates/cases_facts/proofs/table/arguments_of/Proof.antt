@@ -6,31 +6,32 @@ use Rattle.cases_facts.proofs.table.arguments_of.Statement.{statement}
 use Rattle.cases_facts.proofs.table.arguments_of.Tie as tie
 
 abbrev Inv-loop : tie.InvT-loop
-Inv-loop file protocol arities ars rules nr arguments₀ places n k₀ arguments k =
-    (k ≤ n) × ArgumentsListed protocol arities rules nr file arguments
+Inv-loop p s nodes n arguments₀ places count k₀ arguments k =
+    (k ≤ count) × ArgumentsListed p s nodes n arguments
 
 abbrev μ-loop : tie.MeasureT-loop
-μ-loop file protocol arities ars rules nr arguments₀ places n k₀ arguments k =
-    n - k
+μ-loop p s nodes n arguments₀ places count k₀ arguments k =
+    count - k
 
 loop-holds : tie.Need-loop-holds Inv-loop μ-loop
 loop-holds c =
-    (omega arith, filled-none (IsArgument _ _ _ _ _) noArgument 256)
+    (omega arith, filled-none (IsArgument _ _ _ _) noArgument 256)
 
 mul-with-arguments : tie.Need-mul-with-arguments Inv-loop μ-loop
 mul-with-arguments c = search needs
 
 array-copy-out-with-arguments : tie.Need-array-copy-out-with-arguments Inv-loop μ-loop
 array-copy-out-with-arguments c =
-    omega (arith, c .before .before .before .before .before .before .before .before .pre .0 .few)
+    omega (arith, c .before .before .before .before .before .before .pre .1 .few)
 
 with-arguments-requires : tie.Need-with-arguments-requires Inv-loop μ-loop
 with-arguments-requires c κs =
-    let c9 = c .before .before .before .before .before .before .before .before .before in
-    (c9 .pre .0 .each _ (omega arith), c9 .pre .1, c .before .before .loop .inv .1)
+    let c7 = c .before .before .before .before .before .before .before in
+    (c7 .pre .0, c7 .pre .1 .each _ (omega arith), c .before .before .loop .inv .1)
 
 add-k : tie.Need-add-k Inv-loop μ-loop
-add-k c = search needs
+add-k c =
+    omega (arith, c .before .before .loop-test .taken, c .before .before .before .before .before .before .before .before .pre .1 .few)
 
 loop-less : tie.Need-loop-less Inv-loop μ-loop
 loop-less c = search needs

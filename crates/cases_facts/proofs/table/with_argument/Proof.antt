@@ -1,5 +1,5 @@
-use native.Mathlib.Omega.{arith}
 use Rattle.cases_facts.specs.Table.{noArgument, IsArgument, filled-more}
+use native.Mathlib.Omega.{arith}
 use borrow.Author.Needs.{needs}
 use Rattle.cases_facts.proofs.table.with_argument.Statement.{statement}
 use Rattle.cases_facts.proofs.table.with_argument.Tie as tie
@@ -13,12 +13,12 @@ mul-each c = search needs
 array-set-from-each : tie.Need-array-set-from-each
 array-set-from-each c = search needs
 
-add-t11 : tie.Need-add-t11
-add-t11 c = search needs
+add-t6 : tie.Need-add-t6
+add-t6 c = search needs
 
 returns-2 : tie.Need-returns-2
 returns-2 c =
-    filled-more (IsArgument _ _ _ _ _) noArgument 256 _ _ _ (c .before .before .pre .0) (omega arith) (c .before .before .pre .1)
+    λ p s nodes n h x. filled-more (IsArgument p s nodes n) noArgument 256 _ _ _ h (omega arith) x
 
 pub with-argument-spec : {M : Type 1} → statement M
-with-argument-spec = tie.close (tie.spec returns mul-each array-set-from-each add-t11 returns-2)
+with-argument-spec = tie.close (tie.spec returns mul-each array-set-from-each add-t6 returns-2)

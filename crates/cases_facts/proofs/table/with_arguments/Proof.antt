@@ -1,5 +1,5 @@
 use borrow.Author.Needs.{needs}
-use Rattle.facts.specs.Owed.{has-one}
+use Rattle.facts.specs.Owed.{asks-listed, has-one}
 use Rattle.cases_facts.specs.Table.{ArgumentsListed}
 use Prim.Native.Nat.{_-_, _≤_}
 use native.Mathlib.Omega.{arith}
@@ -7,26 +7,24 @@ use Rattle.cases_facts.proofs.table.with_arguments.Statement.{statement
 use Rattle.cases_facts.proofs.table.with_arguments.Tie as tie
 
 abbrev Inv-loop : tie.InvT-loop
-Inv-loop file protocol arities ars rules nr x count arguments₀ i₀ arguments i =
-    (i ≤ count) × ArgumentsListed protocol arities rules nr file arguments
+Inv-loop p s nodes n x count arguments₀ i₀ arguments i =
+    (i ≤ count) × ArgumentsListed p s nodes n arguments
 
 abbrev μ-loop : tie.MeasureT-loop
-μ-loop file protocol arities ars rules nr x count arguments₀ i₀ arguments i =
+μ-loop p s nodes n x count arguments₀ i₀ arguments i =
     count - i
 
 argument-count-requires : tie.Need-argument-count-requires Inv-loop μ-loop
-argument-count-requires c κs = search needs
+argument-count-requires c κs =
+    let c3 = c .before .before .before in
+    asks-listed (c3 .pre .0) (c3 .pre .1)
 
 loop-holds : tie.Need-loop-holds Inv-loop μ-loop
 loop-holds c =
-    (omega arith, c .before .before .before .before .before .before .pre .2)
+    (omega arith, c .before .before .before .before .pre .2)
 
 with-argument-requires : tie.Need-with-argument-requires Inv-loop μ-loop
-with-argument-requires c κs = (
-  c .before .loop .inv .1,
-  has-one (c .before .before .before .before .before .before .before .before .pre .0)
-      (c .before .before .argument-count .ensures) _ (omega arith),
-)
+with-argument-requires c κs = search needs
 
 add-i : tie.Need-add-i Inv-loop μ-loop
 add-i c = search needs
@@ -36,7 +34,12 @@ loop-less c = search needs
 
 loop-again : tie.Need-loop-again Inv-loop μ-loop
 loop-again c =
-    (omega arith, c .with-argument .ensures)
+    let c3 = c .before .before .before in
+    let c7 = c3 .before .before .before .before in (
+      omega arith,
+      c .with-argument .ensures _ _ _ _ (c .before .before .loop .inv .1)
+          (has-one (c7 .pre .1) (c3 .argument-count .ensures) _ (omega (arith, c .before .loop-test .taken))),
+    )
 
 returns : tie.Need-returns Inv-loop μ-loop
 returns c = search needs

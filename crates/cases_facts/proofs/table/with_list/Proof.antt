@@ -1,35 +1,30 @@
 use borrow.Author.Needs.{needs}
-use native.Mathlib.Omega.{arith}
-use Prim.Native.Nat.{_-_, _≤_}
+use Rattle.facts.specs.Owed.{asks-node, has-fact}
 use Rattle.cases_facts.specs.Table.{FactsListed}
-use Rattle.facts.specs.Owed.{has-fact}
+use Prim.Native.Nat.{_-_, _≤_}
+use native.Mathlib.Omega.{arith}
 use Rattle.cases_facts.proofs.table.with_list.Statement.{statement}
 use Rattle.cases_facts.proofs.table.with_list.Tie as tie
 
 abbrev Inv-loop : tie.InvT-loop
-Inv-loop file protocol arities ars rules nr node w count facts₀ i₀ facts i =
-    (i ≤ count) × FactsListed protocol arities rules nr file facts
+Inv-loop p s nodes n j list count facts₀ i₀ facts i =
+    (i ≤ count) × FactsListed p s nodes n facts
 
 abbrev μ-loop : tie.MeasureT-loop
-μ-loop file protocol arities ars rules nr node w count facts₀ i₀ facts i =
+μ-loop p s nodes n j list count facts₀ i₀ facts i =
     count - i
 
 fact-count-requires : tie.Need-fact-count-requires Inv-loop μ-loop
 fact-count-requires c κs =
-    let q = c .before .before .before .before .before .pre in
-    let (p, x, r) = q .1 in
-    ((p, r .node .index), q .2, q .0)
+    let c3 = c .before .before .before in
+    (asks-node (c3 .pre .0) _ (c3 .pre .1), c3 .pre .2)
 
 loop-holds : tie.Need-loop-holds Inv-loop μ-loop
 loop-holds c =
-    (omega arith, c .before .before .before .before .before .before .pre .3)
+    (omega arith, c .before .before .before .before .pre .3)
 
 with-fact-requires : tie.Need-with-fact-requires Inv-loop μ-loop
-with-fact-requires c κs = (
-  c .before .loop .inv .1,
-  has-fact (c .before .before .before .before .before .before .before .before .pre .1)
-      (c .before .before .fact-count .ensures) _ (omega arith),
-)
+with-fact-requires c κs = search needs
 
 add-i : tie.Need-add-i Inv-loop μ-loop
 add-i c = search needs
@@ -39,7 +34,12 @@ loop-less c = search needs
 
 loop-again : tie.Need-loop-again Inv-loop μ-loop
 loop-again c =
-    (omega arith, c .with-fact .ensures)
+    let c3 = c .before .before .before in
+    let c7 = c3 .before .before .before .before in (
+      omega arith,
+      c .with-fact .ensures _ _ _ _ (c .before .before .loop .inv .1)
+          (has-fact (c7 .pre .1) (c3 .fact-count .ensures) _ (omega (arith, c .before .loop-test .taken))),
+    )
 
 returns : tie.Need-returns Inv-loop μ-loop
 returns c = search needs

@@ -1,26 +1,26 @@
 use borrow.Author.Needs.{needs}
-use native.Mathlib.Omega.{arith}
-use Prim.Native.Nat.{_-_, _≤_}
 use Rattle.cases_facts.specs.Table.{FactsListed}
+use Prim.Native.Nat.{_-_, _≤_}
+use native.Mathlib.Omega.{arith}
 use Rattle.cases_facts.proofs.table.with_node.Statement.{statement}
 use Rattle.cases_facts.proofs.table.with_node.Tie as tie
 
 abbrev Inv-loop : tie.InvT-loop
-Inv-loop file protocol arities ars rules nr node facts₀ w₀ facts w =
-    (w ≤ 3) × FactsListed protocol arities rules nr file facts
+Inv-loop p s nodes n j facts₀ list₀ facts list =
+    (list ≤ 3) × FactsListed p s nodes n facts
 
 abbrev μ-loop : tie.MeasureT-loop
-μ-loop file protocol arities ars rules nr node facts₀ w₀ facts w =
-    3 - w
+μ-loop p s nodes n j facts₀ list₀ facts list =
+    3 - list
 
 loop-holds : tie.Need-loop-holds Inv-loop μ-loop
 loop-holds c =
-    (omega arith, c .before .before .before .before .before .pre .2)
+    (omega arith, c .before .before .before .pre .2)
 
 with-list-requires : tie.Need-with-list-requires Inv-loop μ-loop
 with-list-requires c κs =
-    let c7 = c .before .before .before .before .before .before .before in
-    (omega arith, c7 .pre .0, c7 .pre .1, c .before .loop .inv .1)
+    let c5 = c .before .before .before .before .before in
+    (c5 .pre .0, c5 .pre .1, omega arith, c .before .loop .inv .1)
 
 add-list : tie.Need-add-list Inv-loop μ-loop
 add-list c = search needs

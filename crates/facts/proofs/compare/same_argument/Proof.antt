@@ -11,8 +11,8 @@ same-length c = search needs
 
 returns : tie.Need-returns
 returns c =
-    let c10 = c .before .before .before .before .before .before .before .before .before .before in
-    λ p m n f. arguments-test p (c10 .args .x) (c10 .args .i) m (c10 .args .y) (c10 .args .j) n _ (c .before .before .compare .ensures p m n f)
+    let c8 = c .before .before .before .before .before .before .before .before in
+    λ P m n f. arguments-test P (c8 .args .x) (c8 .args .i) m (c8 .args .y) (c8 .args .j) n _ (c .before .before .compare .ensures P m n f)
 
 pub same-argument-spec : {M : Type 1} → statement M
 same-argument-spec = tie.close (tie.spec compare-requires same-length returns)

@@ -1,6 +1,5 @@
-use Rattle.steps.specs.Nodes.Code.{index-within}
-use Rattle.facts.specs.Calls.Meaning.{fact-of-formed}
 use Rattle.facts.specs.Calls.Bytes.{same-by-bytes}
+use Rattle.facts.specs.Calls.Meaning.{fact-formed}
 use borrow.Author.Needs.{needs}
 use Rattle.facts.proofs.compare.same_fact.Statement.{statement}
 use Rattle.facts.proofs.compare.same_fact.Tie as tie
@@ -13,10 +12,7 @@ same-length c = search needs
 
 returns : tie.Need-returns
 returns c =
-    let c3 = c .before .before .before in
-    let c9 = c3 .before .before .before .before .before .before in
-    λ p m n f. same-by-bytes p _ _ (fact-of-formed p _ (index-within (f .first .index)) (λ k. c9 .shared-slice-known .given k .fits) _ _ m (f .first .is))
-    (fact-of-formed p _ (index-within (f .second .index)) (λ k. c9 .shared-slice-known .given k .fits) _ _ n (f .second .is)) _ (c3 .compare .ensures p m n f)
+    λ P m n f. same-by-bytes P _ _ (fact-formed (f .first)) (fact-formed (f .second)) _ (c .before .before .before .compare .ensures P m n f)
 
 pub same-fact-spec : {M : Type 1} → statement M
 same-fact-spec = tie.close (tie.spec compare-requires same-length returns)

@@ -1,10 +1,9 @@
-use lib.Seq.{length-take-le}
-use mathlib.Core.Path.{sym}
-use native.Mathlib.Omega.{arith}
-use Rattle.steps.specs.Nodes.Code.{index-within}
-use Rattle.facts.specs.Calls.Meaning.{fact-of-formed}
-use Rattle.facts.specs.Calls.{factAt}
 use Rattle.facts.specs.Marks.{fact-marked, symbol-small, put-inside}
+use Rattle.facts.specs.Calls.{factAt}
+use Rattle.facts.specs.Calls.Meaning.{fact-formed}
+use native.Mathlib.Omega.{arith}
+use mathlib.Core.Path.{sym}
+use lib.Seq.{length-take-le}
 use borrow.Author.Needs.{needs}
 use Rattle.facts.proofs.marks.fact_mark.Statement.{statement}
 use Rattle.facts.proofs.marks.fact_mark.Tie as tie
@@ -14,35 +13,31 @@ node-fact-requires c κs = search needs
 
 slice-reshare-prefix-mark-bytes : tie.Need-slice-reshare-prefix-mark-bytes
 slice-reshare-prefix-mark-bytes c =
-    let c10 = c .before .before .before .before .before .before .before .before .before .before in
-    let (p, x, f) = c10 .pre .0 in
-    put-inside _ _ _ _ (c .before .before .node-fact .ensures p x f .put) (omega (arith, c10 .pre .2 .enough))
+    let c8 = c .before .before .before .before .before .before .before .before in
+    let (P, m, f) = c8 .pre .0 in
+    put-inside _ _ _ _ (c .before .before .node-fact .ensures P m f .put) (omega (arith, c8 .pre .1 .enough))
 
 slice-aggregate-mark-bytes : tie.Need-slice-aggregate-mark-bytes
 slice-aggregate-mark-bytes c =
     let c3 = c .before .before .before in
-    let c11 = c3 .before .before .before .before .before .before .before .before in
-    let (p, x, f) = c11 .pre .0 in
-    sym (length-take-le _ _ (put-inside _ _ _ _ (c3 .node-fact .ensures p x f .put) (omega (arith, c11 .pre .2 .enough))))
+    let c9 = c3 .before .before .before .before .before .before in
+    let (P, m, f) = c9 .pre .0 in
+    sym (length-take-le _ _ (put-inside _ _ _ _ (c3 .node-fact .ensures P m f .put) (omega (arith, c9 .pre .1 .enough))))
 
 cast-mark-bytes : tie.Need-cast-mark-bytes
 cast-mark-bytes c =
     let c4 = c .before .before .before .before in
     let c10 = c4 .before .before .before .before .before .before in
-    let c12 = c10 .before .before in
-    let (p, x, f) = c12 .pre .0 in
-    let b = symbol-small p (index-within (f .index)) _ (fact-of-formed p _ (index-within (f .index)) (λ k. c10 .shared-slice-known .given k .fits)
-    _ _ x (f .is)) _ (c4 .node-fact .ensures p x f .symbols) in
+    let (P, m, f) = c10 .pre .0 in
+    let b = symbol-small P (f .node .prepared .body .within) _ (fact-formed f) _ (c4 .node-fact .ensures P m f .symbols) in
     omega (arith, b)
 
 mark-bytes-requires : tie.Need-mark-bytes-requires
 mark-bytes-requires c κs =
     let c4 = c .before .before .before .before in
     let c10 = c4 .before .before .before .before .before .before in
-    let c12 = c10 .before .before in
-    let (p, x, f) = c12 .pre .0 in
-    symbol-small p (index-within (f .index)) _ (fact-of-formed p _ (index-within (f .index)) (λ k. c10 .shared-slice-known .given k .fits) _ _
-    x (f .is)) _ (c4 .node-fact .ensures p x f .symbols)
+    let (P, m, f) = c10 .pre .0 in
+    symbol-small P (f .node .prepared .body .within) _ (fact-formed f) _ (c4 .node-fact .ensures P m f .symbols)
 
 same-length : tie.Need-same-length
 same-length c = search needs
@@ -50,9 +45,9 @@ same-length c = search needs
 returns : tie.Need-returns
 returns c =
     let c5 = c .before .before .before .before .before in
-    let c13 = c5 .before .before .before .before .before .before .before .before in
-    λ p m h. fact-marked (factAt p (c13 .args .x .list) (c13 .args .x .number) m) _ _ _ _ _ (c5 .node-fact .ensures p m h .put)
-    (c5 .node-fact .ensures p m h .symbols) (c .mark-bytes .ensures)
+    let c11 = c5 .before .before .before .before .before .before in
+    λ P m h. fact-marked (factAt P (c11 .args .x .list) (c11 .args .x .number) m) _ _ _ _ _ (c5 .node-fact .ensures P m h .put)
+    (c5 .node-fact .ensures P m h .symbols) (c .mark-bytes .ensures)
 
 pub fact-mark-spec : {M : Type 1} → statement M
 fact-mark-spec =

@@ -1,45 +1,54 @@
-use Rattle.facts.specs.Writing.Whole.{fact-ready, fact-done}
-use Rattle.steps.specs.Values.Parts.{symbol-inside}
+use mathlib.Core.Path.{sym}
 use native.Mathlib.Omega.{arith}
-use mathlib.Core.Path.{refl}
+use Rattle.prepared.specs.Prepared.Laws.{slots-length}
+use Rattle.facts.specs.Writing.Whole.{symbol-listed, fact-ready, fact-done}
+use denote.Ref.{now}
 use borrow.Author.Needs.{needs}
 use Rattle.facts.proofs.writing.fact_into.Statement.{statement}
 use Rattle.facts.proofs.writing.fact_into.Tie as tie
 
 symbol-of-requires : tie.Need-symbol-of-requires
-symbol-of-requires c κs = search needs
+symbol-of-requires c κs =
+    omega (arith, c .before .before .before .before .pre .2 .job .long)
 
-shared-slice-read-k : tie.Need-shared-slice-read-k
-shared-slice-read-k c =
-    let c6 = c .before .before .before .before .before .before in
-    let c8 = c6 .before .before in
-    let r = c8 .pre in
-    let b = symbol-inside _ _ _ (λ k. c6 .shared-slice-known .given k .fits) _ (r .1) (r .2 .job .here) in
-    omega (arith, b, c .before .symbol-of .ensures)
-
-cast-k : tie.Need-cast-k
-cast-k c =
-    omega (arith, c .shared-slice-known6 .given (c .before .symbol-of .result))
+arity-of-requires : tie.Need-arity-of-requires
+arity-of-requires c κs =
+    let c3 = c .before .before .before in
+    let c5 = c3 .before .before in (
+      symbol-listed _ _ _ _ _ _ (λ k. c3 .shared-slice-known .given k .fits) _ _ (c5 .pre .2 .job) _ (c .symbol-of .ensures),
+      omega
+          (arith, c5 .pre .2 .job .long),
+    )
 
 term-at-requires : tie.Need-term-at-requires
-term-at-requires c κs = search needs
+term-at-requires c κs =
+    let c6 = c .before .before .before .before .before .before in
+    (omega (arith, c6 .pre .2 .job .long), omega (arith, c6 .pre .2 .job .long))
+
+slice-aggregate-canonical-into : tie.Need-slice-aggregate-canonical-into
+slice-aggregate-canonical-into c =
+    let c9 = c .before .before .before .before .before .before .before .before .before in
+    sym (slots-length (now (c9 .args .p)) (omega (arith, c9 .pre .2 .job .long)))
 
 canonical-into-requires : tie.Need-canonical-into-requires
 canonical-into-requires c κs =
     let c3 = c .before .before .before in
-    let c8 = c3 .before .before .before .before .before in
-    let c10 = c8 .before .before in
-    fact-ready _ _ _ _ _ _ (λ k. c8 .shared-slice-known .given k .fits) _ _ _ (c3 .symbol-of .ensures) refl (c .before .term-at .ensures) _ _ (c10 .pre)
+    let c4 = c3 .before in
+    let c7 = c4 .before .before .before in
+    let c9 = c7 .before .before in
+    fact-ready _ _ _ _ (λ k. c7 .shared-slice-known .given k .fits) _ _ _ (c4 .symbol-of .ensures) (c3 .arity-of .ensures)
+    (c .before .before .term-at .ensures) _ _ (c9 .pre)
 
 same-length : tie.Need-same-length
 same-length c = search needs
 
 returns : tie.Need-returns
 returns c =
-    let c4 = c .before .before .before .before in
-    let c6 = c4 .before .before in
-    let c11 = c6 .before .before .before .before .before in
-    fact-done _ _ _ _ _ _ (λ k. c11 .shared-slice-known .given k .fits) _ _ _ (c6 .symbol-of .ensures) refl (c4 .term-at .ensures) _ _ _ _ _
+    let c5 = c .before .before .before .before .before in
+    let c6 = c5 .before in
+    let c7 = c6 .before in
+    let c10 = c7 .before .before .before in
+    fact-done _ _ _ _ (λ k. c10 .shared-slice-known .given k .fits) _ _ _ (c7 .symbol-of .ensures) (c6 .arity-of .ensures) (c5 .term-at .ensures) _ _ _ _ _
     (c .before .before .canonical-into .ensures)
 
 pub fact-into-spec : {M : Type 1} → statement M
@@ -47,9 +56,9 @@ fact-into-spec =
     tie.close
     (tie.spec
     symbol-of-requires
-    shared-slice-read-k
-    cast-k
+    arity-of-requires
     term-at-requires
+    slice-aggregate-canonical-into
     canonical-into-requires
     same-length
     returns)

@@ -8,28 +8,28 @@ enum-told c = search needs
 
 fact-into-requires : tie.Need-fact-into-requires
 fact-into-requires c κs =
-    ready-as _ _ _ _ _ _ _ _ (c .before .enum-told .given .1) _ _ (c .before .before .before .before .before .before .before .before .before .pre)
+    ready-as _ _ _ _ _ _ (c .before .enum-told .given .1) _ _ (c .before .before .before .before .before .before .before .pre)
 
 enum-known-wanted : tie.Need-enum-known-wanted
 enum-known-wanted c = search needs
 
 argument-into-requires : tie.Need-argument-into-requires
 argument-into-requires c κs =
-    ready-as _ _ _ _ _ _ _ _ (c .before .before .wanted .given .1) _ _ (c .before .before .before .before .before .before .before .before .before .before .pre)
+    ready-as _ _ _ _ _ _ (c .before .before .wanted .given .1) _ _ (c .before .before .before .before .before .before .before .before .pre)
 
 same-length : tie.Need-same-length
 same-length c = search needs
 
 returns : tie.Need-returns
 returns c =
-    done-as _ _ _ _ _ _ _ _ (c .before .before .before .before .enum-told .given .1) _ _ _ _ (c .before .before .fact-into .ensures)
+    done-as _ _ _ _ _ _ (c .before .before .before .before .enum-told .given .1) _ _ _ _ (c .before .before .fact-into .ensures)
 
 same-length-2 : tie.Need-same-length-2
 same-length-2 c = search needs
 
 returns-2 : tie.Need-returns-2
 returns-2 c =
-    done-as _ _ _ _ _ _ _ _ (c .before .before .before .before .before .wanted .given .1) _ _ _ _ (c .before .before .argument-into .ensures)
+    done-as _ _ _ _ _ _ (c .before .before .before .before .before .wanted .given .1) _ _ _ _ (c .before .before .argument-into .ensures)
 
 pub wanted-into-spec : {M : Type 1} → statement M
 wanted-into-spec =

@@ -21,7 +21,7 @@ array-share-prefix-own c =
     let c10 = c5 .before .before .before .before .before in
     let f = c10 .pre .4 in
     let w = as-written f (c10 .args .n) (c10 .pre .0) (c5 .find-rule .result) (c5 .find-rule .last .1 .1 .1 .1 .0)
-        (c5 .find-rule .ensures (f .file) (f .ns) (f .ars) (f .flags) (f .entries)) (c .before .before .len .given .1) in
+    (c5 .find-rule .ensures (f .file) (f .ns) (f .ars) (f .flags) (f .entries)) (c .before .before .len .given .1) in
     omega (arith, w .holds .short, c5 .find-rule .kept .1 .1 .1 .1 .0)
 
 slice-aggregate-put-rule : tie.Need-slice-aggregate-put-rule
@@ -31,7 +31,7 @@ slice-aggregate-put-rule c =
     let c11 = c6 .before .before .before .before .before in
     let f = c11 .pre .4 in
     let w = as-written f (c11 .args .n) (c11 .pre .0) (c6 .find-rule .result) (c6 .find-rule .last .1 .1 .1 .1 .0)
-        (c6 .find-rule .ensures (f .file) (f .ns) (f .ars) (f .flags) (f .entries)) (c3 .len .given .1) in
+    (c6 .find-rule .ensures (f .file) (f .ns) (f .ars) (f .flags) (f .entries)) (c3 .len .given .1) in
     sym (length-take-le _ _ (w .holds .short))
 
 put-rule-requires : tie.Need-put-rule-requires
@@ -41,7 +41,7 @@ put-rule-requires c κs =
     let c11 = c6 .before .before .before .before .before in
     let f = c11 .pre .4 in
     let w = as-written f (c11 .args .n) (c11 .pre .0) (c6 .find-rule .result) (c6 .find-rule .last .1 .1 .1 .1 .0)
-        (c6 .find-rule .ensures (f .file) (f .ns) (f .ars) (f .flags) (f .entries)) (c3 .len .given .1) in
+    (c6 .find-rule .ensures (f .file) (f .ns) (f .ars) (f .flags) (f .entries)) (c3 .len .given .1) in
     (w .low, c11 .pre .1, written-few w (c6 .find-rule .kept .1 .1 .1 .1 .0))
 
 enum-known-k : tie.Need-enum-known-k
@@ -53,7 +53,7 @@ add-put-place c =
     let c10 = c5 .before .before .before .before .before in
     let f = c10 .pre .4 in
     let k = place-small f (c10 .args .n) (c10 .pre .0) _ (as-placed f (c10 .args .n) (c10 .pre .0) (c5 .find-rule .result) (c5 .find-rule .last .1 .1 .1 .1 .0)
-        (c5 .find-rule .ensures (f .file) (f .ns) (f .ars) (f .flags) (f .entries)) (c .before .before .k .given .1)) in
+    (c5 .find-rule .ensures (f .file) (f .ns) (f .ars) (f .flags) (f .entries)) (c .before .before .k .given .1)) in
     omega (arith, k)
 
 put-place-requires : tie.Need-put-place-requires
@@ -62,7 +62,7 @@ put-place-requires c κs =
     let c10 = c5 .before .before .before .before .before in
     let f = c10 .pre .4 in
     let k = place-small f (c10 .args .n) (c10 .pre .0) _ (as-placed f (c10 .args .n) (c10 .pre .0) (c5 .find-rule .result) (c5 .find-rule .last .1 .1 .1 .1 .0)
-        (c5 .find-rule .ensures (f .file) (f .ns) (f .ars) (f .flags) (f .entries)) (c .before .before .k .given .1)) in
+    (c5 .find-rule .ensures (f .file) (f .ns) (f .ars) (f .flags) (f .entries)) (c .before .before .k .given .1)) in
     (c10 .pre .0, c10 .pre .1, k)
 
 enum-told : tie.Need-enum-told
@@ -81,8 +81,8 @@ returns c =
     let c14 = c9 .before .before .before .before .before in
     λ f.
     enters-written f (c14 .args .n) (c14 .pre .0) _ (c14 .pre .1) _ _ (c9 .find-rule .last .1 .1 .1 .1 .0) (c9 .find-rule .kept .1 .1 .1 .1 .0)
-        (as-written f (c14 .args .n) (c14 .pre .0) (c9 .find-rule .result) (c9 .find-rule .last .1 .1 .1 .1 .0)
-        (c9 .find-rule .ensures (f .file) (f .ns) (f .ars) (f .flags) (f .entries)) (c6 .len .given .1)) (c .before .before .put-rule .ensures)
+    (as-written f (c14 .args .n) (c14 .pre .0) (c9 .find-rule .result) (c9 .find-rule .last .1 .1 .1 .1 .0)
+    (c9 .find-rule .ensures (f .file) (f .ns) (f .ars) (f .flags) (f .entries)) (c6 .len .given .1)) (c .before .before .put-rule .ensures)
 
 same-length-2 : tie.Need-same-length-2
 same-length-2 c = search needs
@@ -94,8 +94,8 @@ returns-2 c =
     let c13 = c8 .before .before .before .before .before in
     λ f.
     enters-own f (c13 .args .n) (c13 .pre .0) _ (c13 .pre .1) _ _ (as-placed f (c13 .args .n) (c13 .pre .0) (c8 .find-rule .result)
-        (c8 .find-rule .last .1 .1 .1 .1 .0) (c8 .find-rule .ensures (f .file) (f .ns) (f .ars) (f .flags) (f .entries)) (c5 .k .given .1))
-        (c .before .before .put-place .ensures)
+    (c8 .find-rule .last .1 .1 .1 .1 .0) (c8 .find-rule .ensures (f .file) (f .ns) (f .ars) (f .flags) (f .entries)) (c5 .k .given .1))
+    (c .before .before .put-place .ensures)
 
 same-length-3 : tie.Need-same-length-3
 same-length-3 c = search needs
@@ -107,8 +107,8 @@ returns-3 c =
     let c12 = c7 .before .before .before .before .before in
     λ f.
     enters-none f (c12 .args .n) (c12 .pre .0) _ (c12 .pre .1) _ (as-none f (c12 .args .n) (c12 .pre .0) (c7 .find-rule .result)
-        (c7 .find-rule .last .1 .1 .1 .1 .0) (c7 .find-rule .ensures (f .file) (f .ns) (f .ars) (f .flags) (f .entries)) (c4 .enum-told .given .1))
-        (c .before .before .put-place2 .ensures)
+    (c7 .find-rule .last .1 .1 .1 .1 .0) (c7 .find-rule .ensures (f .file) (f .ns) (f .ars) (f .flags) (f .entries)) (c4 .enum-told .given .1))
+    (c .before .before .put-place2 .ensures)
 
 pub enter-rule-spec : {M : Type 1} → statement M
 enter-rule-spec =

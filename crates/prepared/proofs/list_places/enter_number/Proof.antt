@@ -13,9 +13,13 @@ enum-known-place c = search needs
 enter-lists-requires : tie.Need-enter-lists-requires
 enter-lists-requires c κs =
     let c4 = c .before .before .before .before in
-    let c7 = c4 .before .before .before in
-    (c7 .pre .0, c7 .pre .1, c7 .pre .2, lists-of (now (c7 .args .q)) (c7 .pre .3) (c7 .args .n) (c4 .rule-place .ensures) _
-        (c .before .before .place .given .1))
+    let c7 = c4 .before .before .before in (
+      c7 .pre .0,
+      c7 .pre .1,
+      c7 .pre .2,
+      lists-of (now (c7 .args .q)) (c7 .pre .3) (c7 .args .n) (c4 .rule-place .ensures) _
+          (c .before .before .place .given .1),
+    )
 
 enum-told : tie.Need-enum-told
 enum-told c = search needs
@@ -30,7 +34,7 @@ returns-2 : tie.Need-returns-2
 returns-2 c =
     let c5 = c .before .before .before .before .before in
     lists-none (now (c5 .args .q)) (now (c5 .args .table)) (c5 .args .n) (c5 .pre .0)
-        (none-found (now (c5 .args .q)) (c5 .pre .3) (c5 .args .n) (c .before .before .rule-place .ensures) (c .enum-told .given .1))
+    (none-found (now (c5 .args .q)) (c5 .pre .3) (c5 .args .n) (c .before .before .rule-place .ensures) (c .enum-told .given .1))
 
 pub enter-number-spec : {M : Type 1} → statement M
 enter-number-spec =

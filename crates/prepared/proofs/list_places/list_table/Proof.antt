@@ -43,7 +43,7 @@ same-length c = search needs
 returns : tie.Need-returns Inv-loop μ-loop
 returns c =
     let e : 3 * c .before .loop .n ≡ entryCount = omega arith in subst (Listing (now (c .before .before .before .before .args .q)) (c .before .loop .table)) e
-        (c .before .loop .inv .2)
+    (c .before .loop .inv .2)
 
 pub list-table-spec : {M : Type 1} → statement M
 list-table-spec =

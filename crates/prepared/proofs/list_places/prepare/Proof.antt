@@ -31,8 +31,12 @@ slice-aggregate-list-table : tie.Need-slice-aggregate-list-table
 slice-aggregate-list-table c =
     let c6 = c .before .before .before .before .before .before in
     let c10 = c6 .before .before .before .before in
-    joined-part (c6 .prepare-body .last .1 .0) (now (c10 .args .p)) (omega (arith, c6 .prepare-body .kept .1 .0, length-take-le bodyLength (now (c10 .args .p))
-        (omega arith))) (c10 .pre .1)
+    joined-part (c6 .prepare-body .last .1 .0) (now (c10 .args .p)) (omega (
+      arith,
+      c6 .prepare-body .kept .1 .0,
+      length-take-le bodyLength (now (c10 .args .p))
+          (omega arith),
+    )) (c10 .pre .1)
 
 slice-aggregate-list-table-2 : tie.Need-slice-aggregate-list-table-2
 slice-aggregate-list-table-2 c = search needs
@@ -43,9 +47,16 @@ list-table-requires c κs =
     let c7 = c3 .before .before .before .before in
     let c11 = c7 .before .before .before .before in
     let n = joined-part (c7 .prepare-body .last .1 .0) (now (c11 .args .p)) (omega
-        (arith, c7 .prepare-body .kept .1 .0, length-take-le bodyLength (now (c11 .args .p)) (omega arith))) (c11 .pre .1) in
-    (joined-ready (c7 .prepare-body .last .1 .0) (now (c11 .args .p)) (omega (arith, c7 .prepare-body .kept .1 .0, length-take-le bodyLength
-        (now (c11 .args .p)) (omega arith))) (c11 .pre .1) (now (c11 .args .file)) (c3 .ns .given .1) (c7 .prepare-body .ensures .1), sym n, refl)
+    (arith, c7 .prepare-body .kept .1 .0, length-take-le bodyLength (now (c11 .args .p)) (omega arith))) (c11 .pre .1) in (
+      joined-ready (c7 .prepare-body .last .1 .0) (now (c11 .args .p)) (omega (
+        arith,
+        c7 .prepare-body .kept .1 .0,
+        length-take-le bodyLength
+            (now (c11 .args .p)) (omega arith),
+      )) (c11 .pre .1) (now (c11 .args .file)) (c3 .ns .given .1) (c7 .prepare-body .ensures .1),
+      sym n,
+      refl,
+    )
 
 slice-aggregate-copy-into : tie.Need-slice-aggregate-copy-into
 slice-aggregate-copy-into c = search needs
@@ -67,13 +78,23 @@ returns c =
     let c6 = c .before .before .before .before .before .before in
     let c10 = c6 .before .before .before .before in
     let c14 = c10 .before .before .before .before in
-    let c18 = c14 .before .before .before .before in
-    (sym (ap verdictOf (c10 .ns .given .1)) ∙ c14 .prepare-body .ensures .0, all-prepared (now (c18 .args .file)) _ _ _ _
-        (joined-long (c14 .prepare-body .last .1 .0) (now (c18 .args .p)) (omega (arith, c14 .prepare-body .kept .1 .0, length-take-le bodyLength
-        (now (c18 .args .p)) (omega arith))) (c18 .pre .1)) refl (search needs) (c6 .list-table .ensures) (c .before .before .copy-into .ensures .1)
-        (joined-as (c14 .prepare-body .last .1 .0) (now (c18 .args .p)) (omega (arith, c14 .prepare-body .kept .1 .0, length-take-le bodyLength
-        (now (c18 .args .p)) (omega arith))) (c18 .pre .1) (now (c18 .args .file)) (c10 .ns .given .1) (c14 .prepare-body .ensures .1))
-        (λ k. c .slice-known3 .given k .fits))
+    let c18 = c14 .before .before .before .before in (
+      sym (ap verdictOf (c10 .ns .given .1)) ∙ c14 .prepare-body .ensures .0,
+      all-prepared (now (c18 .args .file)) _ _ _ _
+          (joined-long (c14 .prepare-body .last .1 .0) (now (c18 .args .p)) (omega (
+            arith,
+            c14 .prepare-body .kept .1 .0,
+            length-take-le bodyLength
+                (now (c18 .args .p)) (omega arith),
+          )) (c18 .pre .1)) refl (search needs) (c6 .list-table .ensures) (c .before .before .copy-into .ensures .1)
+          (joined-as (c14 .prepare-body .last .1 .0) (now (c18 .args .p)) (omega (
+            arith,
+            c14 .prepare-body .kept .1 .0,
+            length-take-le bodyLength
+                (now (c18 .args .p)) (omega arith),
+          )) (c18 .pre .1) (now (c18 .args .file)) (c10 .ns .given .1) (c14 .prepare-body .ensures .1))
+          (λ k. c .slice-known3 .given k .fits),
+    )
 
 same-length-2 : tie.Need-same-length-2
 same-length-2 c = search needs

@@ -1,10 +1,10 @@
-use Rattle.protocol.specs.Places.Ends.{end-walk, fact-got, fact-none}
-use Rattle.protocol.specs.Protocol.Walks.{asks}
-use Rattle.protocol.specs.Protocol.{fact}
-use Rattle.number.specs.Reading.{asRead, many}
-use Rattle.lists.specs.Lists.{anyBy}
-use mathlib.Core.Path.{ap, sym, _∙_}
 use denote.Ref.{now}
+use mathlib.Core.Path.{ap, sym, _∙_}
+use Rattle.lists.specs.Lists.{anyBy}
+use Rattle.number.specs.Reading.{asRead, many}
+use Rattle.protocol.specs.Protocol.{fact}
+use Rattle.protocol.specs.Protocol.Walks.{asks}
+use Rattle.protocol.specs.Places.Ends.{end-walk, first-place, fact-got, fact-none}
 use borrow.Author.Needs.{needs}
 use Rattle.protocol.proofs.places.fact_at.Statement.{statement}
 use Rattle.protocol.proofs.places.fact_at.Tie as tie
@@ -15,6 +15,14 @@ below-requires c κs = search needs
 enum-known-e : tie.Need-enum-known-e
 enum-known-e c = search needs
 
+returns : tie.Need-returns
+returns c =
+    let c4 = c .before .before .before .before in
+    let c8 = c4 .before .before .before .before in
+    first-place (fact (now (c8 .args .file)) (now (c8 .args .arities)) (now (c8 .args .ars))) (c8 .args .i) (c .before .before .e .given .0 .1 .0)
+    (c .if1 .taken) ∙ sym (fact-got _ (now (c8 .args .arities)) (now (c8 .args .ars)) _ (c8 .args .i)
+    (sym (c4 .below .ensures) ∙ ap asRead (c .before .before .e .given .1)))
+
 some-facts-requires : tie.Need-some-facts-requires
 some-facts-requires c κs = search needs
 
@@ -24,17 +32,17 @@ end-of-requires c κs = search needs
 enum-told : tie.Need-enum-told
 enum-told c = search needs
 
-returns : tie.Need-returns
-returns c =
-    let c3 = c .before .before .before in
-    let c5 = c3 .before .before in
-    let c9 = c5 .before .before .before .before in
-    end-walk (anyBy (asks 0 0 0)) (many (fact (now (c9 .args .file)) (now (c9 .args .arities)) (now (c9 .args .ars))) (c9 .args .i) (c3 .e .given .0 .1 .0))
-    (c .end-of .ensures) (c .before .some-facts .ensures) ∙ sym (fact-got _ (now (c9 .args .arities)) (now (c9 .args .ars)) _ (c9 .args .i)
-    (sym (c5 .below .ensures) ∙ ap asRead (c3 .e .given .1)))
-
 returns-2 : tie.Need-returns-2
 returns-2 c =
+    let c4 = c .before .before .before .before in
+    let c6 = c4 .before .before in
+    let c10 = c6 .before .before .before .before in
+    end-walk (anyBy (asks 0 0 0)) (many (fact (now (c10 .args .file)) (now (c10 .args .arities)) (now (c10 .args .ars))) (c10 .args .i) (c4 .e .given .0 .1 .0))
+    (c .end-of .ensures) (c .before .some-facts .ensures) ∙ sym (fact-got _ (now (c10 .args .arities)) (now (c10 .args .ars)) _ (c10 .args .i)
+    (sym (c6 .below .ensures) ∙ ap asRead (c4 .e .given .1)))
+
+returns-3 : tie.Need-returns-3
+returns-3 c =
     let c6 = c .before .before .before .before .before .before in
     sym (fact-none _ (now (c6 .args .arities)) (now (c6 .args .ars)) _ (c6 .args .i)
     (sym (c .before .before .below .ensures) ∙ ap asRead (c .enum-told .given .1)))
@@ -45,8 +53,9 @@ fact-at-spec =
     (tie.spec
     below-requires
     enum-known-e
+    returns
     some-facts-requires
     end-of-requires
     enum-told
-    returns
-    returns-2)
+    returns-2
+    returns-3)

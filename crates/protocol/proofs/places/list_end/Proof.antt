@@ -17,7 +17,7 @@ returns : tie.Need-returns
 returns c =
     let c5 = c .before .before .before .before .before in
     end-walk (anyBy (asks 0 0 0)) (facts (now (c5 .args .file)) (now (c5 .args .arities)) (now (c5 .args .ars)) (c5 .args .at)) (c .end-of .ensures)
-        (c .before .one-list .ensures)
+    (c .before .one-list .ensures)
 
 pub list-end-spec : {M : Type 1} → statement M
 list-end-spec = tie.close (tie.spec one-list-requires end-of-requires returns)

@@ -1,10 +1,10 @@
-use Rattle.protocol.specs.Places.Ends.{end-walk, term-got, term-none}
-use Rattle.protocol.specs.Protocol.Walks.{leafAt}
-use Rattle.protocol.specs.Protocol.{ruleTerm}
-use Rattle.number.specs.Reading.{asRead, many}
-use Rattle.lists.specs.Lists.{anyBy}
-use mathlib.Core.Path.{ap, sym, _∙_}
 use denote.Ref.{now}
+use mathlib.Core.Path.{ap, sym, _∙_}
+use Rattle.lists.specs.Lists.{anyBy}
+use Rattle.number.specs.Reading.{asRead, many}
+use Rattle.protocol.specs.Protocol.{ruleTerm}
+use Rattle.protocol.specs.Protocol.Walks.{leafAt}
+use Rattle.protocol.specs.Places.Ends.{end-walk, first-place, term-got, term-none}
 use borrow.Author.Needs.{needs}
 use Rattle.protocol.proofs.places.term_at.Statement.{statement}
 use Rattle.protocol.proofs.places.term_at.Tie as tie
@@ -15,6 +15,13 @@ below-requires c κs = search needs
 enum-known-e : tie.Need-enum-known-e
 enum-known-e c = search needs
 
+returns : tie.Need-returns
+returns c =
+    let c4 = c .before .before .before .before in
+    let c8 = c4 .before .before .before .before in
+    first-place (ruleTerm (now (c8 .args .file)) (now (c8 .args .arities))) (c8 .args .j) (c .before .before .e .given .0 .1 .0) (c .if1 .taken) ∙ sym
+    (term-got _ (now (c8 .args .arities)) (now (c8 .args .ars)) _ (c8 .args .j) (sym (c4 .below .ensures) ∙ ap asRead (c .before .before .e .given .1)))
+
 rule-terms-requires : tie.Need-rule-terms-requires
 rule-terms-requires c κs = search needs
 
@@ -24,18 +31,17 @@ end-of-requires c κs = search needs
 enum-told : tie.Need-enum-told
 enum-told c = search needs
 
-returns : tie.Need-returns
-returns c =
-    let c3 = c .before .before .before in
-    let c5 = c3 .before .before in
-    let c9 = c5 .before .before .before .before in
-    end-walk (anyBy (leafAt 0 0 0)) (many (ruleTerm (now (c9 .args .file)) (now (c9 .args .arities))) (c9 .args .j) (c3 .e .given .0 .1 .0))
-    (c .end-of .ensures)
-    (c .before .rule-terms .ensures) ∙ sym (term-got _ (now (c9 .args .arities)) (now (c9 .args .ars)) _ (c9 .args .j)
-    (sym (c5 .below .ensures) ∙ ap asRead (c3 .e .given .1)))
-
 returns-2 : tie.Need-returns-2
 returns-2 c =
+    let c4 = c .before .before .before .before in
+    let c6 = c4 .before .before in
+    let c10 = c6 .before .before .before .before in
+    end-walk (anyBy (leafAt 0 0 0)) (many (ruleTerm (now (c10 .args .file)) (now (c10 .args .arities))) (c10 .args .j) (c4 .e .given .0 .1 .0))
+    (c .end-of .ensures) (c .before .rule-terms .ensures) ∙ sym (term-got _ (now (c10 .args .arities)) (now (c10 .args .ars)) _ (c10 .args .j)
+    (sym (c6 .below .ensures) ∙ ap asRead (c4 .e .given .1)))
+
+returns-3 : tie.Need-returns-3
+returns-3 c =
     let c6 = c .before .before .before .before .before .before in
     sym (term-none _ (now (c6 .args .arities)) (now (c6 .args .ars)) _ (c6 .args .j)
     (sym (c .before .before .below .ensures) ∙ ap asRead (c .enum-told .given .1)))
@@ -46,8 +52,9 @@ term-at-spec =
     (tie.spec
     below-requires
     enum-known-e
+    returns
     rule-terms-requires
     end-of-requires
     enum-told
-    returns
-    returns-2)
+    returns-2
+    returns-3)

@@ -1,7 +1,7 @@
 use borrow.Author.Needs.{needs}
 use Rattle.steps.specs.Names.Laws.{NamesLeft, names-all, names-more, names-twice, names-none}
 use Rattle.steps.specs.Names.{Entered}
-use Rattle.steps.specs.Nodes.Code.{noNode}
+use Rattle.steps.specs.Nodes.{noNode}
 use Rattle.steps.specs.Nodes.{Node}
 use Rattle.protocol.specs.Protocol.{Protocol}
 use Prim.Native.Nat.{_-_, _≤_}

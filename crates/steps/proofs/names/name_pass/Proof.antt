@@ -1,3 +1,4 @@
+use native.Mathlib.Omega.{arith}
 use borrow.Author.Needs.{needs}
 use Rattle.steps.proofs.names.name_pass.Statement.{statement}
 use Rattle.steps.proofs.names.name_pass.Tie as tie
@@ -6,17 +7,21 @@ slice-aggregate-enter-names : tie.Need-slice-aggregate-enter-names
 slice-aggregate-enter-names c = search needs
 
 enter-names-requires : tie.Need-enter-names-requires
-enter-names-requires c κs = search needs
+enter-names-requires c κs =
+    let c4 = c .before .before .before .before in
+    (c4 .pre, omega (arith, c4 .pre .2 .few))
 
 slice-aggregate-least-again : tie.Need-slice-aggregate-least-again
 slice-aggregate-least-again c = search needs
 
 least-again-requires : tie.Need-least-again-requires
-least-again-requires c κs = search needs
+least-again-requires c κs =
+    let c7 = c .before .before .before .before .before .before .before in
+    (c7 .pre .2 .few, omega (arith, c7 .pre .2 .few, c .before .before .enter-names .kept))
 
 returns : tie.Need-returns
 returns c =
-    λ p xs h. c .least-again .ensures p xs (c .before .before .before .enter-names .ensures .1 p xs h) (h .placed .count)
+    λ P xs h. c .least-again .ensures P xs (c .before .before .before .enter-names .ensures P xs h) (h .count)
 
 pub name-pass-spec : {M : Type 1} → statement M
 name-pass-spec =

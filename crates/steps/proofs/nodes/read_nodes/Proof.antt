@@ -1,9 +1,9 @@
-use native.Mathlib.Omega.{arith}
-use mathlib.Core.Path.{ap, sym, _∙_}
+use Rattle.steps.specs.Nodes.Code.{told-as, nodes-got, nodes-fault}
 use Rattle.number.specs.Reading.Numbers.{below-inside}
 use Rattle.number.specs.Reading.{asRead}
-use Rattle.steps.specs.Nodes.Code.{nodes-got, nodes-fault, told-as}
+use mathlib.Core.Path.{ap, sym, _∙_}
 use denote.Ref.{now}
+use native.Mathlib.Omega.{arith}
 use borrow.Author.Needs.{needs}
 use Rattle.steps.proofs.nodes.read_nodes.Statement.{statement}
 use Rattle.steps.proofs.nodes.read_nodes.Tie as tie
@@ -20,10 +20,10 @@ cast-nodes-from c = search needs
 nodes-from-requires : tie.Need-nodes-from-requires
 nodes-from-requires c κs =
     let c4 = c .before .before .before .before in
-    let c9 = c4 .before .before .before .before .before in
-    let c10 = c9 .before in
-    let b = below-inside _ _ _ (λ i. c9 .shared-slice-known .given i .fits) _ _ (sym (c4 .below .ensures) ∙ ap asRead (c .before .before .n .given .1)) in
-    (c10 .pre .0, search needs, omega (arith, b .small), search needs)
+    let c6 = c4 .before .before in
+    let c8 = c6 .before .before in
+    let b = below-inside _ _ _ (λ i. c6 .shared-slice-known2 .given i .fits) _ _ (sym (c4 .below .ensures) ∙ ap asRead (c .before .before .n .given .1)) in
+    (c8 .pre .0, c8 .pre .1, omega (arith, b .small), c8 .pre .2)
 
 enum-told : tie.Need-enum-told
 enum-told c = search needs
@@ -35,15 +35,13 @@ returns : tie.Need-returns
 returns c =
     let c5 = c .before .before .before .before .before in
     let c7 = c5 .before .before in
-    let c13 = c7 .before .before .before .before .before .before in (
-      search needs,
-      λ p i. told-as _ _ (nodes-got p _ _ (sym (c7 .below .ensures) ∙ ap asRead (c5 .n .given .1))) p (now (c13 .args .file))
-          (c .before .before .nodes-from .last .1 .1 .1 .1 .1 .1 .1 .0) (c .before .before .nodes-from .result) (c .before .before .nodes-from .ensures .1 p i),
-    )
+    let c11 = c7 .before .before .before .before in
+    λ P f. told-as _ _ (nodes-got P _ _ (sym (c7 .below .ensures) ∙ ap asRead (c5 .n .given .1))) (now (c11 .args .p)) (now (c11 .args .s))
+    (c .before .before .nodes-from .last .1 .1 .1 .1 .0) (c .before .before .nodes-from .result) (c .before .before .nodes-from .ensures P f)
 
 returns-2 : tie.Need-returns-2
 returns-2 c =
-    (search needs, λ p i. nodes-fault p _ _ (sym (c .before .before .below .ensures) ∙ ap asRead (c .enum-told .given .1)))
+    λ P f. nodes-fault P _ _ (sym (c .before .before .below .ensures) ∙ ap asRead (c .enum-told .given .1))
 
 pub read-nodes-spec : {M : Type 1} → statement M
 read-nodes-spec =

@@ -8,7 +8,7 @@ value-pass-requires c κs = search needs
 
 returns : tie.Need-returns
 returns c =
-    λ p xs h. wrong-value p xs (c .before .value-pass .result) (c .before .value-pass .ensures p xs h) (c .if1 .taken)
+    λ P xs h. wrong-value P xs (c .before .value-pass .result) (c .before .value-pass .ensures P xs h) (c .if1 .taken)
 
 size-pass-requires : tie.Need-size-pass-requires
 size-pass-requires c κs = search needs
@@ -16,8 +16,8 @@ size-pass-requires c κs = search needs
 returns-2 : tie.Need-returns-2
 returns-2 c =
     let c3 = c .before .before .before in
-    λ p xs h. too-large p xs (c3 .value-pass .result) (c3 .value-pass .ensures p xs h) (c .before .before .if1 .left) (c .before .size-pass .result)
-    (c .before .size-pass .ensures p xs h) (c .if2 .taken)
+    λ P xs h. too-large P xs (c3 .value-pass .result) (c3 .value-pass .ensures P xs h) (c .before .before .if1 .left) (c .before .size-pass .result)
+    (c .before .size-pass .ensures P xs h) (c .if2 .taken)
 
 name-pass-requires : tie.Need-name-pass-requires
 name-pass-requires c κs = search needs
@@ -27,19 +27,17 @@ returns-3 c =
     let c3 = c .before .before .before in
     let c4 = c3 .before in
     let c5 = c4 .before in
-    λ p xs h. made-twice p xs (c5 .value-pass .result) (c5 .value-pass .ensures p xs h) (c4 .if1 .left) (c3 .size-pass .result)
-    (c3 .size-pass .ensures p xs h) (c .before .before .if2 .left) (c .before .name-pass .result) (c .before .name-pass .ensures p xs h)
-    (c .if3 .taken)
+    λ P xs h. made-twice P xs (c5 .value-pass .result) (c5 .value-pass .ensures P xs h) (c4 .if1 .left) (c3 .size-pass .result) (c3 .size-pass .ensures P xs h)
+    (c .before .before .if2 .left) (c .before .name-pass .result) (c .before .name-pass .ensures P xs h) (c .if3 .taken)
 
 returns-4 : tie.Need-returns-4
 returns-4 c =
     let c3 = c .before .before .before in
     let c4 = c3 .before in
     let c5 = c4 .before in
-    let c12 = c5 .before .before .before .before .before .before .before in
-    λ p xs h. all-good p xs (c5 .value-pass .result) (c5 .value-pass .ensures p xs h) (c4 .if1 .left) (c3 .size-pass .result)
-    (c3 .size-pass .ensures p xs h) (c .before .before .if2 .left) (c .before .name-pass .result) (c .before .name-pass .ensures p xs h)
-    (c12 .args .n) (h .placed .count) (c .if3 .left)
+    let c9 = c5 .before .before .before .before in
+    λ P xs h. all-good P xs (c5 .value-pass .result) (c5 .value-pass .ensures P xs h) (c4 .if1 .left) (c3 .size-pass .result) (c3 .size-pass .ensures P xs h)
+    (c .before .before .if2 .left) (c .before .name-pass .result) (c .before .name-pass .ensures P xs h) (c9 .args .n) (h .count) (c .if3 .left)
 
 pub rule-nodes-spec : {M : Type 1} → statement M
 rule-nodes-spec =

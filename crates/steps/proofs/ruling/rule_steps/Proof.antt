@@ -1,7 +1,7 @@
-use denote.Ref.{now}
-use native.Mathlib.Omega.{arith}
 use Rattle.steps.specs.Causes.Good.{where-good}
-use Rattle.steps.specs.Causes.Code.{list-broken, list-unknown, list-few, list-nodes, list-some, list-read}
+use Rattle.steps.specs.Causes.Code.{list-broken, list-unknown, list-read, list-in, list-nodes}
+use native.Mathlib.Omega.{arith}
+use denote.Ref.{now}
 use borrow.Author.Needs.{needs}
 use Rattle.steps.proofs.ruling.rule_steps.Statement.{statement}
 use Rattle.steps.proofs.ruling.rule_steps.Tie as tie
@@ -15,17 +15,16 @@ enum-known-n c = search needs
 rule-nodes-requires : tie.Need-rule-nodes-requires
 rule-nodes-requires c κs =
     let c6 = c .before .before .before .before .before .before in
-    let c13 = c6 .before .before .before .before .before .before .before in
-    let c14 = c13 .before in
-    let g = c14 .pre .0 in
-    let told = c6 .read-steps .ensures .1 (g .0) (g .1) in
-    let few = list-few (g .0) (now (c14 .args .file)) (c6 .read-steps .last .1 .1 .1 .1 .1 .0) (c6 .read-steps .result) told
-    (c .before .before .n .given .1) (λ i. c13 .shared-slice-known .given i .fits) in (
-      list-some (g .1) (now (c14 .args .file)) (c6 .read-steps .last .1 .1 .1 .1 .1 .0) (c14 .pre .2) (c6 .read-steps .result) told
-          (c .before .before .n .given .1),
-      c14 .pre .1,
-      few,
-      omega (arith, few, c6 .read-steps .ensures .0, c14 .pre .3),
+    let c9 = c6 .before .before .before in
+    let c11 = c9 .before .before in
+    let (P, f) = c11 .pre .0 in
+    let told = c6 .read-steps .ensures P f in (
+      P,
+      list-read P (now (c11 .args .p)) (now (c11 .args .s)) (c6 .read-steps .last .1 .1 .0) (c6 .read-steps .result) told (c .before .before .n .given .1)
+          .items,
+      list-in P (now (c11 .args .p)) (now (c11 .args .s)) (c6 .read-steps .last .1 .1 .0) (c6 .read-steps .result) told
+          (c .before .before .n .given .1) f (λ k. c9 .shared-slice-known2 .given k .fits) (omega (arith, c6 .read-steps .kept .1 .1 .0, c11 .pre .2))
+          (c11 .pre .1),
     )
 
 enum-told : tie.Need-enum-told
@@ -41,18 +40,19 @@ returns : tie.Need-returns
 returns c =
     let c3 = c .before .before .before in
     let c7 = c3 .before .before .before .before in
-    let c14 = c7 .before .before .before .before .before .before .before in
-    let c15 = c14 .before in
-    let told = c7 .read-steps .ensures .1 in (
-      c7 .read-steps .ensures .0,
-      (
-        λ p i. list-nodes p (now (c15 .args .file)) (c7 .read-steps .last .1 .1 .1 .1 .1 .0) (c7 .read-steps .result) (told p i) (c3 .n .given .1)
-            (c .rule-nodes .result) (λ xs pl. c .rule-nodes .ensures p xs (record { index = i; placed = pl; short = c15 .pre .2 })),
-        λ p i.
-            let t = list-read p (now (c15 .args .file)) (c7 .read-steps .last .1 .1 .1 .1 .1 .0) (c7 .read-steps .result) (told p i) (c3 .n .given .1) in
-            where-good p (now (c15 .args .file)) (c7 .read-steps .last .1 .1 .1 .1 .1 .0) (λ k. c14 .shared-slice-known .given k .fits) _ _ t
-            (c .rule-nodes .result) (c .rule-nodes .ensures p (t .items) (record { index = i; placed = t .placed; short = c15 .pre .2 })),
-      ),
+    let c10 = c7 .before .before .before in
+    let c12 = c10 .before .before in (
+      λ P f. let told = c7 .read-steps .ensures P f in
+          list-nodes P (now (c12 .args .p)) (now (c12 .args .s)) (c7 .read-steps .last .1 .1 .0) (c7 .read-steps .result) told (c3 .n .given .1)
+          (c .rule-nodes .result) (c .rule-nodes .ensures P _ (list-in P (now (c12 .args .p)) (now (c12 .args .s)) (c7 .read-steps .last .1 .1 .0)
+          (c7 .read-steps .result) told (c3 .n .given .1) f (λ k. c10 .shared-slice-known2 .given k .fits)
+          (omega (arith, c7 .read-steps .kept .1 .1 .0, c12 .pre .2)) (c12 .pre .1))),
+      λ P f. let told = c7 .read-steps .ensures P f in
+          where-good P (now (c12 .args .p)) (now (c12 .args .s)) (c7 .read-steps .last .1 .1 .0) (λ k. c10 .shared-slice-known2 .given k .fits) _ _
+          (list-read P (now (c12 .args .p)) (now (c12 .args .s)) (c7 .read-steps .last .1 .1 .0) (c7 .read-steps .result) told (c3 .n .given .1))
+          (c .rule-nodes .result) (c .rule-nodes .ensures P _ (list-in P (now (c12 .args .p)) (now (c12 .args .s)) (c7 .read-steps .last .1 .1 .0)
+          (c7 .read-steps .result) told (c3 .n .given .1) f (λ k. c10 .shared-slice-known2 .given k .fits)
+          (omega (arith, c7 .read-steps .kept .1 .1 .0, c12 .pre .2)) (c12 .pre .1))),
     )
 
 same-length-2 : tie.Need-same-length-2
@@ -61,13 +61,10 @@ same-length-2 c = search needs
 returns-2 : tie.Need-returns-2
 returns-2 c =
     let c4 = c .before .before .before .before in
-    let c12 = c4 .before .before .before .before .before .before .before .before in (
-      c4 .read-steps .ensures .0,
-      (
-        λ p i. list-broken p (now (c12 .args .file)) (c4 .read-steps .last .1 .1 .1 .1 .1 .0) (c4 .read-steps .result) (c4 .read-steps .ensures .1 p i)
-            (c .enum-told .given .1),
-        λ p i. tt,
-      ),
+    let c9 = c4 .before .before .before .before .before in (
+      λ P f. list-broken P (now (c9 .args .p)) (now (c9 .args .s)) (c4 .read-steps .last .1 .1 .0) (c4 .read-steps .result) (c4 .read-steps .ensures P f)
+          (c .enum-told .given .1),
+      λ P f. tt,
     )
 
 same-length-3 : tie.Need-same-length-3
@@ -76,13 +73,10 @@ same-length-3 c = search needs
 returns-3 : tie.Need-returns-3
 returns-3 c =
     let c5 = c .before .before .before .before .before in
-    let c13 = c5 .before .before .before .before .before .before .before .before in (
-      c5 .read-steps .ensures .0,
-      (
-        λ p i. list-unknown p (now (c13 .args .file)) (c5 .read-steps .last .1 .1 .1 .1 .1 .0) (c5 .read-steps .result) (c5 .read-steps .ensures .1 p i)
-            (c .before .k .given .1),
-        λ p i. tt,
-      ),
+    let c10 = c5 .before .before .before .before .before in (
+      λ P f. list-unknown P (now (c10 .args .p)) (now (c10 .args .s)) (c5 .read-steps .last .1 .1 .0) (c5 .read-steps .result) (c5 .read-steps .ensures P f)
+          (c .before .k .given .1),
+      λ P f. tt,
     )
 
 pub rule-steps-spec : {M : Type 1} → statement M

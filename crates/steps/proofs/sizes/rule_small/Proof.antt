@@ -1,43 +1,48 @@
 use borrow.Author.Needs.{needs}
-use denote.Ref.{now}
-use native.Mathlib.Omega.{arith}
-use lib.ListN.{length, getD}
-use mathlib.Core.Path.{sym, _∙_}
-use mathlib.Core.List.{[]}
-use Prim.Native.Nat.{_-_, _≤_, _<_}
-use Rattle.lists.specs.Asks.{Promises}
-use Rattle.protocol.specs.Places.{At}
-use Rattle.protocol.specs.Protocol.{Rule, rule}
+use Rattle.steps.specs.Values.Parts.{AllLeft, all-start, all-more, all-bad, all-done, listSmall}
+use Rattle.steps.specs.Values.Filled.{RuleOf, of-listed, of-list, of-three}
 use Rattle.steps.specs.Values.Weights.{sizeIn}
-use Rattle.steps.specs.Values.Parts.{AllLeft, all-start, all-more, all-bad, all-done, listSmall, lists-many, list-there}
+use Rattle.prepared.specs.Prepared.{ListAt}
+use Rattle.protocol.specs.Protocol.{Rule, Protocol}
+use Rattle.protocol.specs.Figures.{listCount}
+use Rattle.lists.specs.Asks.{Promises₂}
+use Prim.Native.Nat.{_-_, _≤_, _<_}
+use mathlib.Core.List.{[]}
+use mathlib.Core.Path.{sym, _∙_, subst}
+use lib.ListN.{length, getD}
+use native.Mathlib.Omega.{arith}
+use denote.Ref.{now}
 use Rattle.steps.proofs.sizes.rule_small.Statement.{statement}
 use Rattle.steps.proofs.sizes.rule_small.Tie as tie
 
 abbrev Inv-loop : tie.InvT-loop
-Inv-loop file arities ars place sizes j₀ j =
-    (j ≤ 3) × Promises (At (rule file arities ars) place) (λ (u : Rule). AllLeft (listSmall (sizeIn sizes)) [] (u .lists) j)
+Inv-loop p number sizes j₀ j =
+    (j ≤ listCount) × Promises₂ (RuleOf p number) (λ (P : Protocol) (u : Rule). AllLeft (listSmall (sizeIn sizes)) [] (u .lists) j)
 
 abbrev μ-loop : tie.MeasureT-loop
-μ-loop file arities ars place sizes j₀ j =
-    3 - j
+μ-loop p number sizes j₀ j =
+    listCount - j
 
 loop-holds : tie.Need-loop-holds Inv-loop μ-loop
 loop-holds c =
-    (search needs, λ u h. all-start (listSmall (sizeIn (now (c .before .before .before .before .args .sizes)))) [] (u .lists))
+    (search needs, λ P u h. all-start (listSmall (sizeIn (now (c .before .before .args .sizes)))) [] (u .lists))
 
-list-at-requires : tie.Need-list-at-requires Inv-loop μ-loop
-list-at-requires c κs = search needs
+list-place-requires : tie.Need-list-place-requires Inv-loop μ-loop
+list-place-requires c κs =
+    let c4 = c .before .before .before .before in
+    (of-listed (c4 .pre .0 .2), c .loop-test .taken, c4 .pre .0 .2 .prepared .long)
 
 list-small-requires : tie.Need-list-small-requires Inv-loop μ-loop
 list-small-requires c κs =
-    let c7 = c .before .before .before .before .before .before .before in
-    let q = c7 .pre .0 in (
+    let c5 = c .before .before .before .before .before in
+    let q = c5 .pre .0 in (
       (
-        getD (q .0 .lists) (c .before .before .loop .j) [],
-        list-there _ _ _ _ (q .0) (q .1) _ _ (c .before .loop-test .taken) (c .list-at .ensures),
+        getD (q .1 .lists) (c .before .before .loop .j) [],
+        subst (ListAt (now (c5 .args .p)) (q .1) (c .before .before .loop .j)) (sym (c .list-place .ensures))
+            (of-list (q .2) (c .before .before .loop .j) (c .before .loop-test .taken)),
       ),
-      search needs,
-      c7 .pre .2,
+      q .2 .prepared .long,
+      c5 .pre .1,
     )
 
 add-j : tie.Need-add-j Inv-loop μ-loop
@@ -50,30 +55,30 @@ loop-again : tie.Need-loop-again Inv-loop μ-loop
 loop-again c =
     let c3 = c .before .before .before in
     let c4 = c3 .before in
-    let c9 = c4 .before .before .before .before .before in (
+    let c7 = c4 .before .before .before in (
       omega arith,
-      λ u h.
-          let l : c4 .loop .j < length (u .lists) = omega (arith, lists-many _ _ _ _ u h) in
-          all-more (listSmall (sizeIn (now (c9 .args .sizes)))) [] (u .lists) (c4 .loop .j) l
-          (sym (c .before .list-small .ensures _ (list-there _ _ _ _ u h _ _ (c3 .loop-test .taken) (c .before .before .list-at .ensures))) ∙ c .if1 .taken)
-          (c4 .loop .inv .1 u h),
+      λ P u h.
+          let l : c4 .loop .j < length (u .lists) = omega (arith, of-three h) in
+          all-more (listSmall (sizeIn (now (c7 .args .sizes)))) [] (u .lists) (c4 .loop .j) l
+          (sym (c .before .list-small .ensures _ (subst (ListAt (now (c7 .args .p)) u (c4 .loop .j)) (sym (c .before .before .list-place .ensures))
+          (of-list h (c4 .loop .j) (c3 .loop-test .taken)))) ∙ c .if1 .taken) (c4 .loop .inv .1 P u h),
     )
 
 returns : tie.Need-returns Inv-loop μ-loop
 returns c =
     let c3 = c .before .before .before in
     let c4 = c3 .before in
-    let c9 = c4 .before .before .before .before .before in
-    λ u h.
-    let l : c4 .loop .j < length (u .lists) = omega (arith, lists-many _ _ _ _ u h) in
-    all-bad (listSmall (sizeIn (now (c9 .args .sizes)))) [] (u .lists) (c4 .loop .j) l
-    (sym (c .before .list-small .ensures _ (list-there _ _ _ _ u h _ _ (c3 .loop-test .taken) (c .before .before .list-at .ensures))) ∙ c .if1 .left)
-    (c4 .loop .inv .1 u h)
+    let c7 = c4 .before .before .before in
+    λ P u h.
+    let l : c4 .loop .j < length (u .lists) = omega (arith, of-three h) in
+    all-bad (listSmall (sizeIn (now (c7 .args .sizes)))) [] (u .lists) (c4 .loop .j) l
+    (sym (c .before .list-small .ensures _ (subst (ListAt (now (c7 .args .p)) u (c4 .loop .j)) (sym (c .before .before .list-place .ensures))
+    (of-list h (c4 .loop .j) (c3 .loop-test .taken)))) ∙ c .if1 .left) (c4 .loop .inv .1 P u h)
 
 returns-2 : tie.Need-returns-2 Inv-loop μ-loop
 returns-2 c =
-    λ u h. all-done (listSmall (sizeIn (now (c .before .before .before .before .before .before .args .sizes)))) [] (u .lists) (c .before .loop .j)
-    (omega (arith, lists-many _ _ _ _ u h)) (c .before .loop .inv .1 u h)
+    λ P u h. all-done (listSmall (sizeIn (now (c .before .before .before .before .args .sizes)))) [] (u .lists) (c .before .loop .j)
+    (omega (arith, of-three h)) (c .before .loop .inv .1 P u h)
 
 pub rule-small-spec : {M : Type 1} → statement M
 rule-small-spec =
@@ -82,7 +87,7 @@ rule-small-spec =
     Inv-loop
     μ-loop
     loop-holds
-    list-at-requires
+    list-place-requires
     list-small-requires
     add-j
     loop-less

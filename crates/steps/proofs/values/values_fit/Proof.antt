@@ -1,48 +1,97 @@
 use borrow.Author.Needs.{needs}
-use native.Mathlib.Omega.{arith}
-use lib.ListN.{length}
-use mathlib.Core.Path.{ap, sym, _∙_, subst}
-use mathlib.Core.List.{List}
-use Prim.Native.Nat.{ℕ, _+_, _-_, _≤_, _<_}
-use Rattle.protocol.specs.Figures.{mostVariables}
-use Rattle.term.specs.Term.{Term}
-use Rattle.protocol.specs.Protocol.{Rule}
+use Rattle.steps.specs.Values.Loops.{value-there, Left, left-all, left-more, left-bad, left-none}
+use Rattle.steps.specs.Values.Code.{room-kept}
+use Rattle.steps.specs.Values.Parts.{noTerm}
 use Rattle.steps.specs.Values.Tests.{valueOk}
-use Rattle.steps.specs.Values.Loops.{RuleHere, Left, turn, left-all, left-bad, left-more, left-none, sort-here, count-here}
+use Rattle.steps.specs.Table.Laws.{node-variables, node-sort}
+use Rattle.steps.specs.Table.{tableLength, NodeIn}
+use Rattle.steps.specs.Nodes.{Node, mostNodes}
+use Rattle.prepared.specs.Prepared.Laws.{slots-length}
+use Rattle.protocol.specs.Protocol.{Protocol}
+use Rattle.protocol.specs.Figures.{mostVariables}
+use Prim.Native.Nat.{ℕ, _-_, _≤_, _<_}
+use mathlib.Core.Path.{_≡_, ap, sym, _∙_}
+use lib.ListN.{length, getD}
+use denote.Ref.{now}
+use native.Mathlib.Omega.{arith}
 use Rattle.steps.proofs.values.values_fit.Statement.{statement}
 use Rattle.steps.proofs.values.values_fit.Tie as tie
 
 abbrev Inv-loop : tie.InvT-loop
-Inv-loop file arities at src place k i₀ v₀ i v =
-    (v ≤ k) × ((u : Rule) (vs : List Term) (e : ℕ) (h : RuleHere arities file src place at u vs e) → Left h v i)
+Inv-loop out₀ p s nodes j place k first sizes v₀ out v =
+    (v ≤ k) × (length out ≡ length out₀) × (k ≤ mostVariables) × (j < mostNodes) × (length nodes ≡ tableLength) ×
+    ((P : Protocol) (x : Node) (h : NodeIn p s nodes j P x) → Left h v)
 
 abbrev μ-loop : tie.MeasureT-loop
-μ-loop file arities at src place k i₀ v₀ i v =
+μ-loop out₀ p s nodes j place k first sizes v₀ out v =
     k - v
+
+mul-first : tie.Need-mul-first Inv-loop μ-loop
+mul-first c = search needs
+
+add-first : tie.Need-add-first Inv-loop μ-loop
+add-first c = search needs
+
+mul-sizes : tie.Need-mul-sizes Inv-loop μ-loop
+mul-sizes c = search needs
+
+add-sizes : tie.Need-add-sizes Inv-loop μ-loop
+add-sizes c = search needs
 
 loop-holds : tie.Need-loop-holds Inv-loop μ-loop
 loop-holds c =
-    (search needs, λ u vs e h. left-all h)
+    let c4 = c .before .before .before .before in
+    let h = c4 .pre .1 .2 in
+    (search needs, search needs, omega (arith, node-variables h (c4 .args .place) (c4 .pre .2), h .row .few, c4 .pre .3), h .few, h .long, λ P x h. left-all h)
 
 cast-sort-of : tie.Need-cast-sort-of Inv-loop μ-loop
-cast-sort-of c =
-    let p = c .before .before .before .before .before .pre in
-    let b : c .before .loop .v < mostVariables = omega (arith, count-here (p .0 .3), p .0 .3 .few, p .1) in
-    search needs
+cast-sort-of c = search needs
 
 sort-of-requires : tie.Need-sort-of-requires Inv-loop μ-loop
 sort-of-requires c κs = search needs
 
+add-at : tie.Need-add-at Inv-loop μ-loop
+add-at c = search needs
+
+mul-at : tie.Need-mul-at Inv-loop μ-loop
+mul-at c = search needs
+
+shared-slice-read-at : tie.Need-shared-slice-read-at Inv-loop μ-loop
+shared-slice-read-at c = search needs
+
+add-end : tie.Need-add-end Inv-loop μ-loop
+add-end c = search needs
+
+add-end-2 : tie.Need-add-end-2 Inv-loop μ-loop
+add-end-2 c = search needs
+
+mul-end : tie.Need-mul-end Inv-loop μ-loop
+mul-end c = search needs
+
+shared-slice-read-end : tie.Need-shared-slice-read-end Inv-loop μ-loop
+shared-slice-read-end c = search needs
+
+slice-aggregate-value-ok : tie.Need-slice-aggregate-value-ok Inv-loop μ-loop
+slice-aggregate-value-ok c =
+    let c11 = c .before .before .before .before .before .before .before .before .before .before .before in
+    sym (slots-length (now (c11 .args .p)) (c11 .pre .1 .2 .prepared .body .long))
+
+add-value-ok : tie.Need-add-value-ok Inv-loop μ-loop
+add-value-ok c = search needs
+
+mul-value-ok : tie.Need-mul-value-ok Inv-loop μ-loop
+mul-value-ok c = search needs
+
+shared-slice-read-value-ok : tie.Need-shared-slice-read-value-ok Inv-loop μ-loop
+shared-slice-read-value-ok c = search needs
+
 value-ok-requires : tie.Need-value-ok-requires Inv-loop μ-loop
 value-ok-requires c κs =
-    let p = c .before .before .before .before .before .before .pre in
-    let l : c .before .before .loop .v < length (p .0 .0 .sorts) = omega (arith, count-here (p .0 .3), p .1) in
-    let x = turn (p .0 .3) _ _ l (c .before .before .loop .inv .1 _ _ _ (p .0 .3)) in
-    (x .value, x .next, x .is)
-
-value-end-requires : tie.Need-value-end-requires Inv-loop μ-loop
-value-end-requires c κs =
-    c .before .before .before .before .before .before .before .before .pre .0 .3 .short
+    let c7 = c .before .before .before .before .before .before .before in
+    let c12 = c7 .before .before .before .before .before in
+    let (P, x, h) = c12 .pre .1 in
+    let l : c7 .loop .v < length (x .values) = omega (arith, node-variables h (c12 .args .place) (c12 .pre .2), c12 .pre .3) in
+    (room-kept (c12 .pre .0) (c7 .loop .inv .1), (getD (x .values) (c7 .loop .v) noTerm, value-there h (c12 .pre .4) (c7 .loop .v) l))
 
 add-v : tie.Need-add-v Inv-loop μ-loop
 add-v c = search needs
@@ -53,30 +102,43 @@ loop-less c = search needs
 loop-again : tie.Need-loop-again Inv-loop μ-loop
 loop-again c =
     let c3 = c .before .before .before in
-    let c5 = c3 .before .before in
-    let c9 = c5 .before .before .before .before in (
+    let c9 = c3 .before .before .before .before .before .before in
+    let c11 = c9 .before .before in
+    let c16 = c11 .before .before .before .before .before in (
       omega arith,
-      λ u vs e h.
-          let l : c5 .loop .v < length (u .sorts) = omega (arith, count-here h, c9 .pre .1) in
-          let x = turn h _ _ l (c5 .loop .inv .1 u vs e h) in
-          subst (λ (j : ℕ). Left h (c5 .loop .v + 1) j) (sym (c .value-end .ensures))
-          (left-more h _ _ x (ap (λ (j : ℕ). valueOk j (x .value)) (sym (c3 .sort-of .ensures ∙ sort-here h _ l)) ∙ sym
-          (c .before .before .value-ok .ensures (x .value) (x .next) (x .is)) ∙ c .before .if1 .taken)),
+      omega (arith, c3 .value-ok .kept, c11 .loop .inv .1),
+      c11 .loop .inv .2,
+      c11 .loop .inv .3,
+      c11 .loop .inv .4,
+      λ P x h.
+          let l : c11 .loop .v < length (x .values) = omega (arith, node-variables h (c16 .args .place) (c16 .pre .2), c16 .pre .3) in
+          left-more h (c11 .loop .v) l (c11 .loop .inv .5 P x h) (ap (λ (i : ℕ). valueOk i (getD (x .values) (c11 .loop .v) noTerm))
+          (sym (c9 .sort-of .ensures ∙ node-sort h (c16 .args .place) (c16 .pre .2) (c11 .loop .v) l)) ∙ sym
+          (c3 .value-ok .ensures _ (value-there h (c16 .pre .4) (c11 .loop .v) l)) ∙ c .if1 .taken),
     )
+
+same-length : tie.Need-same-length Inv-loop μ-loop
+same-length c = search needs
 
 returns : tie.Need-returns Inv-loop μ-loop
 returns c =
-    let c4 = c .before .before .before .before in
-    let c8 = c4 .before .before .before .before in
-    λ u vs e h.
-    let l : c4 .loop .v < length (u .sorts) = omega (arith, count-here h, c8 .pre .1) in
-    let x = turn h _ _ l (c4 .loop .inv .1 u vs e h) in
-    left-bad h _ _ x (ap (λ (j : ℕ). valueOk j (x .value)) (sym (c .before .before .sort-of .ensures ∙ sort-here h _ l)) ∙ sym
-    (c .before .value-ok .ensures (x .value) (x .next) (x .is)) ∙ c .if1 .left)
+    let c3 = c .before .before .before in
+    let c9 = c3 .before .before .before .before .before .before in
+    let c11 = c9 .before .before in
+    let c16 = c11 .before .before .before .before .before in
+    λ P x h.
+    let l : c11 .loop .v < length (x .values) = omega (arith, node-variables h (c16 .args .place) (c16 .pre .2), c16 .pre .3) in
+    left-bad h (c11 .loop .v) l (c11 .loop .inv .5 P x h) (ap (λ (i : ℕ). valueOk i (getD (x .values) (c11 .loop .v) noTerm))
+    (sym (c9 .sort-of .ensures ∙ node-sort h (c16 .args .place) (c16 .pre .2) (c11 .loop .v) l)) ∙ sym
+    (c3 .value-ok .ensures _ (value-there h (c16 .pre .4) (c11 .loop .v) l)) ∙ c .if1 .left)
+
+same-length-2 : tie.Need-same-length-2 Inv-loop μ-loop
+same-length-2 c = search needs
 
 returns-2 : tie.Need-returns-2 Inv-loop μ-loop
 returns-2 c =
-    λ u vs e h. left-none h _ _ (omega (arith, count-here h, c .before .before .before .before .before .pre .1)) (c .before .loop .inv .1 u vs e h)
+    let c6 = c .before .before .before .before .before .before in
+    λ P x h. left-none h (c .before .loop .v) (omega (arith, node-variables h (c6 .args .place) (c6 .pre .2), c6 .pre .3)) (c .before .loop .inv .5 P x h)
 
 pub values-fit-spec : {M : Type 1} → statement M
 values-fit-spec =
@@ -84,13 +146,29 @@ values-fit-spec =
     (tie.spec
     Inv-loop
     μ-loop
+    mul-first
+    add-first
+    mul-sizes
+    add-sizes
     loop-holds
     cast-sort-of
     sort-of-requires
+    add-at
+    mul-at
+    shared-slice-read-at
+    add-end
+    add-end-2
+    mul-end
+    shared-slice-read-end
+    slice-aggregate-value-ok
+    add-value-ok
+    mul-value-ok
+    shared-slice-read-value-ok
     value-ok-requires
-    value-end-requires
     add-v
     loop-less
     loop-again
+    same-length
     returns
+    same-length-2
     returns-2)

@@ -1,0 +1,526 @@
+use borrow.Author.Needs.{needs}
+use Rattle.factors.proofs.CollectPaths.{on-gone, turn-asks, turn-gone, leaf-gone, factor-gone, Walk}
+use Rattle.factors.proofs.CollectPaths.{walk-first, walk-done, term-asks, walk-more, walk-next}
+use Rattle.factors.proofs.EnterPaths.{one-asks, one-entered, leaf-end, leaf-key, leaf-within}
+use lib.ListN.{length}
+use mathlib.Core.Path.{refl, sym, _∙_}
+use native.Mathlib.Omega.{arith}
+use Prim.Native.Nat.{_-_, _+_, _*_, ℕ, _<_}
+use Prim.Native.Nat.{ℕ, _<_}
+use borrow.Fn.Kinds.{In}
+use borrow.Fn.PlainCycle.{Measures, is, falls, and}
+use Rattle.factors.proofs.collect.Reads as collect
+use Rattle.factors.proofs.collect.Kinds as collect-kinds
+use Rattle.factors.proofs.+collect+one_term.Lts-collect as collect-lts
+use Rattle.factors.proofs.one_term.Reads as one-term
+use Rattle.factors.proofs.one_term.Kinds as one-term-kinds
+use Rattle.factors.proofs.+collect+one_term.Lts-one_term as one-term-lts
+use Rattle.factors.proofs.enter.Reads as enter-reads
+use Rattle.factors.proofs.enter_at.Reads as enter-at-reads
+use Rattle.factors.proofs.way_at.Reads as way-at-reads
+use Rattle.factors.proofs.+collect+one_term.{statement}
+use Rattle.factors.proofs.+collect+one_term.Tie.{close}
+
+abbrev μ-collect : Measures 4 collect-kinds.ps ℕ
+μ-collect κs a =
+    2 * (length (a .1 .1 .1 .0 .now) - a .1 .1 .1 .1 .0) + 1
+
+abbrev μ-one-term : Measures 4 one-term-kinds.ps ℕ
+μ-one-term κs a =
+    2 * (length (a .1 .1 .1 .0 .now) - a .1 .1 .1 .1 .0)
+
+abbrev collect-at : ℕ → In 4 collect-kinds.ps
+collect-at t = and 4 collect-kinds.ps (is 4 collect-kinds.ps μ-collect t) collect.Pre
+
+abbrev collect-below : ℕ → In 4 collect-kinds.ps
+collect-below t = and 4 collect-kinds.ps (falls 4 collect-kinds.ps _<_ μ-collect t) collect.Pre
+
+abbrev one-term-at : ℕ → In 4 one-term-kinds.ps
+one-term-at t = and 4 one-term-kinds.ps (is 4 one-term-kinds.ps μ-one-term t) one-term.Pre
+
+abbrev one-term-below : ℕ → In 4 one-term-kinds.ps
+one-term-below t =
+    and 4 one-term-kinds.ps (falls 4 one-term-kinds.ps _<_ μ-one-term t) one-term.Pre
+
+abbrev collect-Inv-loop : collect-lts.InvT-loop
+collect-Inv-loop spans₀ powers₀ n src at k arities minus i₀ m₀ left₀ spans powers i m left =
+    Walk arities src spans₀ powers₀ n at k minus spans powers m i left
+
+abbrev collect-μ-loop : collect-lts.MeasureT-loop
+collect-μ-loop spans₀ powers₀ n src at k arities minus i₀ m₀ left₀ spans powers i m left =
+    length src - i
+
+collect-loop-holds :
+    (t : ℕ) →
+    collect-lts.Need-loop-holds
+    (one-term-below t, one-term.Post)
+    (collect-at t)
+    collect.Post
+    collect-Inv-loop
+    collect-μ-loop
+collect-loop-holds t c =
+    let r = c .before .before .before .args in walk-first (r .arities .now) (r .src .now) (r .spans .now) (r .powers .now) (r .n) (r .at) (r .k) (r .minus)
+
+collect-one-term-requires : (t : ℕ) → collect-lts.Need-one-term-requires (
+  one-term-below t,
+  one-term.Post,
+) (collect-at t) collect.Post collect-Inv-loop collect-μ-loop
+collect-one-term-requires t c κs =
+    let c3 = c .before .before .before in
+    let c7 = c3 .before .before .before .before in
+    let r = c7 .args in term-asks (r .arities .now) (r .src .now) (r .spans .now) (r .powers .now) (r .n) (r .at) (r .k) (r .minus) _ _ _ _ _
+    (c3 .loop .inv) (c .before .before .loop-test .taken) t (c7 .pre .0) (c7 .pre .1)
+
+collect-sub-left :
+    (t : ℕ) →
+    collect-lts.Need-sub-left
+    (one-term-below t, one-term.Post)
+    (collect-at t)
+    collect.Post
+    collect-Inv-loop
+    collect-μ-loop
+collect-sub-left t c = search needs
+
+collect-add-left :
+    (t : ℕ) →
+    collect-lts.Need-add-left
+    (one-term-below t, one-term.Post)
+    (collect-at t)
+    collect.Post
+    collect-Inv-loop
+    collect-μ-loop
+collect-add-left t c =
+    let c4 = c .before .before .before .before in
+    let c7 = c4 .before .before .before in
+    let c8 = c7 .before in
+    let c12 = c8 .before .before .before .before in
+    let r = c12 .args in let w = walk-more (r .arities .now) (r .src .now) (r .spans .now) (r .powers .now) (r .n) (r .at) (r .k) (r .minus) _ _ _ _ _
+    (c8 .loop .inv) (c7 .loop-test .taken) _ _ _ (c4 .one-term .kept .0) (c4 .one-term .kept .1 .0) (c4 .one-term .ensures) (c12 .pre .1) in omega arith
+
+collect-loop-less :
+    (t : ℕ) →
+    collect-lts.Need-loop-less
+    (one-term-below t, one-term.Post)
+    (collect-at t)
+    collect.Post
+    collect-Inv-loop
+    collect-μ-loop
+collect-loop-less t c =
+    let c4 = c .before .before .before .before in
+    let c7 = c4 .before .before .before in
+    let c8 = c7 .before in
+    let c12 = c8 .before .before .before .before in
+    let r = c12 .args in let w = walk-more (r .arities .now) (r .src .now) (r .spans .now) (r .powers .now) (r .n) (r .at) (r .k) (r .minus) _ _ _ _ _
+    (c8 .loop .inv) (c7 .loop-test .taken) _ _ _ (c4 .one-term .kept .0) (c4 .one-term .kept .1 .0) (c4 .one-term .ensures) (c12 .pre .1) in omega arith
+
+collect-loop-again :
+    (t : ℕ) →
+    collect-lts.Need-loop-again
+    (one-term-below t, one-term.Post)
+    (collect-at t)
+    collect.Post
+    collect-Inv-loop
+    collect-μ-loop
+collect-loop-again t c =
+    let c4 = c .before .before .before .before in
+    let c7 = c4 .before .before .before in
+    let c8 = c7 .before in
+    let c12 = c8 .before .before .before .before in
+    let r = c12 .args in let w = walk-more (r .arities .now) (r .src .now) (r .spans .now) (r .powers .now) (r .n) (r .at) (r .k) (r .minus) _ _ _ _ _
+    (c8 .loop .inv) (c7 .loop-test .taken) _ _ _ (c4 .one-term .kept .0) (c4 .one-term .kept .1 .0) (c4 .one-term .ensures) (c12 .pre .1) in
+    walk-next (r .arities .now) (r .src .now) (r .spans .now) (r .powers .now) (r .n) (r .at) (r .k) (r .minus) _ _ _ _ _
+    (c8 .loop .inv) (c7 .loop-test .taken) _ _ _ (c4 .one-term .kept .0) (c4 .one-term .kept .1 .0) (c4 .one-term .ensures) (w .1)
+
+collect-same-length :
+    (t : ℕ) →
+    collect-lts.Need-same-length
+    (one-term-below t, one-term.Post)
+    (collect-at t)
+    collect.Post
+    collect-Inv-loop
+    collect-μ-loop
+collect-same-length t c =
+    c .before .loop .inv .spans
+
+collect-same-length-2 :
+    (t : ℕ) →
+    collect-lts.Need-same-length-2
+    (one-term-below t, one-term.Post)
+    (collect-at t)
+    collect.Post
+    collect-Inv-loop
+    collect-μ-loop
+collect-same-length-2 t c =
+    c .before .loop .inv .powers
+
+collect-returns :
+    (t : ℕ) →
+    collect-lts.Need-returns
+    (one-term-below t, one-term.Post)
+    (collect-at t)
+    collect.Post
+    collect-Inv-loop
+    collect-μ-loop
+collect-returns t c =
+    let r = c .before .before .before .before .before .args in walk-done (r .arities .now) (r .src .now) (r .spans .now) (r .powers .now) (r .n) (r .at) (r .k)
+    (r .minus) _ _ _ _ _
+    (c .before .loop .inv) (c .loop-test .left) _ refl refl
+
+one-term-way-at-requires : (t : ℕ) → one-term-lts.Need-way-at-requires (
+  way-at-reads.Asked,
+  way-at-reads.Learnt,
+  collect-below t,
+  collect.Post,
+  enter-reads.Asked,
+  enter-reads.Learnt,
+  enter-at-reads.Asked,
+  enter-at-reads.Learnt,
+) (one-term-at t) one-term.Post
+one-term-way-at-requires t c κs = search needs
+
+one-term-enum-known-c : (t : ℕ) → one-term-lts.Need-enum-known-c (
+  way-at-reads.Asked,
+  way-at-reads.Learnt,
+  collect-below t,
+  collect.Post,
+  enter-reads.Asked,
+  enter-reads.Learnt,
+  enter-at-reads.Asked,
+  enter-at-reads.Learnt,
+) (one-term-at t) one-term.Post
+one-term-enum-known-c t c = search needs
+
+one-term-enum-known-c-2 : (t : ℕ) → one-term-lts.Need-enum-known-c-2 (
+  way-at-reads.Asked,
+  way-at-reads.Learnt,
+  collect-below t,
+  collect.Post,
+  enter-reads.Asked,
+  enter-reads.Learnt,
+  enter-at-reads.Asked,
+  enter-at-reads.Learnt,
+) (one-term-at t) one-term.Post
+one-term-enum-known-c-2 t c = search needs
+
+one-term-collect-requires : (t : ℕ) → one-term-lts.Need-collect-requires (
+  way-at-reads.Asked,
+  way-at-reads.Learnt,
+  collect-below t,
+  collect.Post,
+  enter-reads.Asked,
+  enter-reads.Learnt,
+  enter-at-reads.Asked,
+  enter-at-reads.Learnt,
+) (one-term-at t) one-term.Post
+one-term-collect-requires t c κs =
+    let c3 = c .before .before .before in
+    let c5 = c3 .before .before in
+    let c9 = c5 .before .before .before .before in
+    let r = c9 .args in turn-asks (r .arities .now) (r .src .now) (r .spans .now) (r .powers .now) (r .n) (r .at) (r .minus)
+    (c3 .c2 .given .0 .0) (c3 .c2 .given .0 .1 .0) (sym (c5 .way-at .ensures) ∙ c3 .c2 .given .1) t (c9 .pre .0) (c9 .pre .1)
+
+one-term-enum-known-e : (t : ℕ) → one-term-lts.Need-enum-known-e (
+  way-at-reads.Asked,
+  way-at-reads.Learnt,
+  collect-below t,
+  collect.Post,
+  enter-reads.Asked,
+  enter-reads.Learnt,
+  enter-at-reads.Asked,
+  enter-at-reads.Learnt,
+) (one-term-at t) one-term.Post
+one-term-enum-known-e t c = search needs
+
+one-term-sub-enter : (t : ℕ) → one-term-lts.Need-sub-enter (
+  way-at-reads.Asked,
+  way-at-reads.Learnt,
+  collect-below t,
+  collect.Post,
+  enter-reads.Asked,
+  enter-reads.Learnt,
+  enter-at-reads.Asked,
+  enter-at-reads.Learnt,
+) (one-term-at t) one-term.Post
+one-term-sub-enter t c =
+    let c3 = c .before .before .before in
+    let c5 = c3 .before .before in
+    let c9 = c5 .before .before .before .before in
+    let r = c9 .args in let w = leaf-within (r .arities .now) (r .src .now) (r .spans .now) (r .powers .now) (r .n) (r .at)
+    (c3 .e .given .0 .0) (sym (c5 .way-at .ensures) ∙ c3 .e .given .1) (c9 .pre .1) in omega arith
+
+one-term-part-enter-start : (t : ℕ) → one-term-lts.Need-part-enter-start (
+  way-at-reads.Asked,
+  way-at-reads.Learnt,
+  collect-below t,
+  collect.Post,
+  enter-reads.Asked,
+  enter-reads.Learnt,
+  enter-at-reads.Asked,
+  enter-at-reads.Learnt,
+) (one-term-at t) one-term.Post
+one-term-part-enter-start t c =
+    let c3 = c .before .before .before in
+    let c5 = c3 .before .before in
+    let c9 = c5 .before .before .before .before in
+    let r = c9 .args in let w = leaf-within (r .arities .now) (r .src .now) (r .spans .now) (r .powers .now) (r .n) (r .at)
+    (c3 .e .given .0 .0) (sym (c5 .way-at .ensures) ∙ c3 .e .given .1) (c9 .pre .1) in omega arith
+
+one-term-part-enter-end : (t : ℕ) → one-term-lts.Need-part-enter-end (
+  way-at-reads.Asked,
+  way-at-reads.Learnt,
+  collect-below t,
+  collect.Post,
+  enter-reads.Asked,
+  enter-reads.Learnt,
+  enter-at-reads.Asked,
+  enter-at-reads.Learnt,
+) (one-term-at t) one-term.Post
+one-term-part-enter-end t c =
+    let c3 = c .before .before .before in
+    let c5 = c3 .before .before in
+    let c9 = c5 .before .before .before .before in
+    let r = c9 .args in let w = leaf-within (r .arities .now) (r .src .now) (r .spans .now) (r .powers .now) (r .n) (r .at)
+    (c3 .e .given .0 .0) (sym (c5 .way-at .ensures) ∙ c3 .e .given .1) (c9 .pre .1) in omega arith
+
+one-term-enter-requires : (t : ℕ) → one-term-lts.Need-enter-requires (
+  way-at-reads.Asked,
+  way-at-reads.Learnt,
+  collect-below t,
+  collect.Post,
+  enter-reads.Asked,
+  enter-reads.Learnt,
+  enter-at-reads.Asked,
+  enter-at-reads.Learnt,
+) (one-term-at t) one-term.Post
+one-term-enter-requires t c κs =
+    let c4 = c .before .before .before .before in
+    let c6 = c4 .before .before in
+    let c10 = c6 .before .before .before .before in
+    let r = c10 .args in one-asks (r .arities .now) (r .src .now) (r .spans .now) (r .powers .now) (r .n) (r .at) _
+    (leaf-key (r .arities .now) (r .src .now) (r .spans .now) (r .powers .now) (r .n) (r .at) (c4 .e .given .0 .0)
+    (sym (c6 .way-at .ensures) ∙ c4 .e .given .1)) (c10 .pre .1)
+
+one-term-enum-told : (t : ℕ) → one-term-lts.Need-enum-told (
+  way-at-reads.Asked,
+  way-at-reads.Learnt,
+  collect-below t,
+  collect.Post,
+  enter-reads.Asked,
+  enter-reads.Learnt,
+  enter-at-reads.Asked,
+  enter-at-reads.Learnt,
+) (one-term-at t) one-term.Post
+one-term-enum-told t c = search needs
+
+one-term-enter-at-requires : (t : ℕ) → one-term-lts.Need-enter-at-requires (
+  way-at-reads.Asked,
+  way-at-reads.Learnt,
+  collect-below t,
+  collect.Post,
+  enter-reads.Asked,
+  enter-reads.Learnt,
+  enter-at-reads.Asked,
+  enter-at-reads.Learnt,
+) (one-term-at t) one-term.Post
+one-term-enter-at-requires t c κs =
+    c .before .before .before .before .before .before .before .before .pre .1
+
+one-term-returns : (t : ℕ) → one-term-lts.Need-returns (
+  way-at-reads.Asked,
+  way-at-reads.Learnt,
+  collect-below t,
+  collect.Post,
+  enter-reads.Asked,
+  enter-reads.Learnt,
+  enter-at-reads.Asked,
+  enter-at-reads.Learnt,
+) (one-term-at t) one-term.Post
+one-term-returns t c =
+    let c3 = c .before .before .before in
+    let c7 = c3 .before .before .before .before in
+    let r = c7 .args in on-gone (r .arities .now) (r .src .now) (r .spans .now) (r .powers .now) (r .n) (r .at) (r .minus)
+    (c .before .c .given .0 .0) (c .before .c .given .0 .1 .0) (sym (c3 .way-at .ensures) ∙ c .before .c .given .1) _ refl refl refl
+
+one-term-same-length : (t : ℕ) → one-term-lts.Need-same-length (
+  way-at-reads.Asked,
+  way-at-reads.Learnt,
+  collect-below t,
+  collect.Post,
+  enter-reads.Asked,
+  enter-reads.Learnt,
+  enter-at-reads.Asked,
+  enter-at-reads.Learnt,
+) (one-term-at t) one-term.Post
+one-term-same-length t c = search needs
+
+one-term-same-length-2 : (t : ℕ) → one-term-lts.Need-same-length-2 (
+  way-at-reads.Asked,
+  way-at-reads.Learnt,
+  collect-below t,
+  collect.Post,
+  enter-reads.Asked,
+  enter-reads.Learnt,
+  enter-at-reads.Asked,
+  enter-at-reads.Learnt,
+) (one-term-at t) one-term.Post
+one-term-same-length-2 t c = search needs
+
+one-term-returns-2 : (t : ℕ) → one-term-lts.Need-returns-2 (
+  way-at-reads.Asked,
+  way-at-reads.Learnt,
+  collect-below t,
+  collect.Post,
+  enter-reads.Asked,
+  enter-reads.Learnt,
+  enter-at-reads.Asked,
+  enter-at-reads.Learnt,
+) (one-term-at t) one-term.Post
+one-term-returns-2 t c =
+    let c3 = c .before .before .before in
+    let c7 = c3 .before .before .before .before in
+    let c9 = c7 .before .before in
+    let c13 = c9 .before .before .before .before in
+    let r = c13 .args in turn-gone (r .arities .now) (r .src .now) (r .spans .now) (r .powers .now) (r .n) (r .at) (r .minus)
+    (c7 .c2 .given .0 .0) (c7 .c2 .given .0 .1 .0) (sym (c9 .way-at .ensures) ∙ c7 .c2 .given .1) _ _ _ (c3 .collect .ensures) _ refl refl refl
+
+one-term-same-length-3 : (t : ℕ) → one-term-lts.Need-same-length-3 (
+  way-at-reads.Asked,
+  way-at-reads.Learnt,
+  collect-below t,
+  collect.Post,
+  enter-reads.Asked,
+  enter-reads.Learnt,
+  enter-at-reads.Asked,
+  enter-at-reads.Learnt,
+) (one-term-at t) one-term.Post
+one-term-same-length-3 t c = search needs
+
+one-term-same-length-4 : (t : ℕ) → one-term-lts.Need-same-length-4 (
+  way-at-reads.Asked,
+  way-at-reads.Learnt,
+  collect-below t,
+  collect.Post,
+  enter-reads.Asked,
+  enter-reads.Learnt,
+  enter-at-reads.Asked,
+  enter-at-reads.Learnt,
+) (one-term-at t) one-term.Post
+one-term-same-length-4 t c = search needs
+
+one-term-returns-3 : (t : ℕ) → one-term-lts.Need-returns-3 (
+  way-at-reads.Asked,
+  way-at-reads.Learnt,
+  collect-below t,
+  collect.Post,
+  enter-reads.Asked,
+  enter-reads.Learnt,
+  enter-at-reads.Asked,
+  enter-at-reads.Learnt,
+) (one-term-at t) one-term.Post
+one-term-returns-3 t c =
+    let c3 = c .before .before .before in
+    let c8 = c3 .before .before .before .before .before in
+    let c10 = c8 .before .before in
+    let c14 = c10 .before .before .before .before in
+    let r = c14 .args in leaf-gone (r .arities .now) (r .src .now) (r .spans .now) (r .powers .now) (r .n) (r .at) (r .minus) _ _ _
+    (one-entered (r .arities .now) (r .src .now) (r .spans .now) (r .powers .now) (r .n) (r .at) _
+    (leaf-key (r .arities .now) (r .src .now) (r .spans .now) (r .powers .now) (r .n) (r .at) (c8 .e .given .0 .0)
+    (sym (c10 .way-at .ensures) ∙ c8 .e .given .1))
+    (r .minus) _ _ _ (c3 .enter .ensures) _
+    (leaf-end (r .arities .now) (r .src .now) (r .spans .now) (r .powers .now) (r .n) (r .at) (c8 .e .given .0 .0)
+    (sym (c10 .way-at .ensures) ∙ c8 .e .given .1))
+    refl refl) (c8 .e .given .0 .0) (sym (c10 .way-at .ensures) ∙ c8 .e .given .1)
+
+one-term-same-length-5 : (t : ℕ) → one-term-lts.Need-same-length-5 (
+  way-at-reads.Asked,
+  way-at-reads.Learnt,
+  collect-below t,
+  collect.Post,
+  enter-reads.Asked,
+  enter-reads.Learnt,
+  enter-at-reads.Asked,
+  enter-at-reads.Learnt,
+) (one-term-at t) one-term.Post
+one-term-same-length-5 t c = search needs
+
+one-term-same-length-6 : (t : ℕ) → one-term-lts.Need-same-length-6 (
+  way-at-reads.Asked,
+  way-at-reads.Learnt,
+  collect-below t,
+  collect.Post,
+  enter-reads.Asked,
+  enter-reads.Learnt,
+  enter-at-reads.Asked,
+  enter-at-reads.Learnt,
+) (one-term-at t) one-term.Post
+one-term-same-length-6 t c = search needs
+
+one-term-returns-4 : (t : ℕ) → one-term-lts.Need-returns-4 (
+  way-at-reads.Asked,
+  way-at-reads.Learnt,
+  collect-below t,
+  collect.Post,
+  enter-reads.Asked,
+  enter-reads.Learnt,
+  enter-at-reads.Asked,
+  enter-at-reads.Learnt,
+) (one-term-at t) one-term.Post
+one-term-returns-4 t c =
+    let c3 = c .before .before .before in
+    let c6 = c3 .before .before .before in
+    let c8 = c6 .before .before in
+    let c12 = c8 .before .before .before .before in
+    let r = c12 .args in factor-gone (r .arities .now) (r .src .now) (r .spans .now) (r .powers .now) (r .n) (r .at) (r .minus) _ _ _
+    (c3 .enter-at .ensures) (sym (c8 .way-at .ensures) ∙ c6 .enum-told .given .1)
+
+pub +collect+one-term-spec : {M : Type 1} → statement M
++collect+one-term-spec = close μ-collect μ-one-term (λ t. collect-lts.spec (
+  one-term-below t,
+  one-term.Post,
+)
+    (collect-at t)
+    collect.Post
+    collect-Inv-loop
+    collect-μ-loop
+    (collect-loop-holds t)
+    (collect-one-term-requires t)
+    (collect-sub-left t)
+    (collect-add-left t)
+    (collect-loop-less t)
+    (collect-loop-again t)
+    (collect-same-length t)
+    (collect-same-length-2 t)
+    (collect-returns t))
+    λ t. one-term-lts.spec (
+      way-at-reads.Asked,
+      way-at-reads.Learnt,
+      collect-below t,
+      collect.Post,
+      enter-reads.Asked,
+      enter-reads.Learnt,
+      enter-at-reads.Asked,
+      enter-at-reads.Learnt,
+    )
+    (one-term-at t)
+    one-term.Post
+    (one-term-way-at-requires t)
+    (one-term-enum-known-c t)
+    (one-term-enum-known-c-2 t)
+    (one-term-collect-requires t)
+    (one-term-enum-known-e t)
+    (one-term-sub-enter t)
+    (one-term-part-enter-start t)
+    (one-term-part-enter-end t)
+    (one-term-enter-requires t)
+    (one-term-enum-told t)
+    (one-term-enter-at-requires t)
+    (one-term-returns t)
+    (one-term-same-length t)
+    (one-term-same-length-2 t)
+    (one-term-returns-2 t)
+    (one-term-same-length-3 t)
+    (one-term-same-length-4 t)
+    (one-term-returns-3 t)
+    (one-term-same-length-5 t)
+    (one-term-same-length-6 t)
+    (one-term-returns-4 t)

@@ -1,0 +1,80 @@
+-- What a row says: its node's rule stands in the prepared protocol, its values at their places.
+use Prim.Native.Nat.{ℕ, _+_, _*_, _<_}
+use mathlib.Core.List.{List}
+use mathlib.Core.Option.{some}
+use mathlib.Core.Path.{_≡_, ap, sym, _∙_}
+use native.Mathlib.Omega.{arith}
+use lib.ListN.{length, getD}
+use Rattle.lists.specs.All.Laws.{all-inside}
+use Rattle.number.specs.Reading.{got, below}
+use Rattle.term.specs.Reader.{term}
+use Rattle.protocol.specs.Figures.{variableLimit, listCount}
+use Rattle.protocol.specs.Protocol.{Rule, Protocol}
+use Rattle.protocol.specs.Places.{valueOf, sortOf}
+use Rattle.protocol.specs.Places.Laws.{rule-layout, sort-law, variables-law}
+use Rattle.rules.specs.Numbered.{ruleOf}
+use Rattle.prepared.specs.Sections.{ruleCount}
+use Rattle.prepared.specs.Prepared.{slotsOf, aritiesOf, placeAt, RuleAt, listEntry, ListAt}
+use Rattle.prepared.specs.Finding.{rule-listed, rule-at}
+use Rattle.steps.specs.Nodes.{Node, noNode, NodeWithin}
+use Rattle.steps.specs.Values.Parts.{noTerm}
+use Rattle.steps.specs.Table.{rowAt, Row, NodeIn, NodesIn}
+
+-- ── one of the nodes ──
+pub node-in :
+    {p s nodes : List ℕ} {n : ℕ} {P : Protocol} {xs : List Node} → NodesIn p s nodes n P xs → (j : ℕ) → j < n
+    → NodeIn p s nodes j P (getD xs j noNode)
+node-in {P = P} {xs} h j l = record {
+  prepared = h .prepared;
+  within = all-inside (NodeWithin P) noNode xs (h .within) j (omega (arith, h .count));
+  row = h .rows j l;
+  few = omega (arith, h .few);
+  long = h .long;
+  short = h .short;
+}
+
+-- ── a row stays where nothing before the next is written ──
+pub row-kept :
+    (p s nodes nodes′ : List ℕ) (j k : ℕ) (x : Node) → j < k → ((i : ℕ) → i < rowAt k → getD nodes′ i 0 ≡ getD nodes i 0) → Row p s nodes j x
+    → Row p s nodes′ j x
+row-kept p s nodes nodes′ j k x l same r = record {
+  few = r .few;
+  rule = same (rowAt j) (omega arith) ∙ r .rule;
+  places = λ v h.
+      ap (term s (slotsOf p)) (same (35 * j + 1 + v) (omega (arith, r .few))) ∙ r .places v h
+      ∙ ap (got (getD (x .values) v noTerm)) (sym (same (35 * j + 1 + (v + 1)) (omega (arith, r .few))));
+  held = same (35 * j + 34) (omega arith) ∙ r .held;
+  sizes = λ v h. same (35 * j + 18 + v) (omega (arith, r .few)) ∙ r .sizes v h;
+}
+
+-- ── the node's rule ──
+module _ {p s nodes : List ℕ} {j : ℕ} {P : Protocol} {x : Node} (h : NodeIn p s nodes j P x) where
+  abbrev u : Rule
+  u = h .within .is
+
+  abbrev number : ℕ
+  number = getD nodes (rowAt j) 0
+
+  numbered : ruleOf P number ≡ some u
+  numbered = ap (ruleOf P) (h .row .rule) ∙ h .within .known
+
+  pub node-listed : number < ruleCount
+  node-listed = rule-listed P (h .prepared .body .within) number u numbered
+
+  pub node-rule : RuleAt p u (placeAt p number)
+  node-rule = rule-at p P (h .prepared .body) number u numbered
+
+  pub node-list : (list : ℕ) → list < listCount → ListAt p u list (listEntry p number list)
+  node-list list l = h .prepared .lists number list u node-listed l numbered
+
+  pub node-variables : (place : ℕ) → place ≡ placeAt p number → valueOf (below p variableLimit place) ≡ length (x .values)
+  node-variables place e =
+      ap (λ (i : ℕ). valueOf (below p variableLimit i)) e
+      ∙ variables-law p (slotsOf p) (aritiesOf p) (placeAt p number) u (rule-layout p (slotsOf p) (aritiesOf p) (placeAt p number) u node-rule)
+      ∙ sym (h .within .takes)
+
+  pub node-sort : (place : ℕ) → place ≡ placeAt p number → (v : ℕ) → v < length (x .values) → valueOf (sortOf p place v) ≡ getD (u .sorts) v 0
+  node-sort place e v l =
+      ap (λ (i : ℕ). valueOf (sortOf p i v)) e
+      ∙ sort-law p (slotsOf p) (aritiesOf p) (placeAt p number) u (rule-layout p (slotsOf p) (aritiesOf p) (placeAt p number) u node-rule) v
+      (omega (arith, h .within .takes))
