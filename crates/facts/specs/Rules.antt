@@ -17,8 +17,7 @@ use Rattle.prepared.specs.Prepared.{slotsOf, aritiesOf, listEntry}
 use Rattle.steps.specs.Nodes.{Node}
 use Rattle.steps.specs.Facts.{filledFact, filledList, factsOf}
 use Rattle.steps.specs.Table.{rowAt, NodeIn}
-use Rattle.steps.specs.Table.Laws.{node-list}
-use Rattle.steps.specs.Values.Filled.{node-rule-of, of-three}
+use Rattle.steps.specs.Table.Laws.{node-rule-of, of-list, of-three}
 use Rattle.steps.specs.Values.Parts.{facts-many, fact-there}
 
 -- ── a node's facts are its rule's, filled in ──
@@ -55,7 +54,7 @@ module _ {p s nodes : List ℕ} {j : ℕ} {P : Protocol} {x : Node} (h : NodeIn 
       list < listCount → (start r : ℕ) → start ≡ listStart p nodes j list → r ≡ valueOf (below p factLimit start) → r ≡ length (factsOf P list x)
   list-counted l start r hl hr =
       hr ∙ ap (λ (k : ℕ). valueOf (below p factLimit k)) hl ∙ facts-many p (slotsOf p) (aritiesOf p) (listStart p nodes j list) (listOf list u)
-      (node-list h list l)
+      (of-list (node-rule-of h) list l)
       ∙ sym (facts-counted P x u (h .within .known) list)
 
   -- a list that has a fact is one of the three
@@ -67,7 +66,7 @@ module _ {p s nodes : List ℕ} {j : ℕ} {P : Protocol} {x : Node} (h : NodeIn 
   module _ (i : ℕ) (l : i < length (factsOf P list x)) where
     pub fact-here : Here (fact p (slotsOf p) (aritiesOf p)) (getD (listOf list u) i noFact) (factStart p nodes j list i)
     fact-here =
-        fact-there p (slotsOf p) (aritiesOf p) (listStart p nodes j list) (listOf list u) (node-list h list (list-known i l)) i
+        fact-there p (slotsOf p) (aritiesOf p) (listStart p nodes j list) (listOf list u) (of-list (node-rule-of h) list (list-known i l)) i
         (factStart p nodes j list i) (omega (arith, l, facts-counted P x u (h .within .known) list)) refl
 
     pub symbol-is :

@@ -14,7 +14,7 @@ ghost use Rattle.protocol.specs.Places.{At, ReadAs};
 ghost use Rattle.prepared.specs.Sections.{preparedLength};
 ghost use Rattle.prepared.specs.Prepared.{slotsOf, aritiesOf};
 ghost use Rattle.steps.specs.Values.Parts.{factSmall, listSmall, ruleSmall};
-ghost use Rattle.steps.specs.Values.Filled.{RuleOf};
+ghost use Rattle.steps.specs.Table.Laws.{RuleOf};
 ghost use Rattle.steps.specs.Values.Weights.{leafWeight, weigh, weightOf, sizeIn};
 use prepared::finding;
 use prepared::list_places;

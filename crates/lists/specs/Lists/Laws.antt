@@ -1,7 +1,7 @@
 -- What holds of the functions that count and search a list.
 use mathlib.Core.Path.{_≡_, refl, sym, _∙_, ap}
 use mathlib.Core.Logic.{⊎-elim}
-use mathlib.Core.Bool.{Bool, true, false, not, _&&_}
+use mathlib.Core.Bool.{Bool, true, false, not, _&&_, _||_, or-assoc, or-false}
 use mathlib.Core.List.{List, [], _∷_, _++_, map, List·Memᴰ·head, List·Memᴰ·tail, List·Memᴰ·not-nil, List·Memᴰ·cases-cons}
 use mathlib.Core.Option.{Option, none, some, Option·none-ne-some, Option·some-ne-none, Option·some-injective}
 use Prim.Native.Nat.{ℕ, zero, suc, _+_, _≤_, _<_}
@@ -88,6 +88,10 @@ module _ {A : Type 0} where
   count-keep p q h (x ∷ xs) =
       let ih = count-keep p q h xs in
       by-bool (p x) (λ t. rw t (omega arith)) (λ f. rw (f, not-true (q x) (λ u. true-false (p x) (h x u) f)) (omega arith))
+
+  pub any-snoc : (p : A → Bool) (xs : List A) (x : A) → anyBy p (xs ++ (x ∷ [])) ≡ (anyBy p xs || p x)
+  any-snoc p [] x = or-false (p x)
+  any-snoc p (y ∷ xs) x = ap (λ (b : Bool). p y || b) (any-snoc p xs x) ∙ sym (or-assoc (p y) (anyBy p xs) (p x))
 
   pub any-mem : (p : A → Bool) (xs : List A) (a : A) → a ∈ xs → p a ≡ true → anyBy p xs ≡ true
   any-mem p [] a m e = absurd (List·Memᴰ·not-nil m)

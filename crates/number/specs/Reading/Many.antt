@@ -1,7 +1,7 @@
 -- n things one after another: one more, and none. Said once for every list of the files.
 use Prim.Native.Nat.{ℕ, zero, suc, _+_, _≤_, _<_}
 use mathlib.Core.List.{List, [], _∷_, _++_}
-use mathlib.Core.Bool.{Bool, false, _||_, or-assoc, or-false}
+use mathlib.Core.Bool.{Bool, false, _||_}
 use mathlib.Core.Path.{_≡_, refl, ap, ap₂, sym, _∙_}
 use native.Mathlib.Omega.{arith}
 use native.Mathlib.Numerals.{add-one}
@@ -9,6 +9,7 @@ use lib.ListN.{length}
 use Rattle.number.specs.declared.Seen.the-variants as sn
 use Rattle.number.specs.Reading.{Read, got, fault, andThen, many, seen, below, counted}
 use Rattle.lists.specs.Lists.{anyBy}
+use Rattle.lists.specs.Lists.Laws.{any-snoc}
 use Rattle.number.specs.Reading.Laws.{cut-got, then-got, then-fault, then-same, then-then, then-ext, cut-seen, cut-fault, then-same-at}
 
 module _ {A : Type 0} (p : ℕ → Read A) where
@@ -98,16 +99,12 @@ module _ {A : Type 0} (p : ℕ → Read A) where
 
   -- what code has of a reading of n things: the place behind them, and whether the test hit one
   module _ (q : A → Bool) where
-    any-snoc : (xs : List A) (x : A) → anyBy q (xs ++ (x ∷ [])) ≡ (anyBy q xs || q x)
-    any-snoc [] x = or-false (q x)
-    any-snoc (y ∷ xs) x = ap (λ (b : Bool). q y || b) (any-snoc xs x) ∙ sym (or-assoc (q y) (anyBy q xs) (q x))
-
     pub walk-more : (i at₀ at e : ℕ) (b c : Bool) → seen (anyBy q) (many p i at₀) ≡ sn.End at b → seen q (p at) ≡ sn.End e c → seen (anyBy q)
         (many p (i + 1) at₀)
         ≡ sn.End e (b || c)
     walk-more i at₀ at e b c h k =
         rw add-one (cut-seen (anyBy q) (many p i at₀) h (λ xs g hb. cut-seen q (p at) k (λ x g′ hc.
-        ap (seen (anyBy q)) (many-snoc i at₀ at e xs x g g′) ∙ ap (sn.End e) (any-snoc xs x ∙ ap₂ _||_ hb hc))))
+        ap (seen (anyBy q)) (many-snoc i at₀ at e xs x g g′) ∙ ap (sn.End e) (any-snoc q xs x ∙ ap₂ _||_ hb hc))))
 
     pub walk-stop : (i n at₀ at : ℕ) (b : Bool) → seen (anyBy q) (many p i at₀) ≡ sn.End at b → seen q (p at) ≡ sn.Fault → i < n → seen (anyBy q)
         (many p n at₀) ≡

@@ -1,7 +1,7 @@
 -- What the reading of nodes leaves in their table: the values of one node, and one row after another.
 use Prim.Native.Nat.{ℕ, _+_, _≤_, _<_}
 use mathlib.Core.List.{List, [], _∷_, _++_}
-use mathlib.Core.Bool.{Bool, false, _||_, or-assoc, or-false}
+use mathlib.Core.Bool.{Bool, false, _||_}
 use mathlib.Core.Option.{Option, none}
 use mathlib.Core.Path.{_≡_, refl, ap, ap₂, sym, _∙_, subst}
 use native.Mathlib.Omega.{arith}
@@ -9,6 +9,7 @@ use native.Mathlib.Numerals.{add-one}
 use lib.ListN.{length, getD, set, length-set}
 use lib.Seq.{getD-set-same, getD-set-other}
 use Rattle.lists.specs.Choice.{clash, by-size}
+use Rattle.lists.specs.Lists.Laws.{any-snoc}
 use Rattle.number.specs.Groups.{numberLimit}
 use Rattle.number.specs.Reading.{Read, got, fault, andThen, readNumber, below, many}
 use Rattle.number.specs.Reading.Laws.{cut-got}
@@ -45,25 +46,20 @@ Before nodes nodes′ at = (i : ℕ) → i < at → getD nodes′ i 0 ≡ getD n
 
 -- ── the values of a node ──
 -- where they stand, how many symbols they have, whether one holds a variable
-pub record Placed (s arities nodes : List ℕ) (to : ℕ) (vs : List Term) : Type 0 where
+pub record ValuesPlaced (s arities nodes : List ℕ) (to : ℕ) (vs : List Term) : Type 0 where
   pub stand : Stand s arities nodes to vs
   pub sizes : Sized nodes (to + placeCount) vs
   pub held : getD nodes (to + placeCount + mostVariables) 0 ≡ heldFlag (holdsAny vs)
 
-any-more : (vs : List Term) (t : Term) → holdsAny (vs ++ (t ∷ [])) ≡ (holdsAny vs || holds t 0 0 numberLimit)
-any-more [] t = or-false (holds t 0 0 numberLimit)
-any-more (v ∷ vs) t = ap (λ (b : Bool). holds v 0 0 numberLimit || b) (any-more vs t) ∙ sym
-    (or-assoc (holds v 0 0 numberLimit) (holdsAny vs) (holds t 0 0 numberLimit))
-
 -- k values from `at` on: their places from `to` on, their symbols behind the places
 pub record ValuesRead (s arities : List ℕ) (at k : ℕ) (nodes nodes′ : List ℕ) (to : ℕ) (r : NodeEnd) : Type 0 where
   pub is-end : r ≡ termsEnd (many (term s arities) k at)
-  pub places : (vs : List Term) (e : ℕ) → many (term s arities) k at ≡ got vs e → Placed s arities nodes′ to vs
+  pub places : (vs : List Term) (e : ℕ) → many (term s arities) k at ≡ got vs e → ValuesPlaced s arities nodes′ to vs
   pub before : Before nodes nodes′ to
 
 module _ (s arities : List ℕ) (at : ℕ) (to : ℕ) (nodes₀ : List ℕ) where
   -- value w has its place and its symbols in the table
-  pub record Entered (w : ℕ) (nodes : List ℕ) : Type 0 where
+  pub record ValueEntered (w : ℕ) (nodes : List ℕ) : Type 0 where
     pub came : Came (term s arities) at w (getD nodes (to + w) 0)
     pub size : (t : Term) (e : ℕ) → term s arities (getD nodes (to + w) 0) ≡ got t e → getD nodes (to + placeCount + w) 0 ≡ symbols t
 
@@ -71,7 +67,7 @@ module _ (s arities : List ℕ) (at : ℕ) (to : ℕ) (nodes₀ : List ℕ) wher
   pub record Placing (v i : ℕ) (found : Bool) (nodes : List ℕ) : Type 0 where
     pub here : Came (term s arities) at v i
     pub held : (vs : List Term) (e : ℕ) → many (term s arities) v at ≡ got vs e → found ≡ holdsAny vs
-    pub each : (w : ℕ) → w < v → Entered w nodes
+    pub each : (w : ℕ) → w < v → ValueEntered w nodes
     pub before : Before nodes₀ nodes to
 
   pub placing-none : Placing 0 at false nodes₀
@@ -119,7 +115,8 @@ module _ (s arities : List ℕ) (at : ℕ) (to : ℕ) (nodes₀ : List ℕ) wher
               let z : got (g .here .items ++ (t ∷ [])) e ≡ got vs d =
               sym more ∙ ap (λ (m : ℕ). many (term s arities) m at) (sym (add-one v)) ∙ q in
               let y : g .here .items ++ (t ∷ []) ≡ vs = cc in
-              ap₂ _||_ (g .held (g .here .items) i (g .here .there)) (sym flag) ∙ sym (any-more (g .here .items) t) ∙ ap holdsAny y;
+              ap₂ _||_ (g .held (g .here .items) i (g .here .there)) (sym flag) ∙ sym (any-snoc (λ v. holds v 0 0 numberLimit) (g .here .items) t) ∙ ap
+              holdsAny y;
           each = λ w l.
               by-size w v
               (λ m.
@@ -132,7 +129,7 @@ module _ (s arities : List ℕ) (at : ℕ) (to : ℕ) (nodes₀ : List ℕ) wher
               })
               (λ m.
               let z : w ≡ v = omega arith in
-              subst (λ (k : ℕ). Entered k nodes₂) (sym z)
+              subst (λ (k : ℕ). ValueEntered k nodes₂) (sym z)
               record {
                 came = subst (Came (term s arities) at v) (sym place) (g .here);
                 size = λ u d q.
@@ -190,7 +187,7 @@ module _ (s arities : List ℕ) (at : ℕ) (to : ℕ) (nodes₀ : List ℕ) wher
           ap placeOf (sym c ∙ ap (λ (j : ℕ). many (term s arities) j at) (sym (add-one v)) ∙ b .there) in
           here ∙ ap (got (getD vs v noTerm)) d
 
-      pub all-placed : Placed s arities nodes′ to vs
+      pub all-placed : ValuesPlaced s arities nodes′ to vs
       all-placed = record {
         stand = stands;
         sizes = λ v l.

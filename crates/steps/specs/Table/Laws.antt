@@ -14,10 +14,10 @@ use Rattle.protocol.specs.Places.{valueOf, sortOf}
 use Rattle.protocol.specs.Places.Laws.{rule-layout, sort-law, variables-law}
 use Rattle.rules.specs.Numbered.{ruleOf}
 use Rattle.prepared.specs.Sections.{ruleCount}
-use Rattle.prepared.specs.Prepared.{slotsOf, aritiesOf, placeAt, RuleAt, listEntry, ListAt}
+use Rattle.prepared.specs.Prepared.{slotsOf, aritiesOf, placeAt, RuleAt, listEntry, ListAt, Prepared}
 use Rattle.prepared.specs.Finding.{rule-listed, rule-at}
 use Rattle.steps.specs.Nodes.{Node, noNode, NodeWithin}
-use Rattle.steps.specs.Values.Parts.{noTerm}
+use Rattle.steps.specs.Values.Parts.{noTerm, lists-many}
 use Rattle.steps.specs.Table.{rowAt, Row, NodeIn, NodesIn}
 
 -- ── one of the nodes ──
@@ -47,6 +47,24 @@ row-kept p s nodes nodes′ j k x l same r = record {
   sizes = λ v h. same (35 * j + 18 + v) (omega (arith, r .few)) ∙ r .sizes v h;
 }
 
+-- ── the rule of a number in a prepared protocol ──
+pub record RuleOf (p : List ℕ) (number : ℕ) (P : Protocol) (u : Rule) : Type 0 where
+  pub prepared : Prepared p P
+  pub is : ruleOf P number ≡ some u
+
+module _ {p : List ℕ} {number : ℕ} {P : Protocol} {u : Rule} (h : RuleOf p number P u) where
+  pub of-listed : number < ruleCount
+  of-listed = rule-listed P (h .prepared .body .within) number u (h .is)
+
+  pub of-list : (list : ℕ) → list < listCount → ListAt p u list (listEntry p number list)
+  of-list list l = h .prepared .lists number list u of-listed l (h .is)
+
+  pub of-rule : RuleAt p u (placeAt p number)
+  of-rule = rule-at p P (h .prepared .body) number u (h .is)
+
+  pub of-three : length (u .lists) ≡ listCount
+  of-three = lists-many p (slotsOf p) (aritiesOf p) (placeAt p number) u of-rule
+
 -- ── the node's rule ──
 module _ {p s nodes : List ℕ} {j : ℕ} {P : Protocol} {x : Node} (h : NodeIn p s nodes j P x) where
   abbrev u : Rule
@@ -55,17 +73,14 @@ module _ {p s nodes : List ℕ} {j : ℕ} {P : Protocol} {x : Node} (h : NodeIn 
   abbrev number : ℕ
   number = getD nodes (rowAt j) 0
 
-  numbered : ruleOf P number ≡ some u
-  numbered = ap (ruleOf P) (h .row .rule) ∙ h .within .known
+  pub node-rule-of : RuleOf p number P u
+  node-rule-of = record { prepared = h .prepared; is = ap (ruleOf P) (h .row .rule) ∙ h .within .known }
 
   pub node-listed : number < ruleCount
-  node-listed = rule-listed P (h .prepared .body .within) number u numbered
+  node-listed = of-listed node-rule-of
 
-  pub node-rule : RuleAt p u (placeAt p number)
-  node-rule = rule-at p P (h .prepared .body) number u numbered
-
-  pub node-list : (list : ℕ) → list < listCount → ListAt p u list (listEntry p number list)
-  node-list list l = h .prepared .lists number list u node-listed l numbered
+  node-rule : RuleAt p u (placeAt p number)
+  node-rule = of-rule node-rule-of
 
   pub node-variables : (place : ℕ) → place ≡ placeAt p number → valueOf (below p variableLimit place) ≡ length (x .values)
   node-variables place e =

@@ -2,7 +2,6 @@
 use Prim.Native.Nat.{ℕ, _+_, _*_, _≤_, _<_}
 use mathlib.Core.List.{List}
 use mathlib.Core.Bool.{Bool}
-use mathlib.Core.Option.{some}
 use mathlib.Core.Path.{_≡_, ap, sym, _∙_}
 use native.Mathlib.Omega.{arith}
 use lib.ListN.{length, getD, take, drop, length-drop, List·getD-eq-default}
@@ -16,33 +15,14 @@ use Rattle.term.specs.Term.{variable, Term, leaf, symbols}
 use Rattle.term.specs.Term.Laws.{symbols-bytes, encode-some}
 use Rattle.term.specs.Reader.{term}
 use Rattle.term.specs.Reader.Exact.{term-form}
-use Rattle.protocol.specs.Figures.{listCount}
-use Rattle.protocol.specs.Protocol.{Rule, Protocol}
-use Rattle.rules.specs.Numbered.{ruleOf}
-use Rattle.prepared.specs.Sections.{ruleCount}
-use Rattle.prepared.specs.Prepared.{slotsOf, aritiesOf, placeAt, listEntry, ListAt, Prepared}
-use Rattle.prepared.specs.Finding.{rule-listed, rule-at}
+use Rattle.protocol.specs.Protocol.{Protocol}
+use Rattle.prepared.specs.Prepared.{slotsOf}
 use Rattle.steps.specs.Nodes.{Node}
 use Rattle.steps.specs.Facts.{valueAt}
-use Rattle.steps.specs.Table.{rowAt, sizesAt, NodeIn}
+use Rattle.steps.specs.Table.{sizesAt, NodeIn}
 use Rattle.steps.specs.Values.Tests.{ruleOk, ofRule, nodeTermsOk}
 use Rattle.steps.specs.Values.Weights.{sizeIn}
-use Rattle.steps.specs.Values.Parts.{noTerm, ruleSmall, rule-weighed, lists-many}
-
--- ── the rule of a number in a prepared protocol ──
-pub record RuleOf (p : List ℕ) (number : ℕ) (P : Protocol) (u : Rule) : Type 0 where
-  pub prepared : Prepared p P
-  pub is : ruleOf P number ≡ some u
-
-module _ {p : List ℕ} {number : ℕ} {P : Protocol} {u : Rule} (h : RuleOf p number P u) where
-  pub of-listed : number < ruleCount
-  of-listed = rule-listed P (h .prepared .body .within) number u (h .is)
-
-  pub of-list : (list : ℕ) → list < listCount → ListAt p u list (listEntry p number list)
-  of-list list l = h .prepared .lists number list u of-listed l (h .is)
-
-  pub of-three : length (u .lists) ≡ listCount
-  of-three = lists-many p (slotsOf p) (aritiesOf p) (placeAt p number) u (rule-at p P (h .prepared .body) number u (h .is))
+use Rattle.steps.specs.Values.Parts.{noTerm, ruleSmall, rule-weighed}
 
 -- ── the sizes of a node's values ──
 -- a value has no more symbols than the file has bytes
@@ -52,9 +32,6 @@ term-small s arities bytes t at e h =
     omega (arith, symbols-bytes t, f .1 .ends, stands-within (f .1) (encode-some t))
 
 module _ {p s nodes : List ℕ} {j : ℕ} {P : Protocol} {x : Node} (h : NodeIn p s nodes j P x) where
-  pub node-rule-of : RuleOf p (getD nodes (rowAt j) 0) P (h .within .is)
-  node-rule-of = record { prepared = h .prepared; is = ap (ruleOf P) (h .row .rule) ∙ h .within .known }
-
   module _ (m : ℕ) (many-are : m ≡ length (x .values)) where
     abbrev pub sizesOf : List ℕ
     sizesOf = take m (drop (sizesAt j) nodes)

@@ -8,7 +8,7 @@ use lib.ListN.{length, getD, drop, drop-of-length-le}
 use lib.Seq.{drop-cons}
 use lib.Dec.{ltb}
 use Rattle.lists.specs.Choice.{clash}
-use Rattle.lists.specs.Tests.{by-bool}
+use Rattle.lists.specs.Tests.{by-bool, or-split}
 use Rattle.number.specs.Groups.{numberLimit}
 use Rattle.term.specs.Term.{Term, symbols}
 use Rattle.term.specs.Walk.{holds}
@@ -31,18 +31,10 @@ flag-some : (b : Bool) → (heldFlag b ≡ 0 → ⊥) → b ≡ true
 flag-some true h = refl
 flag-some false h = absurd (h refl)
 
-or-left-false : (a b : Bool) → (a || b) ≡ false → a ≡ false
-or-left-false true b h = clash (cc)
-or-left-false false b h = refl
-
-or-right-false : (a b : Bool) → (a || b) ≡ false → b ≡ false
-or-right-false true b h = clash (cc)
-or-right-false false b h = h
-
 none-held : (vs : List Term) → holdsAny vs ≡ false → (v : ℕ) → v < length vs → holds (getD vs v noTerm) 0 0 numberLimit ≡ false
 none-held [] h v l = absurd (omega arith)
-none-held (t ∷ vs) h zero l = or-left-false (holds t 0 0 numberLimit) (holdsAny vs) h
-none-held (t ∷ vs) h (suc v) l = none-held vs (or-right-false (holds t 0 0 numberLimit) (holdsAny vs) h) v (omega arith)
+none-held (t ∷ vs) h zero l = or-split (holds t 0 0 numberLimit) (holdsAny vs) h .0
+none-held (t ∷ vs) h (suc v) l = none-held vs (or-split (holds t 0 0 numberLimit) (holdsAny vs) h .1) v (omega arith)
 
 some-held : (ss : List ℕ) (vs : List Term) → length ss ≡ length vs → holdsAny vs ≡ true → valuesOk ss vs ≡ false
 some-held ss [] n h = clash (cc)

@@ -1,5 +1,5 @@
-use Rattle.steps.specs.Values.Filled.{node-rule-of, sizes-small, terms-test}
-use Rattle.steps.specs.Table.Laws.{node-listed, node-variables}
+use Rattle.steps.specs.Values.Filled.{sizes-small, terms-test}
+use Rattle.steps.specs.Table.Laws.{node-listed, node-variables, node-rule-of}
 use Rattle.protocol.specs.Figures.{mostVariables}
 use lib.ListN.{length}
 use Prim.Native.Nat.{_≤_, _+_, _*_, _-_}

@@ -1,6 +1,6 @@
 use borrow.Author.Needs.{needs}
 use Rattle.steps.specs.Values.Parts.{AllLeft, all-start, all-more, all-bad, all-done, listSmall}
-use Rattle.steps.specs.Values.Filled.{RuleOf, of-listed, of-list, of-three}
+use Rattle.steps.specs.Table.Laws.{RuleOf, of-listed, of-list, of-three}
 use Rattle.steps.specs.Values.Weights.{sizeIn}
 use Rattle.prepared.specs.Prepared.{ListAt}
 use Rattle.protocol.specs.Protocol.{Rule, Protocol}
