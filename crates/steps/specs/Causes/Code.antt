@@ -1,9 +1,7 @@
 -- What the code answers of a list of nodes.
-use Prim.Native.Nat.{ℕ, zero, suc, _≤_}
+use Prim.Native.Nat.{ℕ, _≤_}
 use mathlib.Core.List.{List}
-use mathlib.Core.Option.{Option, none, some}
-use mathlib.Core.Path.{_≡_, refl, ap, sym, _∙_, subst}
-use native.Mathlib.Omega.{arith}
+use mathlib.Core.Path.{_≡_, ap, sym, _∙_, subst}
 use lib.ListN.{length}
 use Rattle.lists.specs.Lists.{firstBad}
 use Rattle.rewriting.specs.Table.{Ruling, passed, refused, orRefuse}
@@ -17,7 +15,8 @@ use Rattle.steps.specs.Nodes.Code.{NodesAre, Told}
 use Rattle.steps.specs.Nodes.Exact.{steps-form}
 use Rattle.steps.specs.Table.{tableLength, NodesIn}
 use Rattle.steps.specs.Values.Tests.{nodeValuesOk, nodeTermsOk}
-use Rattle.steps.specs.Values.Scan.{asFound}
+use Rattle.steps.specs.Values.Scan.{asFound, found-refused, found-passed}
+use Rattle.steps.specs.Table.Laws.{nodes-in}
 use Rattle.steps.specs.Runs.{rewrittens}
 use Rattle.steps.specs.Causes.{stepsItem, nodeRuling, listRuling}
 use Rattle.steps.specs.declared.nodes.Nodes.{Nodes}
@@ -34,48 +33,34 @@ abbrev pub counted : Ruling (List Node) → Ruling ℕ
 counted (passed xs) = passed (length xs)
 counted (refused n k) = refused n k
 
-found-some : (k : ℕ) → (k ≡ 0 → ⊥) → asFound k ≡ some k
-found-some zero h = absurd (h refl)
-found-some (suc k) h = refl
-
-found-none : (k : ℕ) → k ≡ 0 → asFound k ≡ none
-found-none k h = ap asFound h
-
 module _ (p : Protocol) (xs : List Node) where
-  abbrev Values : Option ℕ
-  Values = firstBad (λ k x. nodeValuesOk p x) 1 xs
+  -- what 9 answers, and 8 and 9
+  abbrev Named : Ruling (List Node)
+  Named = orRefuse 9 (firstNameTwice (rewrittens p xs)) (passed xs)
 
-  abbrev Terms : Option ℕ
-  Terms = firstBad (λ k x. nodeTermsOk p x) 1 xs
+  abbrev Sized : Ruling (List Node)
+  Sized = orRefuse 8 (firstBad (λ k x. nodeTermsOk p x) 1 xs) Named
 
-  abbrev Names : Option ℕ
-  Names = firstNameTwice (rewrittens p xs)
-
-  -- what the passes found, one by one
-  abbrev Passes : Option ℕ → Option ℕ → Option ℕ → Ruling ℕ
-  Passes a b c = counted (orRefuse 7 a (orRefuse 8 b (orRefuse 9 c (passed xs))))
-
-  module _ (i : ℕ) (values : asFound i ≡ Values) where
+  module _ (i : ℕ) (values : asFound i ≡ firstBad (λ k x. nodeValuesOk p x) 1 xs) where
     pub wrong-value : (i ≡ 0 → ⊥) → refused 7 i ≡ counted (nodeRuling p xs)
-    wrong-value h = ap (λ (o : Option ℕ). Passes o Terms Names) (sym (found-some i h) ∙ values)
+    wrong-value h = ap counted (found-refused 7 i _ Sized values h)
 
-    module _ (none-wrong : i ≡ 0) (j : ℕ) (terms : asFound j ≡ Terms) where
-      first : Passes none Terms Names ≡ counted (nodeRuling p xs)
-      first = ap (λ (o : Option ℕ). Passes o Terms Names) (sym (found-none i none-wrong) ∙ values)
+    module _ (none-wrong : i ≡ 0) (j : ℕ) (terms : asFound j ≡ firstBad (λ k x. nodeTermsOk p x) 1 xs) where
+      first : counted Sized ≡ counted (nodeRuling p xs)
+      first = ap counted (found-passed 7 i _ Sized values none-wrong)
 
       pub too-large : (j ≡ 0 → ⊥) → refused 8 j ≡ counted (nodeRuling p xs)
-      too-large h = ap (λ (o : Option ℕ). Passes none o Names) (sym (found-some j h) ∙ terms) ∙ first
+      too-large h = ap counted (found-refused 8 j _ Named terms h) ∙ first
 
-      module _ (none-large : j ≡ 0) (k : ℕ) (names : asFound k ≡ Names) where
-        second : Passes none none Names ≡ counted (nodeRuling p xs)
-        second = ap (λ (o : Option ℕ). Passes none o Names) (sym (found-none j none-large) ∙ terms) ∙ first
+      module _ (none-large : j ≡ 0) (k : ℕ) (names : asFound k ≡ firstNameTwice (rewrittens p xs)) where
+        second : counted Named ≡ counted (nodeRuling p xs)
+        second = ap counted (found-passed 8 j _ Named terms none-large) ∙ first
 
         pub made-twice : (k ≡ 0 → ⊥) → refused 9 k ≡ counted (nodeRuling p xs)
-        made-twice h = ap (λ (o : Option ℕ). Passes none none o) (sym (found-some k h) ∙ names) ∙ second
+        made-twice h = ap counted (found-refused 9 k _ (passed xs) names h) ∙ second
 
         pub all-good : (n : ℕ) → length xs ≡ n → k ≡ 0 → passed n ≡ counted (nodeRuling p xs)
-        all-good n l h =
-            ap {B = Ruling ℕ} passed (sym l) ∙ ap (λ (o : Option ℕ). Passes none none o) (sym (found-none k h) ∙ names) ∙ second
+        all-good n l h = ap {B = Ruling ℕ} passed (sym l) ∙ ap counted (found-passed 9 k _ (passed xs) names h) ∙ second
 
 -- ── the whole list, as it was read ──
 module _ (P : Protocol) (p s nodes : List ℕ) (r : Nodes) (told : Told (steps P s) p s nodes r) where
@@ -99,16 +84,7 @@ module _ (P : Protocol) (p s nodes : List ℕ) (r : Nodes) (told : Told (steps P
     pub list-in : Prepared p P → Bytes s → length nodes ≡ tableLength → length s ≤ longest → NodesIn p s nodes n P (list-read .items)
     list-in f bytes long short =
         let t = list-read in
-        let w = steps-form P s bytes (t .items) e (t .there) .0 in
-        record {
-          prepared = f;
-          count = t .count;
-          few = omega (arith, w .few, t .count);
-          within = w .each;
-          rows = t .rows;
-          long = long;
-          short = short;
-        }
+        nodes-in f (steps-form P s bytes (t .items) e (t .there) .0) (t .count) (t .rows) long short
 
     pub list-nodes : (j : NodesRuling) → rulingOf j ≡ counted (nodeRuling P (list-read .items)) → rulingOf j ≡ Whole
     list-nodes j k = k ∙ ap (λ (q : Reading (List Node)). counted (listRuling P stepsItem q)) (sym (list-read .there))

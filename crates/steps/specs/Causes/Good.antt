@@ -17,6 +17,7 @@ use Rattle.steps.specs.Nodes.{Node, noNode, Reading, read, broken, no-ru
 use Rattle.steps.specs.Nodes.Code.{NodesAre}
 use Rattle.steps.specs.Nodes.Exact.{nodes-form, steps-form}
 use Rattle.steps.specs.Table.{tableLength, Row, NodesIn}
+use Rattle.steps.specs.Table.Laws.{nodes-in}
 use Rattle.steps.specs.Values.{NodeRight}
 use Rattle.steps.specs.Causes.{nodeRows, nodeRuling}
 use Rattle.steps.specs.Causes.Laws.{Passing, nodes-ruled}
@@ -87,16 +88,7 @@ module _ (P : Protocol) (p s nodes : List ℕ) (bytes : Bytes s) where
       Prepared p P → length nodes ≡ tableLength → length s ≤ longest → (at n e : ℕ) (g : GoodNodes P p s at nodes n e)
       → RightNodes p s nodes n P (g .items)
   good-right f long short at n e g =
-      let w = nodes-form P s bytes (g .items) at e (g .there) .0 in
       record {
-        stand = record {
-          prepared = f;
-          count = g .count;
-          few = omega (arith, w .few, g .count);
-          within = w .each;
-          rows = g .rows;
-          long = long;
-          short = short;
-        };
+        stand = nodes-in f (nodes-form P s bytes (g .items) at e (g .there) .0) (g .count) (g .rows) long short;
         right = g .passing .right;
       }

@@ -41,7 +41,7 @@ module _ {A B : Type 0} where
   cut-plain (got x d) f h k = k x d refl h
   cut-plain fault f h k = clash (cc)
 
-number-exact : (file : List ℕ) → Bytes file → Exact file (readNumber file) (λ v. v < numberLimit) groups
+pub number-exact : (file : List ℕ) → Bytes file → Exact file (readNumber file) (λ v. v < numberLimit) groups
 number-exact file bytes = record {
   back = λ v at rest small there. read-back file at v rest small there;
   form = λ v at e h. read-form file bytes at v e h;

@@ -1,11 +1,12 @@
 -- What a row says: its node's rule stands in the prepared protocol, its values at their places.
-use Prim.Native.Nat.{ℕ, _+_, _*_, _<_}
+use Prim.Native.Nat.{ℕ, _+_, _*_, _<_, _≤_}
 use mathlib.Core.List.{List}
 use mathlib.Core.Option.{some}
 use mathlib.Core.Path.{_≡_, ap, sym, _∙_}
 use native.Mathlib.Omega.{arith}
 use lib.ListN.{length, getD}
 use Rattle.lists.specs.All.Laws.{all-inside}
+use Rattle.octets.specs.Limits.{longest}
 use Rattle.number.specs.Reading.{got, below}
 use Rattle.term.specs.Reader.{term}
 use Rattle.protocol.specs.Figures.{variableLimit, listCount}
@@ -16,9 +17,23 @@ use Rattle.rules.specs.Numbered.{ruleOf}
 use Rattle.prepared.specs.Sections.{ruleCount}
 use Rattle.prepared.specs.Prepared.{slotsOf, aritiesOf, placeAt, RuleAt, listEntry, ListAt, Prepared}
 use Rattle.prepared.specs.Finding.{rule-listed, rule-at}
-use Rattle.steps.specs.Nodes.{Node, noNode, NodeWithin}
+use Rattle.steps.specs.Nodes.{Node, noNode, NodeWithin, NodesWithin}
 use Rattle.steps.specs.Values.Parts.{noTerm, lists-many}
-use Rattle.steps.specs.Table.{rowAt, Row, NodeIn, NodesIn}
+use Rattle.steps.specs.Table.{rowAt, tableLength, Row, NodeIn, NodesIn}
+
+-- ── nodes within the limits, each with its row ──
+pub nodes-in :
+    {p s nodes : List ℕ} {n : ℕ} {P : Protocol} {xs : List Node} → Prepared p P → NodesWithin P xs → length xs ≡ n
+    → ((j : ℕ) → j < n → Row p s nodes j (getD xs j noNode)) → length nodes ≡ tableLength → length s ≤ longest → NodesIn p s nodes n P xs
+nodes-in prepared within count rows long short = record {
+  prepared = prepared;
+  count = count;
+  few = omega (arith, within .few);
+  within = within .each;
+  rows = rows;
+  long = long;
+  short = short;
+}
 
 -- ── one of the nodes ──
 pub node-in :

@@ -16,7 +16,7 @@ use Rattle.steps.proofs.size_pass.size_pass.Tie as tie
 
 abbrev Inv-loop : tie.InvT-loop
 Inv-loop p s nodes n j₀ j =
-    (j ≤ n) × Promises₂ (NodesIn p s nodes n) (λ (P : Protocol) (xs : List Node). Rest (nodeTermsOk P) noNode xs j)
+    (j ≤ n) × Promises₂ (NodesIn p s nodes n) (λ (P : Protocol) (xs : List Node). Rest (λ k. nodeTermsOk P) noNode xs j)
 
 abbrev μ-loop : tie.MeasureT-loop
 μ-loop p s nodes n j₀ j =
@@ -24,7 +24,7 @@ abbrev μ-loop : tie.MeasureT-loop
 
 loop-holds : tie.Need-loop-holds Inv-loop μ-loop
 loop-holds c =
-    (search needs, λ P xs h. rest-all (nodeTermsOk P) noNode xs)
+    (search needs, λ P xs h. rest-all (λ k. nodeTermsOk P) noNode xs)
 
 node-terms-requires : tie.Need-node-terms-requires Inv-loop μ-loop
 node-terms-requires c κs =
@@ -43,7 +43,7 @@ loop-again c =
       omega arith,
       λ P xs h.
           let l : c3 .loop .j < length xs = omega (arith, h .count) in
-          rest-more (nodeTermsOk P) noNode xs _ l (sym (c .before .node-terms .ensures P _ (node-in h (c3 .loop .j) (c .before .before .loop-test .taken))) ∙ c
+          rest-more (λ k. nodeTermsOk P) noNode xs _ l (sym (c .before .node-terms .ensures P _ (node-in h (c3 .loop .j) (c .before .before .loop-test .taken))) ∙ c
           .if1 .taken) (c3 .loop .inv .1 P xs h),
     )
 
@@ -55,12 +55,12 @@ returns c =
     let c3 = c .before .before .before in
     λ P xs h.
     let l : c3 .loop .j < length xs = omega (arith, h .count) in
-    rest-bad (nodeTermsOk P) noNode xs _ l (sym (c .before .node-terms .ensures P _ (node-in h (c3 .loop .j) (c .before .before .loop-test .taken))) ∙ c .if1
+    rest-bad (λ k. nodeTermsOk P) noNode xs _ l (sym (c .before .node-terms .ensures P _ (node-in h (c3 .loop .j) (c .before .before .loop-test .taken))) ∙ c .if1
     .left) (c3 .loop .inv .1 P xs h)
 
 returns-2 : tie.Need-returns-2 Inv-loop μ-loop
 returns-2 c =
-    λ P xs h. rest-none (nodeTermsOk P) noNode xs (c .before .loop .j) (omega (arith, h .count)) (c .before .loop .inv .1 P xs h)
+    λ P xs h. rest-none (λ k. nodeTermsOk P) noNode xs (c .before .loop .j) (omega (arith, h .count)) (c .before .loop .inv .1 P xs h)
 
 pub size-pass-spec : {M : Type 1} → statement M
 size-pass-spec =

@@ -17,7 +17,7 @@ use Rattle.steps.proofs.values.value_pass.Tie as tie
 
 abbrev Inv-loop : tie.InvT-loop
 Inv-loop p s nodes n out₀ j₀ out j =
-    (j ≤ n) × (length out ≡ formRoom) × Promises₂ (NodesIn p s nodes n) (λ (P : Protocol) (xs : List Node). Rest (nodeValuesOk P) noNode xs j)
+    (j ≤ n) × (length out ≡ formRoom) × Promises₂ (NodesIn p s nodes n) (λ (P : Protocol) (xs : List Node). Rest (λ k. nodeValuesOk P) noNode xs j)
 
 abbrev μ-loop : tie.MeasureT-loop
 μ-loop p s nodes n out₀ j₀ out j =
@@ -25,7 +25,7 @@ abbrev μ-loop : tie.MeasureT-loop
 
 loop-holds : tie.Need-loop-holds Inv-loop μ-loop
 loop-holds c =
-    (search needs, search needs, λ P xs h. rest-all (nodeValuesOk P) noNode xs)
+    (search needs, search needs, λ P xs h. rest-all (λ k. nodeValuesOk P) noNode xs)
 
 slice-aggregate-node-values : tie.Need-slice-aggregate-node-values Inv-loop μ-loop
 slice-aggregate-node-values c = search needs
@@ -51,7 +51,7 @@ loop-again c =
       c .before .before .node-values .kept .0 ∙ c5 .loop .inv .1,
       λ P xs h.
           let l : c5 .loop .j < length xs = omega (arith, h .count) in
-          rest-more (nodeValuesOk P) noNode xs _ l (sym (c .before .before .node-values .ensures P _ (node-in h (c5 .loop .j) (c4 .loop-test .taken))) ∙ c .if1
+          rest-more (λ k. nodeValuesOk P) noNode xs _ l (sym (c .before .before .node-values .ensures P _ (node-in h (c5 .loop .j) (c4 .loop-test .taken))) ∙ c .if1
           .taken) (c5 .loop .inv .2 P xs h),
     )
 
@@ -64,12 +64,12 @@ returns c =
     let c5 = c4 .before in
     λ P xs h.
     let l : c5 .loop .j < length xs = omega (arith, h .count) in
-    rest-bad (nodeValuesOk P) noNode xs _ l (sym (c .before .before .node-values .ensures P _ (node-in h (c5 .loop .j) (c4 .loop-test .taken))) ∙ c .if1 .left)
+    rest-bad (λ k. nodeValuesOk P) noNode xs _ l (sym (c .before .before .node-values .ensures P _ (node-in h (c5 .loop .j) (c4 .loop-test .taken))) ∙ c .if1 .left)
     (c5 .loop .inv .2 P xs h)
 
 returns-2 : tie.Need-returns-2 Inv-loop μ-loop
 returns-2 c =
-    λ P xs h. rest-none (nodeValuesOk P) noNode xs (c .before .loop .j) (omega (arith, h .count)) (c .before .loop .inv .2 P xs h)
+    λ P xs h. rest-none (λ k. nodeValuesOk P) noNode xs (c .before .loop .j) (omega (arith, h .count)) (c .before .loop .inv .2 P xs h)
 
 pub value-pass-spec : {M : Type 1} → statement M
 value-pass-spec =
