@@ -4,3 +4,8 @@
 pub mod Graph
 -- the ruling of a graph file: 3 and 6, then 7 to 13; what an accepted one is
 pub mod Causes
+-- ── for the code ──
+-- the table of edges that their reading fills
+pub mod Table
+-- the ends of edges, by number
+pub mod Ends
