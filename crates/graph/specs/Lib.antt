@@ -9,3 +9,9 @@ pub mod Causes
 pub mod Table
 -- the ends of edges, by number
 pub mod Ends
+-- the two facts of an edge
+pub mod Joins
+-- how often each fact is an end
+pub mod Uses
+-- 12 and 13 by these counts
+pub mod Passes

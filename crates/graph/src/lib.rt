@@ -2,3 +2,6 @@
 
 pub mod edges; // read into a table of numbers
 pub mod ends; // 10: an end is missing, or the source is not earlier
+pub mod joins; // 11: the facts differ
+pub mod uses; // how often each fact is an end of an edge
+pub mod passes; // 12: a premise without exactly one edge; 13: a linear conclusion used twice
