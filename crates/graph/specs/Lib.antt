@@ -7,6 +7,8 @@ pub mod Causes
 -- ── for the code ──
 -- the table of edges that their reading fills
 pub mod Table
+-- a pass over them, or over the nodes, by number
+pub mod Scan
 -- the ends of edges, by number
 pub mod Ends
 -- the two facts of an edge

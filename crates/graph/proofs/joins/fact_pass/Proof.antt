@@ -1,20 +1,18 @@
 use borrow.Author.Needs.{needs}
-use native.Mathlib.Omega.{arith}
 use lib.ListN.{length}
-use mathlib.Core.Path.{_≡_, ap, sym, _∙_}
-use mathlib.Core.List.{List}
-use Prim.Native.Nat.{ℕ, _-_, _≤_, _<_}
+use mathlib.Core.Path.{_≡_}
 use Rattle.lists.specs.Asks.{Promises₂}
+use Rattle.facts.specs.Owed.{room-kept}
+use Rattle.graph.specs.Graph.{Graph}
+use Rattle.graph.specs.Table.{noEdge}
+use Rattle.graph.specs.Joins.{EndedIn, edge-in}
+use native.Mathlib.Omega.{arith}
+use Prim.Native.Nat.{_-_, _≤_}
 use Rattle.protocol.specs.Protocol.{Protocol}
 use Rattle.rewriting.specs.Checker.{factsOk}
 use Rattle.steps.specs.Runs.{protocolFacts, rewrittens}
-use Rattle.steps.specs.Values.Scan.{Rest, rest-all, rest-more, rest-bad, rest-none}
-use Rattle.facts.specs.Owed.{room-kept}
-use Rattle.facts.specs.Calls.{Room}
-use Rattle.facts.specs.Writing.{factRoom}
-use Rattle.graph.specs.Graph.{Graph}
-use Rattle.graph.specs.Table.{edgeAt, noEdge}
-use Rattle.graph.specs.Joins.{EndedIn, edge-in}
+use Rattle.steps.specs.Values.Scan.{Rest, rest-all}
+use Rattle.graph.specs.Scan.{edges-listed, scan-more, scan-bad, scan-none}
 use Rattle.graph.proofs.joins.fact_pass.Statement.{statement}
 use Rattle.graph.proofs.joins.fact_pass.Tie as tie
 use Rattle.graph.proofs.joins.fact_pass.Reads as reads
@@ -51,9 +49,7 @@ loop-less c = search needs
 -- src/joins.rt:58:5
 loop-again : tie.Need-loop-again Inv-loop μ-loop
 loop-again c =
-    (omega arith, omega (arith, c .before .before .before .facts-ok .kept, c .before .before .before .before .before .before .loop .inv .1), λ P g h.
-    let l : c .before .before .before .before .before .before .loop .j < length (g .edges) = omega (arith, h .graph-in .edges-in .count) in
-    rest-more (λ k. factsOk (protocolFacts P) (rewrittens P (g .nodes))) noEdge (g .edges) _ l (ap (factsOk (protocolFacts P) (rewrittens P (g .nodes))) (h .graph-in .edges-in .each (c .before .before .before .before .before .before .loop .j) (c .before .before .before .before .before .loop-test .taken)) ∙ sym (c .before .before .before .facts-ok .ensures P (g .nodes) (edge-in h (c .before .before .before .before .before .before .loop .j) (c .before .before .before .before .before .loop-test .taken))) ∙ c .if1 .taken) (c .before .before .before .before .before .before .loop .inv .2 P g h))
+    (omega arith, omega (arith, c .before .before .before .facts-ok .kept, c .before .before .before .before .before .before .loop .inv .1), λ P g h. scan-more (edges-listed (h .graph-in .edges-in)) (λ k. factsOk (protocolFacts P) (rewrittens P (g .nodes))) (c .before .before .before .before .before .before .loop .j) (c .before .before .before .before .before .loop-test .taken) (c .before .before .before .facts-ok .ensures P (g .nodes) (edge-in h (c .before .before .before .before .before .before .loop .j) (c .before .before .before .before .before .loop-test .taken))) (c .if1 .taken) (c .before .before .before .before .before .before .loop .inv .2 P g h))
 
 -- src/joins.rt:62:20
 add-result : tie.Need-add-result Inv-loop μ-loop
@@ -67,9 +63,7 @@ same-length c =
 -- src/joins.rt:62:13
 returns : tie.Need-returns Inv-loop μ-loop
 returns c =
-    λ P g h.
-    let l : c .before .before .before .before .before .before .loop .j < length (g .edges) = omega (arith, h .graph-in .edges-in .count) in
-    rest-bad (λ k. factsOk (protocolFacts P) (rewrittens P (g .nodes))) noEdge (g .edges) _ l (ap (factsOk (protocolFacts P) (rewrittens P (g .nodes))) (h .graph-in .edges-in .each (c .before .before .before .before .before .before .loop .j) (c .before .before .before .before .before .loop-test .taken)) ∙ sym (c .before .before .before .facts-ok .ensures P (g .nodes) (edge-in h (c .before .before .before .before .before .before .loop .j) (c .before .before .before .before .before .loop-test .taken))) ∙ c .if1 .left) (c .before .before .before .before .before .before .loop .inv .2 P g h)
+    λ P g h. scan-bad (edges-listed (h .graph-in .edges-in)) (λ k. factsOk (protocolFacts P) (rewrittens P (g .nodes))) (c .before .before .before .before .before .before .loop .j) (c .before .before .before .before .before .loop-test .taken) (c .before .before .before .facts-ok .ensures P (g .nodes) (edge-in h (c .before .before .before .before .before .before .loop .j) (c .before .before .before .before .before .loop-test .taken))) (c .if1 .left) (c .before .before .before .before .before .before .loop .inv .2 P g h)
 
 -- src/joins.rt:45:1
 same-length-2 : tie.Need-same-length-2 Inv-loop μ-loop
@@ -78,7 +72,7 @@ same-length-2 c = search needs
 -- src/joins.rt:45:1
 returns-2 : tie.Need-returns-2 Inv-loop μ-loop
 returns-2 c =
-    λ P g h. rest-none (λ k. factsOk (protocolFacts P) (rewrittens P (g .nodes))) noEdge (g .edges) (c .before .loop .j) (omega (arith, h .graph-in .edges-in .count)) (c .before .loop .inv .2 P g h)
+    λ P g h. scan-none (edges-listed (h .graph-in .edges-in)) (λ k. factsOk (protocolFacts P) (rewrittens P (g .nodes))) (c .before .loop .j) (omega arith) (c .before .loop .inv .2 P g h)
 
 pub fact-pass-spec : {M : Type 1} → statement M
 fact-pass-spec =
