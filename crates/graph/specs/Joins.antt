@@ -38,6 +38,9 @@ pub record EndedIn (p s nodes : List ℕ) (n : ℕ) (edges : List ℕ) (m : ℕ)
   pub graph-in : GraphIn p s nodes n edges m P g
   pub ended : (j : ℕ) → j < m → endsOk (protocolFacts P) (rewrittens P (g .nodes)) (getD (g .edges) j noEdge) ≡ true
 
+abbrev pub EndedOf : List ℕ → List ℕ → ℕ → List ℕ → ℕ → List ℕ → Protocol → Graph → Type 0
+EndedOf p nodes n edges m s = EndedIn p s nodes n edges m
+
 -- ── an end that is there is a fact of a right node ──
 is-some : {A : Type 0} (o : Option A) → isSome o ≡ true → (a : A) × (o ≡ some a)
 is-some none h = true-false false h refl

@@ -7,7 +7,9 @@ pub mod Causes
 -- ── for the code ──
 -- the table of edges that their reading fills
 pub mod Table
--- a pass over them, or over the nodes, by number
+-- a graph file that is read into the tables
+pub mod Reading
+-- a pass over edges or nodes by number
 pub mod Scan
 -- the ends of edges, by number
 pub mod Ends

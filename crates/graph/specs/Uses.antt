@@ -14,6 +14,8 @@ use Rattle.graph.specs.Graph.{place-of}
 use Rattle.graph.specs.Table.{edgeFields, endAt}
 -- one end more; the counts are those of the edges
 pub mod Laws
+-- of a graph of which 10 is absent
+pub mod Ends
 
 -- ── counts that stay at 2 ──
 abbrev pub capped : ℕ → ℕ

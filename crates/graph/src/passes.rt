@@ -15,9 +15,13 @@ ghost use Rattle.steps.specs.Facts.{isLinear};
 ghost use Rattle.steps.specs.Runs.{protocolFacts, rewritten, rewrittens};
 ghost use Rattle.steps.specs.Values.Scan.{asFound};
 ghost use Rattle.facts.specs.Calls.{NodeOf, ListedFact, factAt};
+ghost use Rattle.graph.specs.Graph.{Graph};
 ghost use Rattle.graph.specs.Table.{NodesOf};
+ghost use Rattle.graph.specs.Joins.{EndedOf};
 ghost use Rattle.graph.specs.Uses.{countTable};
 ghost use Rattle.graph.specs.Passes.{Into, OutOf};
+use crate::edges;
+use crate::uses;
 use facts::counts;
 use facts::nodes::FactId;
 use facts::symbols;
@@ -44,8 +48,8 @@ fn premises_ok(p: &[u8], nodes: &[usize], j: usize, uses: &[u8]) -> bool
     true
 }
 
-// 12: the least node that has a premise without exactly one edge; 0 where there is none.
-pub fn least_unfed(p: &[u8], nodes: &[usize], n: usize, uses: &[u8]) -> usize
+// The least node that has a premise without exactly one edge, by the counts; 0 where there is none.
+fn least_unfed(p: &[u8], nodes: &[usize], n: usize, uses: &[u8]) -> usize
     requires { ⌜ Asks₃ (NodesOf (now p) (now nodes) n) × (length (now uses) ≡ countTable) ⌝ }
     ensures { λ r. ⌜ Promises₃ (NodesOf (now (p .entry)) (now (nodes .entry)) n) (λ (s : List ℕ) (P : Protocol) (xs : List Node). (es : List Edge) → Into (now (uses .entry)) es → asFound r ≡ firstBad (premisesOk (protocolFacts P) es) 1 (rewrittens P xs)) ⌝ }
 {
@@ -97,8 +101,8 @@ fn conclusions_ok(p: &[u8], nodes: &[usize], j: usize, uses: &[u8]) -> bool
     true
 }
 
-// 13: the least node that has a linear conclusion used twice; 0 where there is none.
-pub fn least_spent(p: &[u8], nodes: &[usize], n: usize, uses: &[u8]) -> usize
+// The least node that has a linear conclusion used twice, by the counts; 0 where there is none.
+fn least_spent(p: &[u8], nodes: &[usize], n: usize, uses: &[u8]) -> usize
     requires { ⌜ Asks₃ (NodesOf (now p) (now nodes) n) × (length (now uses) ≡ countTable) ⌝ }
     ensures { λ r. ⌜ Promises₃ (NodesOf (now (p .entry)) (now (nodes .entry)) n) (λ (s : List ℕ) (P : Protocol) (xs : List Node). (es : List Edge) → OutOf (now (uses .entry)) es → asFound r ≡ firstBad (conclusionsOk (protocolFacts P) es) 1 (rewrittens P xs)) ⌝ }
 {
@@ -111,4 +115,36 @@ pub fn least_spent(p: &[u8], nodes: &[usize], n: usize, uses: &[u8]) -> usize
         }
     }
     0
+}
+
+// 12: the least node that has a premise without exactly one edge; 0 where there is none. The counts go into the lent part.
+pub fn premise_pass(
+    p: &[u8],
+    nodes: &[usize],
+    n: usize,
+    edges: &[u32],
+    m: usize,
+    uses: &mut [u8],
+) -> usize
+    requires { ⌜ Asks₃ (EndedOf (now p) (now nodes) n (now edges) m) × (length (now uses) ≡ countTable) ⌝ }
+    ensures { λ r. ⌜ Promises₃ (EndedOf (now (p .entry)) (now (nodes .entry)) n (now (edges .entry)) m) (λ (s : List ℕ) (P : Protocol) (g : Graph). asFound r ≡ firstBad (premisesOk (protocolFacts P) (g .edges)) 1 (rewrittens P (g .nodes))) ⌝ }
+{
+    uses::count_ends(edges, m, edges::TARGET, uses);
+    least_unfed(p, nodes, n, uses)
+}
+
+// 13: the least node that has a linear conclusion used twice; 0 where there is none.
+pub fn conclusion_pass(
+    p: &[u8],
+    nodes: &[usize],
+    n: usize,
+    edges: &[u32],
+    m: usize,
+    uses: &mut [u8],
+) -> usize
+    requires { ⌜ Asks₃ (EndedOf (now p) (now nodes) n (now edges) m) × (length (now uses) ≡ countTable) ⌝ }
+    ensures { λ r. ⌜ Promises₃ (EndedOf (now (p .entry)) (now (nodes .entry)) n (now (edges .entry)) m) (λ (s : List ℕ) (P : Protocol) (g : Graph). asFound r ≡ firstBad (conclusionsOk (protocolFacts P) (g .edges)) 1 (rewrittens P (g .nodes))) ⌝ }
+{
+    uses::count_ends(edges, m, edges::SOURCE, uses);
+    least_spent(p, nodes, n, uses)
 }
