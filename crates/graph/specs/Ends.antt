@@ -1,7 +1,7 @@
 -- The ends of edges in the nodes: whether they are there, by number.
 use Prim.Native.Nat.{ℕ, zero, suc, _-_, _≤_, _<_}
-use mathlib.Core.List.{List, [], _∷_, map}
-use mathlib.Core.Bool.{Bool, true, false, _&&_}
+use mathlib.Core.List.{List, [], _∷_}
+use mathlib.Core.Bool.{Bool, false, _&&_}
 use mathlib.Core.Option.{Option, none, some}
 use mathlib.Core.Path.{_≡_, refl, ap, ap₂, sym, _∙_}
 use native.Mathlib.Omega.{arith}
@@ -9,7 +9,7 @@ use lib.Dec.{leb, ltb}
 use lib.ListN.{length, getD, getElem?}
 use Rattle.lists.specs.Lists.{nth}
 use Rattle.lists.specs.Lists.Laws.{at-inside, at-outside}
-use Rattle.lists.specs.Tests.{by-bool, le-leb, leb-le, leb-gt}
+use Rattle.lists.specs.Tests.{by-bool, leb-le, leb-gt}
 use Rattle.rewriting.specs.Graph as graph
 use Rattle.rewriting.specs.Graph.{Place, inNode, premiseAt, conclusionAt}
 use Rattle.rewriting.specs.Checker.{isSome, endsOk}

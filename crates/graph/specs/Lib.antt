@@ -19,3 +19,5 @@ pub mod Joins
 pub mod Uses
 -- 12 and 13 by these counts
 pub mod Passes
+-- what the code answers of a graph file
+pub mod Ruling

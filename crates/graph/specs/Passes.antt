@@ -4,7 +4,6 @@ use mathlib.Core.List.{List, [], _∷_}
 use mathlib.Core.Bool.{Bool, true, false, not, _&&_, _||_, and-assoc, and-true}
 use mathlib.Core.Path.{_≡_, refl, ap, ap₂, sym, _∙_}
 use native.Mathlib.Omega.{arith}
-use native.Mathlib.Numerals.{add-one}
 use borrow.Author.Tests.{ne-eqb}
 use lib.Dec.{eqb, leb}
 use lib.ListN.{length, getD}
@@ -15,9 +14,8 @@ use Rattle.rewriting.specs.Graph.{Edge, into, outOf}
 use Rattle.rewriting.specs.Places.{Placed, placed}
 use Rattle.rewriting.specs.Checker.{oneInto, premisesOk, oneOut, conclusionsOk}
 use Rattle.protocol.specs.Figures.{premiseList, conclusionList, mostFacts}
-use Rattle.protocol.specs.Protocol.{Fact, Protocol, noFact}
-use Rattle.protocol.specs.Protocol.Limits.{Within}
-use Rattle.steps.specs.Nodes.{Node, mostNodes, NodeWithin}
+use Rattle.protocol.specs.Protocol.{Protocol, noFact}
+use Rattle.steps.specs.Nodes.{Node}
 use Rattle.steps.specs.Facts.{factsOf, isLinear}
 use Rattle.steps.specs.Facts.Counts.{facts-few}
 use Rattle.steps.specs.Runs.{protocolFacts, rewritten}

@@ -6,11 +6,11 @@ use mathlib.Core.Path.{_≡_, refl, ap, sym, _∙_, subst}
 use lib.ListN.{length, getD}
 use borrow.Author.Tests.{eq-eqb, ne-eqb}
 use Rattle.lists.specs.Choice.{pick}
-use Rattle.number.specs.Reading.{Read, got, fault}
+use Rattle.number.specs.Reading.{Read, got}
 use Rattle.rewriting.specs.Graph.{Edge}
 use Rattle.protocol.specs.Protocol.{Protocol}
 use Rattle.steps.specs.Nodes.{Node, noNode, Reading, read, broken, no-rule, onward, plainly, allOf, nodeList}
-use Rattle.steps.specs.Nodes.Code.{NodesAre, Told}
+use Rattle.steps.specs.Nodes.Code.{Told}
 use Rattle.steps.specs.Table.{Row}
 use Rattle.steps.specs.declared.nodes.Nodes.{Nodes}
 use Rattle.steps.specs.declared.nodes.Nodes.the-variants as told
@@ -18,9 +18,9 @@ use Rattle.graph.specs.declared.edges.Edges.{Edges}
 use Rattle.graph.specs.declared.edges.Edges.the-variants as all
 use Rattle.graph.specs.declared.reading.GraphEnd.{GraphEnd}
 use Rattle.graph.specs.declared.reading.GraphEnd.the-variants as end
-use Rattle.graph.specs.Graph.{Graph, graph-of, edgeList, withEdges, parts, graph}
+use Rattle.graph.specs.Graph.{Graph, graph-of, edgeList, withEdges, graph}
 use Rattle.graph.specs.Table.{EdgesIn}
-use Rattle.graph.specs.Table.Reading.{EdgesAre, EdgesRead}
+use Rattle.graph.specs.Table.Reading.{EdgesRead}
 
 -- ── behind n nodes that end at a place: the edges, and nothing behind them ──
 pub record EdgesBehind (s : List ℕ) (at : ℕ) (edges : List ℕ) (m : ℕ) : Type 0 where

@@ -1,16 +1,19 @@
 -- A pass over the edges or the nodes by their numbers, from 0, as they stand in a table.
-use Prim.Native.Nat.{ℕ, _+_, _≤_, _<_}
+use Prim.Native.Nat.{ℕ, suc, _+_, _≤_, _<_}
 use mathlib.Core.List.{List}
 use mathlib.Core.Bool.{Bool, true, false}
-use mathlib.Core.Option.{none}
+use mathlib.Core.Option.{Option, none, some, Option·some-ne-none}
 use mathlib.Core.Path.{_≡_, ap, sym, _∙_}
 use native.Mathlib.Omega.{arith}
 use lib.ListN.{length, getD, length-map}
 use Rattle.lists.specs.Lists.{firstBad}
+use Rattle.lists.specs.Lists.Laws.{at-inside}
+use Rattle.lists.specs.Tests.{by-bool}
 use Rattle.lists.specs.All.Laws.{map-at}
-use Rattle.rewriting.specs.Graph as graph
+use Rattle.rewriting.specs.Table.{Fails, Finds}
+use Rattle.rewriting.specs.Table.Passes.{first-bad}
 use Rattle.rewriting.specs.Graph.{Edge}
-use Rattle.protocol.specs.Protocol.{Fact, Protocol}
+use Rattle.protocol.specs.Protocol.{Protocol}
 use Rattle.steps.specs.Nodes.{Node, noNode}
 use Rattle.steps.specs.Runs.{rewritten, rewrittens}
 use Rattle.steps.specs.Table.{NodesIn}
@@ -47,3 +50,12 @@ module _ {A : Type 0} {d : A} {ys : List A} {n : ℕ} {item : ℕ → A} (listed
 
   pub scan-none : n ≤ j → Rest ok d ys j → none ≡ firstBad ok 1 ys
   scan-none l h = rest-none ok d ys j (omega (arith, listed .count)) h
+
+-- where a pass finds none, each passes the test
+pub none-bad : {A : Type 0} (ok : A → Bool) (d : A) (ys : List A) → firstBad (λ k. ok) 1 ys ≡ none → (j : ℕ) → j < length ys → ok (getD ys j d) ≡ true
+none-bad {A} ok d ys h j l =
+    by-bool (ok (getD ys j d)) (λ t. t) (λ f. absurd (found (firstBad (λ k. ok) 1 ys) (first-bad (λ k. ok) ys) h f))
+  where
+    found : (o : Option ℕ) → Finds (Fails (λ k. ok) ys) o → o ≡ none → ok (getD ys j d) ≡ false → ⊥
+    found none nowhere e f = nowhere (suc j) (record { which = getD ys j d; stands = at-inside d ys j l; is-false = f })
+    found (some k) least e f = Option·some-ne-none k e

@@ -50,7 +50,12 @@ pub record EdgesIn (edges : List ℕ) (m : ℕ) (es : List Edge) : Type 0 where
 abbrev pub NodesOf : List ℕ → List ℕ → ℕ → List ℕ → Protocol → List Node → Type 0
 NodesOf p nodes n s = NodesIn p s nodes n
 
--- right nodes and edges in their tables
+-- nodes and edges in their tables, as they were read
+pub record ReadIn (p s nodes : List ℕ) (n : ℕ) (edges : List ℕ) (m : ℕ) (P : Protocol) (g : Graph) : Type 0 where
+  pub nodes-in : NodesIn p s nodes n P (g .nodes)
+  pub edges-in : EdgesIn edges m (g .edges)
+
+-- right nodes and edges
 pub record GraphIn (p s nodes : List ℕ) (n : ℕ) (edges : List ℕ) (m : ℕ) (P : Protocol) (g : Graph) : Type 0 where
   pub nodes-in : RightNodes p s nodes n P (g .nodes)
   pub edges-in : EdgesIn edges m (g .edges)

@@ -3,7 +3,7 @@ ghost use mathlib.Core.Path.{_≡_};
 ghost use Prim.Native.Nat.{_≤_, _<_};
 ghost use lib.ListN.{length, getD};
 ghost use Rattle.graph.specs.Graph.{mostEdges};
-ghost use Rattle.graph.specs.Table.{edgeFields, edgeTable};
+ghost use Rattle.graph.specs.Table.{edgeTable};
 ghost use Rattle.graph.specs.Table.Reading.{NumbersRead, EdgesFrom, EdgesRead};
 use number::Number;
 

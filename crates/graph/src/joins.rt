@@ -1,8 +1,7 @@
 // 11: "facts differ".
 ghost use mathlib.Core.Path.{_≡_};
 ghost use mathlib.Core.List.{List};
-ghost use Prim.Native.Nat.{ℕ, _≤_};
-ghost use lib.ListN.{length};
+ghost use Prim.Native.Nat.{ℕ};
 ghost use Rattle.lists.specs.Asks.{Asks₂, Promises₂};
 ghost use Rattle.lists.specs.Lists.{firstBad};
 ghost use Rattle.rewriting.specs.Graph.{Edge};

@@ -1,6 +1,6 @@
 // How often each fact of a list of the nodes is an end of an edge: a byte for each, which stays at 2.
 ghost use mathlib.Core.Path.{_≡_};
-ghost use Prim.Native.Nat.{_≤_, _<_, _+_};
+ghost use Prim.Native.Nat.{_<_, _+_};
 ghost use lib.ListN.{length};
 ghost use Rattle.graph.specs.Table.{endAt};
 ghost use Rattle.graph.specs.Uses.{oneMore, countTable, countPlace, EndInside, EndsInside, Counted};

@@ -1,13 +1,12 @@
 -- The ruling of a graph file is what the rows say, and it passes just the dependency graphs of the protocol.
 use Prim.Native.Nat.{ℕ}
-use mathlib.Core.List.{List, _++_}
+use mathlib.Core.List.{List}
 use mathlib.Core.Logic.{_↔_}
 use mathlib.Core.Path.{_≡_, refl, ap, sym, _∙_, subst}
-use lib.ListN.{length}
 use Rattle.octets.specs.Head.{Bytes}
 use Rattle.lists.specs.All.{All}
-use Rattle.rewriting.specs.Table.{Ruling, passed, Absent, Ruled, andThen}
-use Rattle.rewriting.specs.Table.Laws.{ruled-and-then, ruled-good, passed-good, passed-absent, absent-passed}
+use Rattle.rewriting.specs.Table.{Ruling, passed, Ruled, andThen}
+use Rattle.rewriting.specs.Table.Laws.{ruled-and-then, ruled-good, passed-good, absent-passed}
 use Rattle.rewriting.specs.Causes as theory
 use Rattle.protocol.specs.Protocol.{Protocol}
 use Rattle.protocol.specs.Protocol.Limits.{Within}
@@ -19,7 +18,7 @@ use Rattle.steps.specs.Runs.Equations.{accepted-exactly}
 use Rattle.steps.specs.Runs.Theorems.{check-table, absent-exactly}
 use Rattle.steps.specs.Causes.{graphItem, readRows, readRuling}
 use Rattle.steps.specs.Causes.Laws.{read-ruled, values-ruled}
-use Rattle.graph.specs.Graph.{Graph, GraphWithin, encodeGraph, graph}
+use Rattle.graph.specs.Graph.{Graph, GraphWithin, graph}
 use Rattle.graph.specs.Graph.Exact.{graph-form, graph-back}
 use Rattle.graph.specs.Causes.{graphRows, ruling, graphFileRows, graphRuling, DependencyGraph}
 

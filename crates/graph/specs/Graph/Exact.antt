@@ -1,6 +1,6 @@
 -- A graph file is read exactly: what is within the limits reads back from its bytes, and what reads is within them and is its bytes.
 use Prim.Native.Nat.{ℕ, _+_, _<_, _≤_}
-use mathlib.Core.List.{List, [], _++_, append-nil, append-assoc}
+use mathlib.Core.List.{List, [], _++_, append-nil}
 use mathlib.Core.Bool.{Bool}
 use mathlib.Core.Logic.{_↔_}
 use mathlib.Core.Path.{_≡_, refl, ap, sym, _∙_, subst}
@@ -13,7 +13,7 @@ use Rattle.number.specs.Groups.{groups, numberLimit}
 use Rattle.number.specs.Reading.{Read, readNumber}
 use Rattle.number.specs.Layout.{listed, Exact}
 use Rattle.number.specs.Layout.Laws.{then-exact, counted-exact}
-use Rattle.rewriting.specs.Graph.{Place, Edge}
+use Rattle.rewriting.specs.Graph.{Edge}
 use Rattle.protocol.specs.Protocol.{Protocol}
 use Rattle.steps.specs.Nodes.{Node, Reading, read, broken, encodeNodes, onward, plainly, allOf, nodeList}
 use Rattle.steps.specs.Nodes.Exact.{cut-read, cut-plain, number-exact, nodes-back, nodes-form}

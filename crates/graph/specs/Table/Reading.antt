@@ -7,7 +7,7 @@ use native.Mathlib.Numerals.{add-one}
 use lib.ListN.{length, getD, drop, set, List·getD-append}
 use lib.Seq.{getD-drop, getD-set-same, getD-set-other, drop-append-seam}
 use Rattle.lists.specs.Choice.{by-size}
-use Rattle.number.specs.Reading.{Read, got, fault, andThen, readNumber, below, many, counted}
+use Rattle.number.specs.Reading.{Read, got, fault, andThen, readNumber, below, many}
 use Rattle.number.specs.Reading.Laws.{then-got, then-fault, then-then, then-ext, then-same-at}
 use Rattle.number.specs.Reading.Many.{many-split, many-snoc, many-stop, many-length, counted-got, counted-fault}
 use Rattle.rewriting.specs.Graph.{Edge}
@@ -16,7 +16,7 @@ use Rattle.graph.specs.declared.edges.Numbers.the-variants as nums
 use Rattle.graph.specs.declared.edges.Edges.{Edges}
 use Rattle.graph.specs.declared.edges.Edges.the-variants as all
 use Rattle.graph.specs.Graph.{place-of, edge-of, mostEdges, place, edge, edgeList}
-use Rattle.graph.specs.Table.{endAt, edgeAt, noEdge, edgeTable, EdgesIn}
+use Rattle.graph.specs.Table.{edgeAt, noEdge, edgeTable, EdgesIn}
 
 -- ── what code answers ──
 -- some numbers stand in the table from its start
@@ -118,7 +118,8 @@ module _ (s : List ℕ) (at : ℕ) where
       each = λ k m. by-size k j
           (λ lt. getD-set-other edges j k v 0 (λ q. omega arith) ∙ came .each k lt ∙ sym (List·getD-append (came .items) (v ∷ []) 0 k (omega (arith, long))))
           (λ ge. let q : k ≡ j = omega arith in
-          ap (λ (n : ℕ). getD (set edges j v) n 0) q ∙ getD-set-same edges j v 0 l ∙ sym (ap (λ (n : ℕ). getD (came .items ++ (v ∷ [])) n 0) (q ∙ sym long) ∙ last (came .items)));
+          ap (λ (n : ℕ). getD (set edges j v) n 0) q ∙ getD-set-same edges j v 0 l ∙ sym
+          (ap (λ (n : ℕ). getD (came .items ++ (v ∷ [])) n 0) (q ∙ sym long) ∙ last (came .items)));
     }
       where
         long : length (came .items) ≡ j
@@ -157,7 +158,8 @@ module _ (s : List ℕ) (at m : ℕ) (edges : List ℕ) (r : Numbers) (told : Nu
   edges-fault q = edges-numbers s m at ∙ then-fault (many (readNumber s) (4 * m) at) _ (as-read q)
 
 -- the count and then the edges
-pub edges-told : (s : List ℕ) (at n e : ℕ) (edges : List ℕ) (r : Edges) → below s (suc mostEdges) at ≡ got n e → EdgesFrom s e n edges r → EdgesRead s at edges r
+pub edges-told : (s : List ℕ) (at n e : ℕ) (edges : List ℕ) (r : Edges) → below s (suc mostEdges) at ≡ got n e → EdgesFrom s e n edges r → EdgesRead s at edges
+    r
 unfolding edgeList
 edges-told s at n e edges r h t =
     subst (λ (q : Read (List Edge)). EdgesTold q edges r) (sym (counted-got s (edge s) mostEdges at n e h)) t

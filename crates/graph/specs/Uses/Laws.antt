@@ -1,14 +1,12 @@
 -- One end more, and the counts of all edges.
-use Prim.Native.Nat.{ℕ, zero, suc, _+_, _*_, _-_, _≤_, _<_}
+use Prim.Native.Nat.{ℕ, zero, suc, _+_, _*_, _-_, _<_}
 use mathlib.Core.List.{List, [], _∷_}
-use mathlib.Core.Bool.{Bool, true, false}
+use mathlib.Core.Bool.{Bool, true}
 use mathlib.Core.Path.{_≡_, refl, ap, ap₂, sym, _∙_}
 use native.Mathlib.Omega.{arith}
-use native.Mathlib.Numerals.{add-one}
-use lib.Dec.{eqb}
 use lib.ListN.{length, getD, set, replicate, getD-replicate}
 use lib.Seq.{getD-set-same, getD-set-other}
-use Rattle.lists.specs.Tests.{by-bool, true-false, and-split, and-both, eqb-eq, eqb-self}
+use Rattle.lists.specs.Tests.{by-bool, true-false}
 use Rattle.lists.specs.Lists.{bit, countBy}
 use Rattle.rewriting.specs.Graph.{Place, Edge, samePlace}
 use Rattle.rewriting.specs.Places.Laws.{place-eq, place-self}
@@ -101,4 +99,5 @@ pub counts-of :
 counts-of {edges} {m} {es} stand end field same counts came k i l h =
     came k i l h
     ∙ ap (λ (n : ℕ). capped (countUp (λ j. samePlace (place-of (suc k) (suc i)) (endAt edges (edgeFields * j + field))) n)) (sym (stand .count))
-    ∙ ap capped (up-list _ (λ e. samePlace (place-of (suc k) (suc i)) (end e)) noEdge es (λ j b. ap (samePlace (place-of (suc k) (suc i))) (same j (omega (arith, stand .count)))))
+    ∙ ap capped (up-list _ (λ e. samePlace (place-of (suc k) (suc i)) (end e)) noEdge es
+    (λ j b. ap (samePlace (place-of (suc k) (suc i))) (same j (omega (arith, stand .count)))))

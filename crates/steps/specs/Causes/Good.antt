@@ -44,7 +44,7 @@ pub record RightNodes (p s nodes : List ℕ) (n : ℕ) (P : Protocol) (xs : List
   pub right : All (NodeRight P) xs
 
 -- ── laws ──
-count-of : (q : Ruling (List Node)) (n : ℕ) → passed n ≡ counted q → (xs : List Node) × (q ≡ passed xs) × (n ≡ length xs)
+pub count-of : (q : Ruling (List Node)) (n : ℕ) → passed n ≡ counted q → (xs : List Node) × (q ≡ passed xs) × (n ≡ length xs)
 count-of (passed xs) n h = (xs, refl, passed-inj n (length xs) h)
 count-of (refused a b) n h = absurd (refused-passed a b n (sym h))
 

@@ -7,9 +7,6 @@ use Prim.Native.Nat.{_-_, _≤_}
 use Rattle.graph.specs.Table.Reading.{NumbersAre, numbers-none, numbers-more, numbers-fault, numbers-end}
 use Rattle.graph.proofs.edges.read_numbers.Statement.{statement}
 use Rattle.graph.proofs.edges.read_numbers.Tie as tie
-use Rattle.graph.proofs.edges.read_numbers.Reads as reads
-use Rattle.graph.proofs.edges.read_numbers.Lts as lts
-use Rattle.number.proofs.read_number.Reads as read-number-reads
 
 abbrev Inv-loop : tie.InvT-loop
 Inv-loop s at k edges₀ i₀ j₀ edges i j =
@@ -19,60 +16,60 @@ abbrev μ-loop : tie.MeasureT-loop
 μ-loop s at k edges₀ i₀ j₀ edges i j =
     k - j
 
--- src/edges.rt:43:5
 loop-holds : tie.Need-loop-holds Inv-loop μ-loop
 loop-holds c =
     (omega arith, search needs, numbers-none _ _ _)
 
--- src/edges.rt:44:15
 read-number-requires : tie.Need-read-number-requires Inv-loop μ-loop
 read-number-requires c κs = search needs
 
--- src/edges.rt:45:27
 enum-known-v : tie.Need-enum-known-v Inv-loop μ-loop
 enum-known-v c = search needs
 
--- src/edges.rt:46:17
 mul-edges : tie.Need-mul-edges Inv-loop μ-loop
 mul-edges c =
-    omega (arith, c .before .before .before .before .before .loop .inv .1, c .before .before .before .before .before .before .before .before .pre)
+    let c5 = c .before .before .before .before .before in
+    let c8 = c5 .before .before .before in
+    omega (arith, c5 .loop .inv .1, c8 .pre)
 
--- src/edges.rt:46:17
 slice-write-edges : tie.Need-slice-write-edges Inv-loop μ-loop
 slice-write-edges c =
-    omega (arith, c .before .before .before .before .before .loop .inv .1, c .before .before .before .before .before .before .before .before .pre)
+    let c5 = c .before .before .before .before .before in
+    let c8 = c5 .before .before .before in
+    omega (arith, c5 .loop .inv .1, c8 .pre)
 
--- src/edges.rt:48:17
 add-j : tie.Need-add-j Inv-loop μ-loop
 add-j c = search needs
 
--- src/edges.rt:43:5
 loop-less : tie.Need-loop-less Inv-loop μ-loop
 loop-less c = search needs
 
--- src/edges.rt:43:5
 loop-again : tie.Need-loop-again Inv-loop μ-loop
 loop-again c =
-    (omega arith, simp length-set (c .before .before .before .before .before .loop .inv .1), numbers-more _ _ _ _ _ (c .before .before .before .before .before .loop .inv .2) _ _ (omega (arith, c .before .before .before .before .before .loop .inv .1, c .before .before .before .before .before .before .before .before .pre)) (sym (c .before .before .before .read-number .ensures) ∙ ap asRead (c .before .v .given .1)))
+    let c3 = c .before .before .before in
+    let c5 = c3 .before .before in
+    let c8 = c5 .before .before .before in (
+      omega arith,
+      simp length-set (c5 .loop .inv .1),
+      numbers-more _ _ _ _ _ (c5 .loop .inv .2) _ _ (omega (arith, c5 .loop .inv .1, c8 .pre))
+          (sym (c3 .read-number .ensures) ∙ ap asRead (c .before .v .given .1)),
+    )
 
--- src/edges.rt:51:17
 enum-told : tie.Need-enum-told Inv-loop μ-loop
 enum-told c = search needs
 
--- src/edges.rt:51:17
 same-length : tie.Need-same-length Inv-loop μ-loop
 same-length c = search needs
 
--- src/edges.rt:51:17
 returns : tie.Need-returns Inv-loop μ-loop
 returns c =
-    numbers-fault _ _ _ _ _ (c .before .before .before .before .loop .inv .2) _ (c .before .before .before .loop-test .taken) (sym (c .before .before .read-number .ensures) ∙ ap asRead (c .enum-told .given .1))
+    let c3 = c .before .before .before in
+    let c4 = c3 .before in
+    numbers-fault _ _ _ _ _ (c4 .loop .inv .2) _ (c3 .loop-test .taken) (sym (c .before .before .read-number .ensures) ∙ ap asRead (c .enum-told .given .1))
 
--- src/edges.rt:37:1
 same-length-2 : tie.Need-same-length-2 Inv-loop μ-loop
 same-length-2 c = search needs
 
--- src/edges.rt:37:1
 returns-2 : tie.Need-returns-2 Inv-loop μ-loop
 returns-2 c =
     numbers-end _ _ _ _ _ (c .before .loop .inv .2) _ (omega (arith, c .before .loop .inv .0, c .loop-test .left))

@@ -15,64 +15,68 @@ use Rattle.steps.specs.Values.Scan.{Rest, rest-all}
 use Rattle.graph.specs.Scan.{edges-listed, scan-more, scan-bad, scan-none}
 use Rattle.graph.proofs.joins.fact_pass.Statement.{statement}
 use Rattle.graph.proofs.joins.fact_pass.Tie as tie
-use Rattle.graph.proofs.joins.fact_pass.Reads as reads
-use Rattle.graph.proofs.joins.fact_pass.Lts as lts
-use Rattle.graph.proofs.joins.facts_ok.Reads as facts-ok-reads
 
 abbrev Inv-loop : tie.InvT-loop
 Inv-loop out₀ p s nodes n edges m j₀ out j =
-    (j ≤ m) × (length out ≡ length out₀) × Promises₂ (EndedIn p s nodes n edges m) (λ (P : Protocol) (g : Graph). Rest (λ k. factsOk (protocolFacts P) (rewrittens P (g .nodes))) noEdge (g .edges) j)
+    (j ≤ m) × (length out ≡ length out₀) × Promises₂ (EndedIn p s nodes n edges m)
+    (λ (P : Protocol) (g : Graph). Rest (λ k. factsOk (protocolFacts P) (rewrittens P (g .nodes))) noEdge (g .edges) j)
 
 abbrev μ-loop : tie.MeasureT-loop
 μ-loop out₀ p s nodes n edges m j₀ out j =
     m - j
 
--- src/joins.rt:58:5
 loop-holds : tie.Need-loop-holds Inv-loop μ-loop
 loop-holds c =
     (search needs, search needs, λ P g h. rest-all (λ k. factsOk (protocolFacts P) (rewrittens P (g .nodes))) noEdge (g .edges))
 
--- src/joins.rt:59:12
 facts-ok-requires : tie.Need-facts-ok-requires Inv-loop μ-loop
 facts-ok-requires c κs =
-    let (P, g, h) = c .before .before .before .before .before .before .before .before .pre .0 in
-    ((P, g .nodes, edge-in h (c .before .before .loop .j) (c .before .loop-test .taken)), room-kept _ _ _ (c .before .before .loop .inv .1) (c .before .before .before .before .before .before .before .before .pre .1))
+    let c8 = c .before .before .before .before .before .before .before .before in
+    let (P, g, h) = c8 .pre .0 in
+    ((P, g .nodes, edge-in h (c .before .before .loop .j) (c .before .loop-test .taken)), room-kept _ _ _ (c .before .before .loop .inv .1) (c8 .pre .1))
 
--- src/joins.rt:60:13
 add-j : tie.Need-add-j Inv-loop μ-loop
 add-j c = search needs
 
--- src/joins.rt:58:5
 loop-less : tie.Need-loop-less Inv-loop μ-loop
 loop-less c = search needs
 
--- src/joins.rt:58:5
 loop-again : tie.Need-loop-again Inv-loop μ-loop
 loop-again c =
-    (omega arith, omega (arith, c .before .before .before .facts-ok .kept, c .before .before .before .before .before .before .loop .inv .1), λ P g h. scan-more (edges-listed (h .graph-in .edges-in)) (λ k. factsOk (protocolFacts P) (rewrittens P (g .nodes))) (c .before .before .before .before .before .before .loop .j) (c .before .before .before .before .before .loop-test .taken) (c .before .before .before .facts-ok .ensures P (g .nodes) (edge-in h (c .before .before .before .before .before .before .loop .j) (c .before .before .before .before .before .loop-test .taken))) (c .if1 .taken) (c .before .before .before .before .before .before .loop .inv .2 P g h))
+    let c3 = c .before .before .before in
+    let c5 = c3 .before .before in
+    let c6 = c5 .before in (
+      omega arith,
+      omega (arith, c3 .facts-ok .kept, c6 .loop .inv .1),
+      λ P g h. scan-more (edges-listed (h .graph-in .edges-in))
+          (λ k. factsOk (protocolFacts P) (rewrittens P (g .nodes))) (c6 .loop .j) (c5 .loop-test .taken)
+          (c3 .facts-ok .ensures P (g .nodes) (edge-in h (c6 .loop .j) (c5 .loop-test .taken))) (c .if1 .taken) (c6 .loop .inv .2 P g h),
+    )
 
--- src/joins.rt:62:20
 add-result : tie.Need-add-result Inv-loop μ-loop
 add-result c = search needs
 
--- src/joins.rt:62:13
 same-length : tie.Need-same-length Inv-loop μ-loop
 same-length c =
-    omega (arith, c .before .before .before .facts-ok .kept, c .before .before .before .before .before .before .loop .inv .1)
+    let c3 = c .before .before .before in
+    let c6 = c3 .before .before .before in
+    omega (arith, c3 .facts-ok .kept, c6 .loop .inv .1)
 
--- src/joins.rt:62:13
 returns : tie.Need-returns Inv-loop μ-loop
 returns c =
-    λ P g h. scan-bad (edges-listed (h .graph-in .edges-in)) (λ k. factsOk (protocolFacts P) (rewrittens P (g .nodes))) (c .before .before .before .before .before .before .loop .j) (c .before .before .before .before .before .loop-test .taken) (c .before .before .before .facts-ok .ensures P (g .nodes) (edge-in h (c .before .before .before .before .before .before .loop .j) (c .before .before .before .before .before .loop-test .taken))) (c .if1 .left) (c .before .before .before .before .before .before .loop .inv .2 P g h)
+    let c3 = c .before .before .before in
+    let c5 = c3 .before .before in
+    let c6 = c5 .before in
+    λ P g h. scan-bad (edges-listed (h .graph-in .edges-in)) (λ k. factsOk (protocolFacts P) (rewrittens P (g .nodes))) (c6 .loop .j) (c5 .loop-test .taken)
+    (c3 .facts-ok .ensures P (g .nodes) (edge-in h (c6 .loop .j) (c5 .loop-test .taken))) (c .if1 .left) (c6 .loop .inv .2 P g h)
 
--- src/joins.rt:45:1
 same-length-2 : tie.Need-same-length-2 Inv-loop μ-loop
 same-length-2 c = search needs
 
--- src/joins.rt:45:1
 returns-2 : tie.Need-returns-2 Inv-loop μ-loop
 returns-2 c =
-    λ P g h. scan-none (edges-listed (h .graph-in .edges-in)) (λ k. factsOk (protocolFacts P) (rewrittens P (g .nodes))) (c .before .loop .j) (omega arith) (c .before .loop .inv .2 P g h)
+    λ P g h. scan-none (edges-listed (h .graph-in .edges-in)) (λ k. factsOk (protocolFacts P) (rewrittens P (g .nodes))) (c .before .loop .j) (omega arith)
+    (c .before .loop .inv .2 P g h)
 
 pub fact-pass-spec : {M : Type 1} → statement M
 fact-pass-spec =

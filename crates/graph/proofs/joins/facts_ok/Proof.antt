@@ -7,85 +7,82 @@ use Rattle.graph.specs.Joins.{source-end, target-end, facts-in, facts-ag
 use borrow.Author.Needs.{needs}
 use Rattle.graph.proofs.joins.facts_ok.Statement.{statement}
 use Rattle.graph.proofs.joins.facts_ok.Tie as tie
-use Rattle.graph.proofs.joins.facts_ok.Reads as reads
-use Rattle.graph.proofs.joins.facts_ok.Lts as lts
-use Rattle.facts.proofs.compare.same_fact.Reads as same-fact-reads
-use Rattle.graph.proofs.edges.number_at.Reads as number-at-reads
 
--- src/joins.rt:29:16
 mul-from : tie.Need-mul-from
 mul-from c = search needs
 
--- src/joins.rt:29:16
 add-from : tie.Need-add-from
 add-from c = search needs
 
--- src/joins.rt:30:14
 mul-to : tie.Need-mul-to
 mul-to c = search needs
 
--- src/joins.rt:30:14
 add-to : tie.Need-add-to
 add-to c = search needs
 
--- src/joins.rt:32:15
 number-at-requires : tie.Need-number-at-requires
 number-at-requires c κs = search needs
 
--- src/joins.rt:32:15
 sub-t12 : tie.Need-sub-t12
 sub-t12 c =
     let (P, xs, h) = c .before .before .before .before .before .before .pre .0 in omega (arith, c .number-at .ensures, source-end h .is .node-is)
 
--- src/joins.rt:34:41
 add-number-at : tie.Need-add-number-at
 add-number-at c = search needs
 
--- src/joins.rt:34:17
 number-at-requires-2 : tie.Need-number-at-requires-2
 number-at-requires-2 c κs = search needs
 
--- src/joins.rt:34:17
 sub-t15 : tie.Need-sub-t15
 sub-t15 c =
     let (P, xs, h) = c .before .before .before .before .before .before .before .pre .0 in omega (arith, c .number-at2 .ensures, source-end h .is .index-is)
 
--- src/joins.rt:37:15
 number-at-requires-3 : tie.Need-number-at-requires-3
 number-at-requires-3 c κs = search needs
 
--- src/joins.rt:37:15
 sub-t15-2 : tie.Need-sub-t15-2
 sub-t15-2 c =
-    let (P, xs, h) = c .before .before .before .before .before .before .before .before .pre .0 in omega (arith, c .number-at3 .ensures, target-end h .is .node-is)
+    let (P, xs, h) = c .before .before .before .before .before .before .before .before .pre .0 in omega
+    (arith, c .number-at3 .ensures, target-end h .is .node-is)
 
--- src/joins.rt:39:41
 add-number-at-2 : tie.Need-add-number-at-2
 add-number-at-2 c = search needs
 
--- src/joins.rt:39:17
 number-at-requires-4 : tie.Need-number-at-requires-4
 number-at-requires-4 c κs = search needs
 
--- src/joins.rt:39:17
 sub-t12-2 : tie.Need-sub-t12-2
 sub-t12-2 c =
-    let (P, xs, h) = c .before .before .before .before .before .before .before .before .before .pre .0 in omega (arith, c .number-at4 .ensures, target-end h .is .index-is)
+    let (P, xs, h) = c .before .before .before .before .before .before .before .before .before .pre .0 in omega
+    (arith, c .number-at4 .ensures, target-end h .is .index-is)
 
--- src/joins.rt:41:5
 same-fact-requires : tie.Need-same-fact-requires
 same-fact-requires c κs =
-    let (P, xs, h) = c .before .before .before .before .before .before .before .before .before .before .pre .0 in
-    ((P, getD xs (c .before .before .before .before .number-at .result - 1) noNode, getD xs (c .before .before .number-at3 .result - 1) noNode, facts-in h (c .before .before .before .before .number-at .ensures) (c .before .before .before .number-at2 .ensures) (c .before .before .number-at3 .ensures) (c .before .number-at4 .ensures)), c .before .before .before .before .before .before .before .before .before .before .pre .1)
+    let c3 = c .before .before .before in
+    let c4 = c3 .before in
+    let c10 = c4 .before .before .before .before .before .before in
+    let (P, xs, h) = c10 .pre .0 in (
+      (
+        P,
+        getD xs (c4 .number-at .result - 1) noNode,
+        getD xs (c .before .before .number-at3 .result - 1) noNode,
+        facts-in h (c4 .number-at .ensures)
+            (c3 .number-at2 .ensures) (c .before .before .number-at3 .ensures) (c .before .number-at4 .ensures),
+      ),
+      c10 .pre .1,
+    )
 
--- src/joins.rt:25:1
 same-length : tie.Need-same-length
 same-length c = search needs
 
--- src/joins.rt:25:1
 returns : tie.Need-returns
 returns c =
-    λ P xs h. c .before .before .same-fact .ensures P _ _ (facts-in h (c .before .before .before .before .before .before .before .number-at .ensures) (c .before .before .before .before .before .before .number-at2 .ensures) (c .before .before .before .before .before .number-at3 .ensures) (c .before .before .before .before .number-at4 .ensures)) ∙ facts-agree h (c .before .before .before .before .before .before .before .number-at .ensures) (c .before .before .before .before .before .before .number-at2 .ensures) (c .before .before .before .before .before .number-at3 .ensures) (c .before .before .before .before .number-at4 .ensures)
+    let c4 = c .before .before .before .before in
+    let c5 = c4 .before in
+    let c6 = c5 .before in
+    let c7 = c6 .before in
+    λ P xs h. c .before .before .same-fact .ensures P _ _ (facts-in h (c7 .number-at .ensures) (c6 .number-at2 .ensures) (c5 .number-at3 .ensures)
+    (c4 .number-at4 .ensures)) ∙ facts-agree h (c7 .number-at .ensures) (c6 .number-at2 .ensures) (c5 .number-at3 .ensures) (c4 .number-at4 .ensures)
 
 pub facts-ok-spec : {M : Type 1} → statement M
 facts-ok-spec =

@@ -1,5 +1,5 @@
 use mathlib.Core.Bool.{Bool, not, _||_}
-use mathlib.Core.Path.{ap, ap₂, sym, _∙_}
+use mathlib.Core.Path.{ap₂, sym, _∙_}
 use Rattle.facts.specs.Calls.{factAt}
 use Rattle.steps.specs.Facts.{isLinear}
 use Rattle.lists.specs.Tests.{or-right}
@@ -7,28 +7,24 @@ use borrow.Author.Tests.{le-leb, lt-leb}
 use borrow.Author.Needs.{needs}
 use Rattle.graph.proofs.passes.one_out.Statement.{statement}
 use Rattle.graph.proofs.passes.one_out.Tie as tie
-use Rattle.graph.proofs.passes.one_out.Reads as reads
-use Rattle.graph.proofs.passes.one_out.Lts as lts
-use Rattle.facts.proofs.symbols.is_linear.Reads as is-linear-reads
 
--- src/passes.rt:69:9
 returns : tie.Need-returns
 returns c =
-    λ s P m h. sym (or-right (not (isLinear P (factAt P (c .before .before .before .args .x .list) (c .before .before .before .args .x .number) m))) _ (le-leb (c .before .before .before .args .count) 1 (c .if1 .taken)))
+    let c3 = c .before .before .before in
+    λ s P m h. sym (or-right (not (isLinear P (factAt P (c3 .args .x .list) (c3 .args .x .number) m))) _ (le-leb (c3 .args .count) 1 (c .if1 .taken)))
 
--- src/passes.rt:71:8
 is-linear-requires : tie.Need-is-linear-requires
 is-linear-requires c κs = search needs
 
--- src/passes.rt:72:9
 returns-2 : tie.Need-returns-2
 returns-2 c =
-    λ s P m h. sym (ap₂ (λ (a b : Bool). not a || b) (sym (c .before .is-linear .ensures s P m h) ∙ c .if2 .taken) (lt-leb (c .before .before .before .before .before .args .count) 1 (c .before .before .if1 .left)))
+    λ s P m h. sym (ap₂ (λ (a b : Bool). not a || b) (sym (c .before .is-linear .ensures s P m h) ∙ c .if2 .taken)
+    (lt-leb (c .before .before .before .before .before .args .count) 1 (c .before .before .if1 .left)))
 
--- src/passes.rt:64:1
 returns-3 : tie.Need-returns-3
 returns-3 c =
-    λ s P m h. sym (ap₂ (λ (a b : Bool). not a || b) (sym (c .before .is-linear .ensures s P m h) ∙ c .if2 .left) (lt-leb (c .before .before .before .before .before .args .count) 1 (c .before .before .if1 .left)))
+    λ s P m h. sym (ap₂ (λ (a b : Bool). not a || b) (sym (c .before .is-linear .ensures s P m h) ∙ c .if2 .left)
+    (lt-leb (c .before .before .before .before .before .args .count) 1 (c .before .before .if1 .left)))
 
 pub one-out-spec : {M : Type 1} → statement M
 one-out-spec = tie.close (tie.spec returns is-linear-requires returns-2 returns-3)

@@ -6,19 +6,14 @@ use borrow.Author.Tests.{lt-ltb, le-ltb}
 use borrow.Author.Needs.{needs}
 use Rattle.graph.proofs.uses.one_more.Statement.{statement}
 use Rattle.graph.proofs.uses.one_more.Tie as tie
-use Rattle.graph.proofs.uses.one_more.Reads as reads
-use Rattle.graph.proofs.uses.one_more.Lts as lts
 
--- src/uses.rt:20:16
 add-result : tie.Need-add-result
 add-result c = search needs
 
--- src/uses.rt:20:9
 returns : tie.Need-returns
 returns c =
     sym (ap (λ (b : Bool). pick b (c .before .args .count + 1) 2) (lt-ltb (c .before .args .count) 2 (c .if1 .taken)))
 
--- src/uses.rt:16:1
 returns-2 : tie.Need-returns-2
 returns-2 c =
     sym (ap (λ (b : Bool). pick b (c .before .args .count + 1) 2) (le-ltb (c .before .args .count) 2 (c .if1 .left)))
