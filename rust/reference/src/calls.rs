@@ -1,7 +1,7 @@
 //! The exported calls: outcome, output and work area, as the refusal table says.
 
 use crate::canonical;
-use crate::graph::{accept, read_edges, write_edges};
+use crate::graph::{accept, read_edges, write_edges, Edge};
 use crate::judge::holds;
 use crate::number::{Fault, Read, Reader};
 use crate::property;
@@ -122,8 +122,8 @@ fn fit_property(bytes: &[u8], protocol: &Protocol) -> Judged<property::Formula> 
     Ok(property)
 }
 
-/// "then the graph front to back for 3 and 6, then 7 to 13"
-fn ruling(protocol: &Protocol, property: &property::Formula, graph: &[u8]) -> Judged<Outcome> {
+/// "then the graph front to back for 3 and 6, then 7 to 13": the nodes and edges of an accepted graph.
+pub fn ruled_graph(protocol: &Protocol, graph: &[u8]) -> Judged<(Vec<Node>, Vec<Edge>)> {
     let mut reader = Reader::new(graph);
     let steps = read_steps(File::Graph, &mut reader, protocol)?;
     let edges = File::Graph.layout(read_edges(&mut reader))?;
@@ -131,7 +131,12 @@ fn ruling(protocol: &Protocol, property: &property::Formula, graph: &[u8]) -> Ju
     let nodes = nodes(&steps)?;
     names_made_once(&nodes)?;
     accept(protocol, &nodes, &edges)?;
+    Ok((nodes, edges))
+}
 
+/// The graph, and the property over its trace.
+fn ruling(protocol: &Protocol, property: &property::Formula, graph: &[u8]) -> Judged<Outcome> {
+    let (nodes, edges) = ruled_graph(protocol, graph)?;
     let trace: Vec<&[Fact]> = nodes.iter().map(|node| &node.actions[..]).collect();
     let with_action = trace.iter().filter(|actions| !actions.is_empty()).count();
     let counts = Counts {

@@ -4,14 +4,15 @@
 //!
 //! - bytes.txt: `number | LABEL | BYTES` and `term | LABEL | ARITIES | BYTES`
 //! - messages.txt: `LABEL | ARITIES | BYTES`
-//! - steps.txt and facts.txt: `LABEL | PROTOCOL | BYTES`
+//! - steps.txt, facts.txt and graphs.txt: `LABEL | PROTOCOL | BYTES`
 //!
 //! ARITIES are those of the free functions, in decimal, free function 0 first; PROTOCOL and BYTES are
 //! bytes as `notation::bytes` reads them. Each may be empty. A case's number is its place among the cases
 //! of its file, from 1.
 
-use crate::calls::{fit_protocol, ruled_steps, Outcome};
+use crate::calls::{fit_protocol, ruled_graph, ruled_steps, Outcome};
 use crate::canonical::canonical_form;
+use crate::graph::Edge;
 use crate::notation;
 use crate::number::{Read, Reader};
 use crate::protocol::Fact;
@@ -27,13 +28,14 @@ pub enum Kind {
     Message,
     Steps,
     Facts,
+    Graph,
 }
 
 #[derive(Clone, Debug)]
 pub struct Case {
     pub kind: Kind,
     pub label: String,
-    /// What the bytes are read under: the arity of each free function, or of a step list the protocol file.
+    /// What the bytes are read under: the arity of each free function, or of nodes the protocol file.
     pub under: Vec<u8>,
     pub bytes: Vec<u8>,
 }
@@ -67,7 +69,12 @@ pub fn facts_cases(text: &str) -> Vec<Case> {
     under_protocols(Kind::Facts, text)
 }
 
-/// Step lists, each under its protocol.
+/// The cases of graphs.txt.
+pub fn graphs_cases(text: &str) -> Vec<Case> {
+    under_protocols(Kind::Graph, text)
+}
+
+/// Step lists or graphs, each under its protocol.
 fn under_protocols(kind: Kind, text: &str) -> Vec<Case> {
     let case = |fields: &[&str]| match fields {
         [label, protocol, bytes] => case(kind, label, notation::bytes(protocol), bytes),
@@ -111,8 +118,11 @@ impl Case {
             Kind::Number => self.number(),
             Kind::Term => self.term(),
             Kind::Message => self.message(),
-            Kind::Steps => Ok(self.ruled(|nodes| format!("good {}", nodes.len()))),
-            Kind::Facts => Ok(self.ruled(same_facts)),
+            Kind::Steps => Ok(said(self.nodes(), |nodes| format!("good {}", nodes.len()))),
+            Kind::Facts => Ok(said(self.nodes(), |nodes| same_facts(&nodes))),
+            Kind::Graph => Ok(said(self.graph(), |(nodes, edges)| {
+                format!("good {} {}", nodes.len(), edges.len())
+            })),
         };
         outcome.unwrap_or_else(|_| "fault".to_string())
     }
@@ -136,27 +146,25 @@ impl Case {
         Ok(hexadecimal(&canonical_form(&prefix.tree()).encoded()))
     }
 
-    /// What is said of the nodes where no cause from 3 to 9 is there; the refusal otherwise.
-    fn ruled(&self, say: impl Fn(&[Node]) -> String) -> String {
-        match self.nodes() {
-            Ok(nodes) => say(&nodes),
-            Err(refusal) => Outcome::Refused(refusal).to_string(),
-        }
-    }
-
     /// The nodes of a step list.
     pub fn nodes(&self) -> Judged<Vec<Node>> {
         ruled_steps(&fit_protocol(&self.under)?, &self.bytes)
     }
 
-    /// The case for a test program: 0 for a number, 1 for a term or a message, 2 for a step list; the
-    /// length of what it is read under, and that; the length of the bytes, and the bytes. A length is two
-    /// bytes, low byte first.
+    /// The nodes and edges of a graph.
+    pub fn graph(&self) -> Judged<(Vec<Node>, Vec<Edge>)> {
+        ruled_graph(&fit_protocol(&self.under)?, &self.bytes)
+    }
+
+    /// The case for a test program: 0 for a number, 1 for a term or a message, 2 for a step list, 3 for a
+    /// graph; the length of what it is read under, and that; the length of the bytes, and the bytes. A
+    /// length is two bytes, low byte first.
     pub fn data(&self) -> Vec<u8> {
         let mut data = vec![match self.kind {
             Kind::Number => 0,
             Kind::Term | Kind::Message => 1,
             Kind::Steps | Kind::Facts => 2,
+            Kind::Graph => 3,
         }];
         for part in [&self.under, &self.bytes] {
             let length = u16::try_from(part.len()).expect("a length of two bytes");
@@ -164,6 +172,14 @@ impl Case {
             data.extend(part);
         }
         data
+    }
+}
+
+/// What is said of what is good, or the refusal.
+fn said<T>(judged: Judged<T>, say: impl Fn(T) -> String) -> String {
+    match judged {
+        Ok(good) => say(good),
+        Err(refusal) => Outcome::Refused(refusal).to_string(),
     }
 }
 

@@ -1,7 +1,7 @@
 //! The case files say what their labels say.
 
 use reference::cases::{
-    bytes_cases, data, facts, facts_cases, message_cases, steps_cases, Case, Kind,
+    bytes_cases, data, facts, facts_cases, graphs_cases, message_cases, steps_cases, Case, Kind,
 };
 use reference::notation::parse;
 use reference::number::{Reader, LARGEST};
@@ -13,6 +13,7 @@ const BYTES: &str = include_str!("../../../tests/cases/bytes.txt");
 const MESSAGES: &str = include_str!("../../../tests/cases/messages.txt");
 const STEPS: &str = include_str!("../../../tests/cases/steps.txt");
 const FACTS: &str = include_str!("../../../tests/cases/facts.txt");
+const GRAPHS: &str = include_str!("../../../tests/cases/graphs.txt");
 
 #[test]
 fn a_message_is_its_label() {
@@ -55,14 +56,26 @@ fn a_term_that_is_said_to_be_cut_off_is_a_fault() {
     assert!(outcomes.iter().all(|outcome| outcome == "fault"));
 }
 
-/// The label of a step list is its outcome by document 01, a colon, and words.
+/// The label of a step list or a graph is its outcome by document 01, a colon, and words.
 #[test]
-fn a_step_list_has_the_outcome_of_its_label() {
-    let cases = steps_cases(STEPS);
-    assert!(cases.len() > 300);
-    for case in &cases {
-        let (outcome, _) = case.label.split_once(": ").expect(&case.label);
-        assert_eq!(case.outcome(), outcome, "{}", case.label);
+fn step_lists_and_graphs_have_the_outcomes_of_their_labels() {
+    for cases in [steps_cases(STEPS), graphs_cases(GRAPHS)] {
+        assert!(cases.len() > 300);
+        for case in &cases {
+            let (outcome, _) = case.label.split_once(": ").expect(&case.label);
+            assert_eq!(case.outcome(), outcome, "{}", case.label);
+        }
+    }
+}
+
+/// Good graphs, and each cause that a graph under a fit protocol can have.
+#[test]
+fn graphs_have_each_outcome_several_times() {
+    let outcomes: Vec<String> = graphs_cases(GRAPHS).iter().map(Case::outcome).collect();
+    let refused = [3, 6, 7, 8, 9, 10, 11, 12, 13].map(|number| format!("refused {number} "));
+    for kind in ["good ".to_string()].iter().chain(&refused) {
+        let of_kind = outcomes.iter().filter(|outcome| outcome.starts_with(kind));
+        assert!(of_kind.count() >= 5, "{kind}");
     }
 }
 
@@ -93,9 +106,10 @@ fn facts_and_arguments_fit_their_program() {
 }
 
 #[test]
-fn a_step_list_has_as_many_symbols_as_its_label_says() {
+fn nodes_have_as_many_symbols_as_their_labels_say() {
     let mut counted = 0;
-    for case in steps_cases(STEPS).iter().chain(&facts_cases(FACTS)) {
+    let cases = [steps_cases(STEPS), facts_cases(FACTS), graphs_cases(GRAPHS)];
+    for case in cases.iter().flatten() {
         if let Some(count) = count_of_symbols(&case.label) {
             assert!(largest(case).contains(&count), "{}", case.label);
             counted += 1;
@@ -138,20 +152,22 @@ fn filled_in(term: &Term, sizes: &[usize]) -> usize {
     1 + parts.sum::<usize>()
 }
 
-/// A test program reads 65,536 bytes at most, and a step list's cause 2 is not its matter.
+/// A test program reads 65,536 bytes at most, and cause 2 is not its matter.
 #[test]
 fn the_cases_fit_their_programs() {
-    let (steps, facts) = (steps_cases(STEPS), facts_cases(FACTS));
-    for cases in [
-        &bytes_cases(BYTES),
-        &message_cases(MESSAGES),
-        &steps,
-        &facts,
-    ] {
-        assert!(data(cases).len() <= 65_536);
+    let nodes = [
+        (File::Steps, steps_cases(STEPS)),
+        (File::Steps, facts_cases(FACTS)),
+        (File::Graph, graphs_cases(GRAPHS)),
+    ];
+    for cases in [bytes_cases(BYTES), message_cases(MESSAGES)] {
+        assert!(data(&cases).len() <= 65_536);
     }
-    for case in steps.iter().chain(&facts) {
-        assert_eq!(File::Protocol.within_limit(&case.under), Ok(()));
-        assert_eq!(File::Steps.within_limit(&case.bytes), Ok(()));
+    for (file, cases) in &nodes {
+        assert!(data(cases).len() <= 65_536);
+        for case in cases {
+            assert_eq!(File::Protocol.within_limit(&case.under), Ok(()));
+            assert_eq!(file.within_limit(&case.bytes), Ok(()));
+        }
     }
 }
