@@ -7,10 +7,7 @@ use Rattle.lists.specs.Asks.{Asks, Promises, Asks₂}
 use Rattle.octets.specs.Limits.{longest}
 use Rattle.octets.specs.Head.{Bytes}
 use Rattle.protocol.specs.Protocol.{Protocol}
-use Rattle.rules.specs.declared.fit.FitVerdict.{FitVerdict}
-use Rattle.rules.specs.declared.fit.FitVerdict.the-variants.{Sound}
 use Rattle.prepared.specs.Prepared.{Prepared}
-use Rattle.prepared.specs.Lists.{WherePrepared}
 use Rattle.steps.specs.Table.{tableLength}
 use Rattle.steps.specs.Causes.Good as steps
 use Rattle.steps.specs.Causes.Good.{RightNodes, good-right}
@@ -22,12 +19,6 @@ use Rattle.case_nodes.specs.declared.Ruled.the-variants.{Good, Refused}
 abbrev pub WhereGood : List ℕ → List ℕ → List ℕ → Ruled → Type 0
 WhereGood p s nodes (Good n) = Asks₂ (RightNodes p s nodes n)
 WhereGood p s nodes (Refused number item) = Unit {0}
-
--- as the judgement of the protocol says
-pub prepared-case : (file : List ℕ) {p : List ℕ} {r : FitVerdict} {ns nr : ℕ} → r ≡ Sound ns nr → WherePrepared file r p → Asks (Prepared p)
-prepared-case file {p} is h =
-    let g = subst (λ (v : FitVerdict). WherePrepared file v p) is h in
-    (g .its, g .is)
 
 -- as the ruling of the step list says
 pub right-nodes :
