@@ -5,6 +5,7 @@ pub mod step_lists;
 
 use levtosziv::{Refusal, Written};
 use reference::calls::Outcome;
+use reference::cases::{data, expected, Case};
 use std::collections::BTreeMap;
 use std::io::Write;
 use std::path::Path;
@@ -122,6 +123,32 @@ pub fn program(name: &str, input: &[u8]) -> String {
     drop(stdin);
     let output = child.wait_with_output().expect("its output");
     String::from_utf8(output.stdout).expect("a text")
+}
+
+/// As many cases as fill a program's input.
+pub fn fill_input(mut make: impl FnMut() -> Case) -> Vec<Case> {
+    let (mut cases, mut length) = (Vec::new(), 0);
+    loop {
+        let case = make();
+        length += case.data().len();
+        if length > MOST_INPUT {
+            return cases;
+        }
+        cases.push(case);
+    }
+}
+
+/// A test program beside the reference: the same line for each case.
+pub fn program_agrees(name: &str, cases: &[Case]) {
+    let (ours, theirs) = (program(name, &data(cases)), expected(cases));
+    for (case, (our, their)) in cases.iter().zip(ours.lines().zip(theirs.lines())) {
+        assert_eq!(
+            our, their,
+            "{name}: {:02X?} {:02X?}",
+            case.under, case.bytes
+        );
+    }
+    assert_eq!(ours.lines().count(), cases.len(), "{name}");
 }
 
 /// How often each kind of outcome came, and the least share of each, in hundredths of a percent.

@@ -1,9 +1,9 @@
 //! Step lists and the facts of their nodes beside the reference: the test programs over random inputs from a
 //! fixed seed, mostly good ones, some damaged.
 
-use differential::{program, Shares, MOST_INPUT};
+use differential::{fill_input, program_agrees, Shares};
 use reference::calls::Outcome;
-use reference::cases::{data, expected, facts, Case, Kind};
+use reference::cases::{facts, Case, Kind};
 use reference::generate::graphs::draw_input;
 use reference::random::Random;
 use reference::refusal::File;
@@ -30,19 +30,6 @@ fn step_list(random: &mut Random) -> Case {
     }
 }
 
-/// Step lists that fill a program's input.
-fn step_lists(random: &mut Random) -> Vec<Case> {
-    let (mut cases, mut length) = (Vec::new(), 0);
-    loop {
-        let case = step_list(random);
-        length += case.data().len();
-        if length > MOST_INPUT {
-            return cases;
-        }
-        cases.push(case);
-    }
-}
-
 fn has_few_facts(case: &Case) -> bool {
     let Ok(nodes) = case.nodes() else {
         return true;
@@ -52,35 +39,23 @@ fn has_few_facts(case: &Case) -> bool {
     facts.len() <= MOST_FACTS && arguments <= MOST_ARGUMENTS
 }
 
-fn agrees(name: &str, cases: &[Case]) {
-    let (ours, theirs) = (program(name, &data(cases)), expected(cases));
-    for (case, (our, their)) in cases.iter().zip(ours.lines().zip(theirs.lines())) {
-        assert_eq!(
-            our, their,
-            "{name}: {:02X?} {:02X?}",
-            case.under, case.bytes
-        );
-    }
-    assert_eq!(ours.lines().count(), cases.len(), "{name}");
-}
-
 #[test]
 fn nodes_beside_the_reference() {
     let mut random = Random::new(29);
     let mut shares = Shares::default();
     let mut compared = 0;
     for _ in 0..ROUNDS {
-        let mut cases = step_lists(&mut random);
+        let mut cases = fill_input(|| step_list(&mut random));
         for case in &cases {
             match case.nodes() {
                 Ok(_) => shares.count("good".to_string()),
                 Err(refusal) => shares.add(Outcome::Refused(refusal)),
             }
         }
-        agrees("cases_steps", &cases);
+        program_agrees("cases_steps", &cases);
         cases.retain(has_few_facts);
         cases.iter_mut().for_each(|case| case.kind = Kind::Facts);
-        agrees("cases_facts", &cases);
+        program_agrees("cases_facts", &cases);
         compared += cases.len();
     }
     shares.print();
