@@ -10,13 +10,6 @@ use case_nodes::Fitness;
 use graph::ruling;
 use graph::ruling::GraphRuling;
 
-// "count of edges (4,096), each source node, conclusion, target node, premise"
-const MOST_EDGES: usize = 4096;
-
-const FIELDS: usize = 4;
-
-const EDGES: usize = FIELDS * MOST_EDGES;
-
 // The room for the canonical bytes of two facts.
 const WORK: usize = 2 * facts::writing::FACT_ROOM;
 
@@ -25,7 +18,7 @@ fn show_ruling(p: &[u8; case_nodes::PREPARED], file: &[u8])
     requires { ⌜ Asks (Prepared (now p)) × (length (now file) ≤ room) ⌝ }
 {
     let mut nodes = [0usize; case_nodes::TABLE];
-    let mut edges = [0u32; EDGES];
+    let mut edges = [0u32; graph::edges::TABLE];
     let mut work = [0u8; WORK];
     match ruling::rule_graph(p, file, &mut nodes, &mut edges, &mut work) {
         GraphRuling::Good(n, m) => {

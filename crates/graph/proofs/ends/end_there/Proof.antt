@@ -32,7 +32,7 @@ fact-count-requires : tie.Need-fact-count-requires
 fact-count-requires c κs =
     let c5 = c .before .before .before .before .before in
     let (s, P, xs, h) = c5 .pre .0 in
-    ((s, P, getD xs (c5 .args .node - 1) noNode, node-in h (c5 .args .node - 1) (omega arith)), c5 .pre .1)
+    ((s, P, getD xs (c5 .args .node - 1) noNode, node-in h (c5 .args .node - 1) (omega arith)), omega (arith, c5 .pre .1))
 
 returns-4 : tie.Need-returns-4
 returns-4 c =
