@@ -14,6 +14,9 @@ use Rattle.property.specs.Figures.{falseTag, equalTag, beforeTag, sameTi
 use Rattle.property.specs.Figures.{mostNew, timeSort, mostScope, mostNesting, termTags}
 use Rattle.property.specs.Formula.{Sort, msg, tmp, Term, var, public, Pattern, pattern-of, Atom, equal, before, together, action, Formula}
 use Rattle.property.specs.Formula.{absurdity, is, isnt, both, either, exists, every}
+-- what is within the limits reads back from its bytes, and what reads is within them and stands there
+pub mod Parts
+pub mod Exact
 
 -- ── parts of a formula ──
 -- "fact, time variable"
@@ -95,6 +98,10 @@ encodeFormula (every s g i f) = groups everyTag ++ (encodeHead (head-of s (timed
 abbrev pub termOf : ℕ → ℕ → Term
 termOf tag n = pick (eqb tag variableTag) (var n) (public n)
 
+-- an atom of two times, by whether it is before
+abbrev pub timesOf : Bool → ℕ → ℕ → Atom
+timesOf q i j = pick q (before i j) (together i j)
+
 module _ (file : List ℕ) where
   -- "Only tags 0 and 1 stand for terms here."
   unfoldable pub termAt : ℕ → Read Term
@@ -108,9 +115,6 @@ module _ (file : List ℕ) where
   equalAt at = andThen (termAt at) (λ t e. andThen (termAt e) (λ u d. got (equal t u) d))
 
   -- "before, .. same time .. (two time variables)"
-  abbrev pub timesOf : Bool → ℕ → ℕ → Atom
-  timesOf q i j = pick q (before i j) (together i j)
-
   unfoldable pub timesAt : Bool → ℕ → Read Atom
   timesAt q at = andThen (readNumber file at) (λ i e. andThen (readNumber file e) (λ j d. got (timesOf q i j) d))
 

@@ -4,9 +4,11 @@ use mathlib.Core.List.{List}
 use mathlib.Core.Path.{_≡_}
 use lib.Dec.{eqb}
 use Rattle.number.specs.Reading.{got, readNumber}
-use Rattle.property.specs.Figures.{falseTag, equalTag, andTag, orTag, existsTag, everyTag}
+use Rattle.property.specs.Figures.{falseTag, andTag, orTag, existsTag, everyTag}
 use Rattle.property.specs.Formula.{Atom, Formula, absurdity}
 use Rattle.property.specs.Layout.{Head, headAt, atomAt, signed, asserts, paired, quantified}
+-- what the reader got is written so; under a table of arities with more slots
+pub mod Laws
 
 pub data Reads (file ars : List ℕ) : ℕ → Formula → ℕ → Type 0 where
   r-false : {at k : ℕ} → readNumber file at ≡ got falseTag k → Reads file ars at absurdity k
