@@ -9,6 +9,14 @@ use Rattle.property.specs.Formula.{Sort, msg, tmp, Term, Pattern, Atom, 
 use Rattle.property.specs.Formula.{absurdity, is, isnt, both, either, exists, every}
 use Rattle.property.specs.Fit.{isVar}
 use Rattle.property.specs.Meaning.{Messages, Value, message, time, Fact, Entry, Trace, timeAt, termUnder, factUnder}
+-- a test of the entries, and the actions of nodes
+pub mod Entries
+-- the judge decides what a fit property means
+pub mod Decides
+-- it sees of messages only which are the same
+pub mod Natural
+-- numbers for messages
+pub mod Numbers
 
 -- every action of every node, the nodes numbered from k
 abbrev pub entriesFrom : {A : Type 0} → ℕ → Trace A → List (Entry A)

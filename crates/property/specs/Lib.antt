@@ -4,8 +4,9 @@
 pub mod Figures
 -- formulas, and the limits of a property file
 pub mod Formula
--- answers that decide a statement, for crate lists
+-- for crate lists: answers that decide a statement; two lists place by place
 pub mod Reflects
+pub mod Pairs
 -- cause 5: scopes, sorts, guards; the test decides it
 pub mod Fit
 -- a property file: its bytes, its reading, exact in both directions
@@ -17,3 +18,5 @@ pub mod Meaning
 pub mod Times
 -- the judge: every guard compared with every action of every node
 pub mod Judge
+-- the truth of a property over document 01's messages: no parameter is left
+pub mod Truth

@@ -8,8 +8,12 @@ use Prim.Native.Nat.{ℕ, zero, suc, _<_}
 use Rattle.lists.specs.Lists.{_∈_, nth}
 use Rattle.steps.specs.Facts.Messages.{orNone}
 use Rattle.property.specs.Reflects.{Reflects}
+use Rattle.property.specs.Pairs.{Pairs}
 use Rattle.property.specs.Formula.{Sort, msg, tmp, Term, var, public, Pattern, Atom, equal, before, together, action, Formula}
 use Rattle.property.specs.Formula.{absurdity, is, isnt, both, either, exists, every}
+-- values that are alike; equal messages change nothing
+pub mod Alike
+pub mod Invariant
 
 -- Messages: an equality, a test that decides it, and the public names.
 pub record Messages : Type 1 where
@@ -85,16 +89,10 @@ module _ (M : Messages) {B : Type 0} where
   abbrev pub factUnder : List (Value (M .Msg) B) → Pattern → Fact (M .Msg)
   factUnder v g = record { symbol = g .symbol; messages = map (termUnder v) (g .terms) }
 
--- equal messages one by one, and equal facts
+-- "equal facts count as the same fact": the same symbol, and equal messages one by one
 module _ (M : Messages) where
-  abbrev pub SameAll : List (M .Msg) → List (M .Msg) → Type 0
-  SameAll [] [] = Unit {0}
-  SameAll [] (b ∷ m) = ⊥
-  SameAll (a ∷ l) [] = ⊥
-  SameAll (a ∷ l) (b ∷ m) = M .Same a b × SameAll l m
-
   abbrev pub SameFact : Fact (M .Msg) → Fact (M .Msg) → Type 0
-  SameFact f e = (f .symbol ≡ e .symbol) × SameAll (f .messages) (e .messages)
+  SameFact f e = (f .symbol ≡ e .symbol) × Pairs (M .Same) (f .messages) (e .messages)
 
 module _ (M : Messages) (S : Times) (tr : Trace (M .Msg)) where
   -- the values of the variables in scope, the outermost first
