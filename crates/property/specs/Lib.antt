@@ -20,3 +20,6 @@ pub mod Times
 pub mod Judge
 -- the truth of a property over document 01's messages: no parameter is left
 pub mod Truth
+-- ── for the code ──
+-- what code answers of a property file
+pub mod Walk

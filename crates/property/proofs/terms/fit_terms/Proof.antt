@@ -1,0 +1,81 @@
+use borrow.Author.Needs.{needs}
+use Rattle.property.specs.Walk.Chain.{each-none, each-more, each-stop}
+use Rattle.property.specs.Walk.{scopeOf}
+use Rattle.property.specs.Layout.{termAt}
+use Rattle.property.specs.Fit.{termFits}
+use Rattle.number.specs.declared.Seen.the-variants.{End}
+use Rattle.number.specs.Reading.{many, seen}
+use Rattle.lists.specs.Lists.{allBy}
+use Prim.Native.Nat.{ℕ, _-_, _≤_}
+use native.Mathlib.Omega.{arith}
+use mathlib.Core.Path.{_≡_, ap, sym, _∙_}
+use Rattle.property.proofs.terms.fit_terms.Statement.{statement}
+use Rattle.property.proofs.terms.fit_terms.Tie as tie
+use Rattle.property.proofs.terms.fit_terms.Reads as reads
+use Rattle.property.proofs.terms.fit_terms.Lts as lts
+use Rattle.property.proofs.terms.fit_term.Reads as fit-term-reads
+
+abbrev Inv-loop : tie.InvT-loop
+Inv-loop f at k sorts n i₀ j₀ fits₀ i j fits =
+    (j ≤ k) × (seen (allBy (termFits (scopeOf n sorts))) (many (termAt f) j at) ≡ End i fits)
+
+abbrev μ-loop : tie.MeasureT-loop
+μ-loop f at k sorts n i₀ j₀ fits₀ i j fits =
+    k - j
+
+-- src/terms.rt:106:5
+loop-holds : tie.Need-loop-holds Inv-loop μ-loop
+loop-holds c =
+    (search needs, each-none (termAt (c .before .before .args .f .now)) (termFits (scopeOf (c .before .before .args .n) (c .before .before .args .sorts .now))) (c .before .before .args .at))
+
+-- src/terms.rt:107:15
+fit-term-requires : tie.Need-fit-term-requires Inv-loop μ-loop
+fit-term-requires c κs = search needs
+
+-- src/terms.rt:108:23
+enum-known-e : tie.Need-enum-known-e Inv-loop μ-loop
+enum-known-e c = search needs
+
+-- src/terms.rt:111:17
+add-j : tie.Need-add-j Inv-loop μ-loop
+add-j c = search needs
+
+-- src/terms.rt:106:5
+loop-less : tie.Need-loop-less Inv-loop μ-loop
+loop-less c = search needs
+
+-- src/terms.rt:106:5
+loop-again : tie.Need-loop-again Inv-loop μ-loop
+loop-again c =
+    (search needs, each-more (termAt (c .before .before .before .before .before .before .before .before .args .f .now)) (termFits (scopeOf (c .before .before .before .before .before .before .before .before .args .n) (c .before .before .before .before .before .before .before .before .args .sorts .now))) _ _ _ _ _ _ (c .before .before .before .before .before .loop .inv .1) (sym (c .before .before .before .fit-term .ensures) ∙ c .before .e .given .1))
+
+-- src/terms.rt:114:17
+enum-told : tie.Need-enum-told Inv-loop μ-loop
+enum-told c = search needs
+
+-- src/terms.rt:114:17
+returns : tie.Need-returns Inv-loop μ-loop
+returns c =
+    sym (each-stop (termAt (c .before .before .before .before .before .before .before .args .f .now)) (termFits (scopeOf (c .before .before .before .before .before .before .before .args .n) (c .before .before .before .before .before .before .before .args .sorts .now))) _ _ _ _ _ (c .before .before .before .before .loop .inv .1) (sym (c .before .before .fit-term .ensures) ∙ c .enum-told .given .1) (c .before .before .before .loop-test .taken))
+
+-- src/terms.rt:99:1
+returns-2 : tie.Need-returns-2 Inv-loop μ-loop
+returns-2 c =
+    let m : c .before .loop .j ≡ c .before .before .before .before .args .k = omega arith in
+    sym (ap (λ (q : ℕ). seen (allBy (termFits (scopeOf (c .before .before .before .before .args .n) (c .before .before .before .before .args .sorts .now)))) (many (termAt (c .before .before .before .before .args .f .now)) q (c .before .before .before .before .args .at))) (sym m) ∙ c .before .loop .inv .1)
+
+pub fit-terms-spec : {M : Type 1} → statement M
+fit-terms-spec =
+    tie.close
+    (tie.spec
+    Inv-loop
+    μ-loop
+    loop-holds
+    fit-term-requires
+    enum-known-e
+    add-j
+    loop-less
+    loop-again
+    enum-told
+    returns
+    returns-2)
