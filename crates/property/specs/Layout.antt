@@ -118,6 +118,10 @@ module _ (file : List ℕ) where
   unfoldable pub timesAt : Bool → ℕ → Read Atom
   timesAt q at = andThen (readNumber file at) (λ i e. andThen (readNumber file e) (λ j d. got (timesOf q i j) d))
 
+-- two formulas, by a reader of each
+abbrev pub pairAt : (ℕ → Read Formula) → Bool → ℕ → Read Formula
+pairAt inner q at = andThen (inner at) (λ x e. andThen (inner e) (λ y d. got (paired q x y) d))
+
 -- under the arities of the fact symbols
 module _ (file ars : List ℕ) where
   -- a fact: a declared symbol, and as many terms as its arity
@@ -144,14 +148,17 @@ module _ (file ars : List ℕ) where
   unfoldable pub scopedAt : ℕ → ℕ → Read Head
   scopedAt n at = andThen (headAt at) (λ h e. pick (leb (n + length (h .sorts)) mostScope) (got h e) fault)
 
-  -- what stands behind a formula's tag, by a reader of the formulas inside it where so many variables are in scope
+  -- what stands before a quantifier's body, and the body, by a reader of formulas where so many variables are in scope
+  abbrev pub quantAt : (ℕ → ℕ → Read Formula) → ℕ → Bool → ℕ → Read Formula
+  quantAt inner n q at = andThen (scopedAt n at) (λ h e. andThen (inner (n + length (h .sorts)) e) (λ x d. got (quantified q h x) d))
+
+  -- what stands behind a formula's tag
   abbrev pub bodyAt : (ℕ → ℕ → Read Formula) → ℕ → ℕ → ℕ → Read Formula
   bodyAt inner n tag at =
       pick (eqb tag falseTag) (got absurdity at)
       (pick (ltb tag andTag) (andThen (atomAt tag at) (λ a e. got (signed (asserts tag) a) e))
-      (pick (ltb tag existsTag)
-      (andThen (inner n at) (λ x e. andThen (inner n e) (λ y d. got (paired (eqb tag andTag) x y) d)))
-      (andThen (scopedAt n at) (λ h e. andThen (inner (n + length (h .sorts)) e) (λ x d. got (quantified (eqb tag everyTag) h x) d)))))
+      (pick (ltb tag existsTag) (pairAt (inner n) (eqb tag andTag) at)
+      (quantAt inner n (eqb tag everyTag) at)))
 
   -- a formula of at most so many levels, n variables in scope
   unfoldable pub formulaAt : ℕ → ℕ → ℕ → Read Formula

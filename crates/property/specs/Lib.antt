@@ -20,6 +20,8 @@ pub mod Times
 pub mod Judge
 -- the truth of a property over document 01's messages: no parameter is left
 pub mod Truth
+-- the ruling of a property file: 3, then 5
+pub mod Causes
 -- ── for the code ──
 -- what code answers of a property file
 pub mod Walk

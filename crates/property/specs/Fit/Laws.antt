@@ -1,6 +1,8 @@
 -- The test of cause 5 decides the statement.
 use Prim.Native.Nat.{ℕ, zero, suc, _+_}
 use mathlib.Core.List.{List, [], _∷_, _++_}
+use mathlib.Core.Bool.{true, not}
+use mathlib.Core.Logic.{⊎-elim}
 use mathlib.Core.Option.{Option, some}
 use mathlib.Core.Path.{_≡_, refl, sym, ap, subst}
 use native.Mathlib.Omega.{arith}
@@ -9,6 +11,7 @@ use Rattle.lists.specs.Choice.{clash}
 use Rattle.lists.specs.Lists.{_∈_, anyBy}
 use Rattle.property.specs.Formula.{Sort, msg, tmp, Term, var, public, Pattern, Atom, equal, before, together, action, Formula}
 use Rattle.property.specs.Formula.{absurdity, is, isnt, both, either, exists, every}
+use Rattle.property.specs.Reflects.{reflects-true, reflects-back, reflects-dec, reflects-not}
 use Rattle.property.specs.Reflects.{Reflects, right, wrong, reflects-iff, reflects-and, reflects-eq, reflects-any, reflects-every}
 use Rattle.property.specs.Fit.{HasSort, TermFits, PatternFits, AtomFits, InGuard, AllInGuard, IsFit}
 use Rattle.property.specs.Fit.{sortIs, inScope, termFits, patternFits, atomFits, isVar, guarded, fit}
@@ -78,3 +81,14 @@ fit-decides scope (exists s g i f) =
     reflects-and (pattern-decides (scope ++ s) g i) (reflects-and (guarded-decides (length scope) s g i) (fit-decides (scope ++ s) f))
 fit-decides scope (every s g i f) =
     reflects-and (pattern-decides (scope ++ s) g i) (reflects-and (guarded-decides (length scope) s g i) (fit-decides (scope ++ s) f))
+
+-- ── 5 is there just where the test fails ──
+module _ (f : Formula) where
+  pub unfit-is : not (fit [] f) ≡ true → ¬ IsFit [] f
+  unfit-is h = reflects-true (reflects-not (fit-decides [] f)) h
+
+  pub is-unfit : (¬ IsFit [] f) → not (fit [] f) ≡ true
+  is-unfit n = reflects-back (reflects-not (fit-decides [] f)) n
+
+  pub fit-stable : ((¬ IsFit [] f) → ⊥) → IsFit [] f
+  fit-stable n = ⊎-elim (λ h. h) (λ h. absurd (n h)) (reflects-dec (fit-decides [] f))

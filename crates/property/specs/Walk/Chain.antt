@@ -1,7 +1,7 @@
 -- For crate number: what code has seen of one reading after another, and of several, with a test of each.
 use Prim.Native.Nat.{ℕ, _+_, _<_}
 use mathlib.Core.List.{List, [], _∷_, _++_}
-use mathlib.Core.Bool.{Bool, true, false, _&&_}
+use mathlib.Core.Bool.{Bool, true, _&&_, and-true, and-assoc}
 use mathlib.Core.Path.{_≡_, refl, ap, ap₂, sym, _∙_}
 use native.Mathlib.Numerals.{add-one}
 use Rattle.lists.specs.Lists.{allBy}
@@ -32,16 +32,8 @@ module _ {A B C : Type 0} (s : A → Bool) (t : A → B → Bool) (u : C → Boo
 
 -- ── n of them, and whether all pass a test ──
 all-snoc : {A : Type 0} (q : A → Bool) (xs : List A) (x : A) → allBy q (xs ++ (x ∷ [])) ≡ (allBy q xs && q x)
-all-snoc q [] x = go (q x)
-  where
-    go : (b : Bool) → (b && true) ≡ b
-    go true = refl
-    go false = refl
-all-snoc q (y ∷ xs) x = ap (λ (b : Bool). q y && b) (all-snoc q xs x) ∙ go (q y) (allBy q xs) (q x)
-  where
-    go : (a b c : Bool) → (a && (b && c)) ≡ ((a && b) && c)
-    go true b c = refl
-    go false b c = refl
+all-snoc q [] x = and-true (q x)
+all-snoc q (y ∷ xs) x = ap (λ (b : Bool). q y && b) (all-snoc q xs x) ∙ sym (and-assoc (q y) (allBy q xs) (q x))
 
 module _ {A : Type 0} (p : ℕ → Read A) (q : A → Bool) where
   pub each-none : (at : ℕ) → seen (allBy q) (many p 0 at) ≡ sn.End at true

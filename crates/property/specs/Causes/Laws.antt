@@ -1,0 +1,54 @@
+-- The ruling of a property file is what the rows say; a property that passes is within the limits and fit.
+use Prim.Native.Nat.{ℕ, _≤_}
+use mathlib.Core.List.{List, [], _∷_}
+use mathlib.Core.Logic.{inl, inr}
+use mathlib.Core.Path.{_≡_, refl, sym, _∙_}
+use native.Mathlib.Omega.{arith}
+use lib.ListN.{length}
+use Rattle.lists.specs.Choice.{clash}
+use Rattle.octets.specs.Head.{Bytes}
+use Rattle.rewriting.specs.Table.{Ruled}
+use Rattle.rewriting.specs.Table.Laws.{ruled, ruled-and-then}
+use Rattle.number.specs.Reading.{Read, got, fault}
+use Rattle.property.specs.Formula.{Formula}
+use Rattle.property.specs.Formula.Limits.{FormulaWithin}
+use Rattle.property.specs.Fit.{IsFit}
+use Rattle.property.specs.Fit.Laws.{fit-stable}
+use Rattle.property.specs.Layout.{encodeFormula, property}
+use Rattle.property.specs.Layout.Exact.{property-form, property-back}
+use Rattle.property.specs.Causes.{propertyItem, readRows, readRuling, fitPass, fitRows, fitRuling, propertyRows, propertyRuling}
+
+-- a formula that was read and is fit
+pub record Passing (r : Read Formula) (f : Formula) : Type 0 where
+  pub end : ℕ
+  pub there : r ≡ got f end
+  pub fits : IsFit [] f
+
+read-ruled : (r : Read Formula) → Ruled (readRows r) (λ f. (e : ℕ) × (r ≡ got f e)) (readRuling r)
+read-ruled (got f e) = inl ((λ k h. clash (cc (h .1))), (f, (e, refl), refl))
+read-ruled fault = inr (propertyItem, record { here = (refl, refl); below = λ j l h. omega (arith, h .0) }, refl)
+
+pub property-ruled : (r : Read Formula) → Ruled (propertyRows r) (Passing r) (propertyRuling r)
+property-ruled r =
+    ruled-and-then (λ f. (e : ℕ) × (r ≡ got f e)) (Passing r) (readRows r) (readRuling r) fitRows fitRuling (read-ruled r)
+    (λ f (e, h) q. ruled (Passing r) (fitPass f ∷ []) f (λ n. record { end = e; there = h; fits = fit-stable f (λ u. n .0 0 (refl, u)) }))
+
+-- ── the file ──
+module _ (file : List ℕ) (bytes : Bytes file) (ars : List ℕ) (few : length ars ≤ 256) where
+  -- a property that passes: its file is its bytes, it is within the limits and fit
+  pub record FitProperty (f : Formula) : Type 0 where
+    pub within : FormulaWithin ars f
+    pub file-is : file ≡ encodeFormula f
+    pub fits : IsFit [] f
+
+  pub passing-fit : (f : Formula) → Passing (property file ars) f → FitProperty f
+  passing-fit f p =
+      let w = property-form file bytes ars few f (p .end) (p .there) in
+      record { within = w .0; file-is = w .1; fits = p .fits }
+
+  pub fit-passing : (f : Formula) → FitProperty f → Passing (property file ars) f
+  fit-passing f p = record { end = length file; there = property-back file bytes ars few f (p .within) (p .file-is); fits = p .fits }
+
+  -- 3 exactly where the file is the bytes of no formula within the limits
+  pub no-property : property file ars ≡ fault → (f : Formula) → FormulaWithin ars f → file ≡ encodeFormula f → ⊥
+  no-property h f w e = let z : got f (length file) ≡ fault = sym (property-back file bytes ars few f w e) ∙ h in clash (cc)
