@@ -22,6 +22,8 @@ pub mod Judge
 pub mod Truth
 -- the ruling of a property file: 3, then 5
 pub mod Causes
+-- document 01's printed property, by computation
+pub mod Example
 -- ── for the code ──
 -- what code answers of a property file
 pub mod Walk

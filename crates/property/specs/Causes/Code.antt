@@ -5,7 +5,7 @@ use mathlib.Core.Option.{none, some}
 use mathlib.Core.Bool.{Bool, true, false, not, cond}
 use mathlib.Core.Path.{_≡_, refl, ap, sym, _∙_}
 use native.Mathlib.Omega.{arith}
-use Rattle.lists.specs.Choice.{pick}
+use Rattle.lists.specs.Choice.{pick, clash}
 use Rattle.lists.specs.All.{All}
 use Rattle.rewriting.specs.Table.{Ruling, passed, refused, orRefuse}
 use Rattle.number.specs.Reading.{Read, seen}
@@ -20,6 +20,7 @@ use Rattle.property.specs.Formula.{Formula}
 use Rattle.property.specs.Fit.{fit}
 use Rattle.property.specs.Walk.{Tabled}
 use Rattle.property.specs.Causes.{propertyItem, fitRuling, propertyRuling}
+use Rattle.property.specs.Causes.Laws.{Passing, passed-passing}
 use Rattle.property.specs.declared.ruling.PropertyRuling.{PropertyRuling}
 use Rattle.property.specs.declared.ruling.PropertyRuling.the-variants as pr
 
@@ -71,3 +72,12 @@ module _ (r : Read Formula) where
 
   pub ruled-fault : sn.Fault ≡ seen (fit []) r → refused 3 propertyItem ≡ Whole
   ruled-fault h = ap (λ (o : Read Formula). plainly (propertyRuling o)) (sym (cut-fault (fit []) r (sym h)))
+
+-- ── where it is good ──
+-- a property to be judged: some formula passes
+pub good-passing : (r : Read Formula) (o : PropertyRuling) → rulingOf o ≡ plainly (propertyRuling r) → o ≡ pr.Good → (f : Formula) × Passing r f
+good-passing r o h g = go (propertyRuling r) refl (sym (ap rulingOf g) ∙ h)
+  where
+    go : (q : Ruling Formula) → propertyRuling r ≡ q → passed tt ≡ plainly q → (f : Formula) × Passing r f
+    go (passed f) e i = (f, passed-passing r f e)
+    go (refused n k) e i = clash (cc)

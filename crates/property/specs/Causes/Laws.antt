@@ -1,19 +1,23 @@
 -- The ruling of a property file is what the rows say; a property that passes is within the limits and fit.
 use Prim.Native.Nat.{ℕ, _≤_}
 use mathlib.Core.List.{List, [], _∷_}
+use mathlib.Core.Bool.{true}
 use mathlib.Core.Logic.{inl, inr}
-use mathlib.Core.Path.{_≡_, refl, sym, _∙_}
+use mathlib.Core.Path.{_≡_, refl, sym, _∙_, subst}
 use native.Mathlib.Omega.{arith}
 use lib.ListN.{length}
 use Rattle.lists.specs.Choice.{clash}
 use Rattle.octets.specs.Head.{Bytes}
-use Rattle.rewriting.specs.Table.{Ruled}
-use Rattle.rewriting.specs.Table.Laws.{ruled, ruled-and-then}
+use Rattle.rewriting.specs.Table.{Ruling, passed, refused, Row, Ruled}
+use Rattle.rewriting.specs.Table.Laws.{ruled, ruled-and-then, passed-good}
 use Rattle.number.specs.Reading.{Read, got, fault}
 use Rattle.property.specs.Formula.{Formula}
 use Rattle.property.specs.Formula.Limits.{FormulaWithin}
-use Rattle.property.specs.Fit.{IsFit}
-use Rattle.property.specs.Fit.Laws.{fit-stable}
+use Rattle.property.specs.Fit.{IsFit, fit}
+use Rattle.property.specs.Fit.Laws.{fit-decides, fit-stable}
+use Rattle.property.specs.Reflects.{reflects-back}
+use Rattle.property.specs.Reads.{Reads}
+use Rattle.property.specs.Reads.Laws.{property-reads}
 use Rattle.property.specs.Layout.{encodeFormula, property}
 use Rattle.property.specs.Layout.Exact.{property-form, property-back}
 use Rattle.property.specs.Causes.{propertyItem, readRows, readRuling, fitPass, fitRows, fitRuling, propertyRows, propertyRuling}
@@ -32,6 +36,19 @@ pub property-ruled : (r : Read Formula) → Ruled (propertyRows r) (Passing r) (
 property-ruled r =
     ruled-and-then (λ f. (e : ℕ) × (r ≡ got f e)) (Passing r) (readRows r) (readRuling r) fitRows fitRuling (read-ruled r)
     (λ f (e, h) q. ruled (Passing r) (fitPass f ∷ []) f (λ n. record { end = e; there = h; fits = fit-stable f (λ u. n .0 0 (refl, u)) }))
+
+-- ── a property that passes ──
+-- the answer passes, so a formula was read and is fit
+pub passed-passing : (r : Read Formula) (f : Formula) → propertyRuling r ≡ passed f → Passing r f
+passed-passing r f h = passed-good (Passing r) (propertyRows r) f (subst (Ruled (propertyRows r) (Passing r)) h (property-ruled r))
+
+-- it is written in the file, and its test of 5 holds
+module _ (file ars : List ℕ) (f : Formula) (p : Passing (property file ars) f) where
+  pub passing-reads : Reads file ars 0 f (p .end)
+  passing-reads = property-reads file ars f (p .end) (p .there)
+
+  pub passing-test : fit [] f ≡ true
+  passing-test = reflects-back (fit-decides [] f) (p .fits)
 
 -- ── the file ──
 module _ (file : List ℕ) (bytes : Bytes file) (ars : List ℕ) (few : length ars ≤ 256) where
