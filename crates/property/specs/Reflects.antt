@@ -25,10 +25,6 @@ pub reflects-back : {P : Type 0} {b : Bool} → Reflects P b → P → b ≡ tru
 reflects-back (right p) q = refl
 reflects-back (wrong n) q = absurd (n q)
 
-pub reflects-none : {P : Type 0} {b : Bool} → Reflects P b → ¬ P → b ≡ false
-reflects-none (right p) n = absurd (n p)
-reflects-none (wrong m) n = refl
-
 -- a test that holds exactly where the statement does
 pub reflects-exactly : {P : Type 0} (b : Bool) → (b ≡ true) ↔ P → Reflects P b
 reflects-exactly true h = right (h .0 refl)

@@ -22,7 +22,7 @@ fn see_formula(
     arities: &[u8],
     levels: usize,
     at: usize,
-    sorts: [u8; 16],
+    sorts: [u8; figures::MOST_SCOPE],
     n: usize,
 ) -> Seen
     requires { ⌜ (n ≤ mostScope) × Asks (Tabled (now arities)) ⌝ }
@@ -44,7 +44,7 @@ fn see_body(
     levels: usize,
     tag: usize,
     at: usize,
-    sorts: [u8; 16],
+    sorts: [u8; figures::MOST_SCOPE],
     n: usize,
 ) -> Seen
     requires { ⌜ (n ≤ mostScope) × Asks (Tabled (now arities)) ⌝ }
@@ -63,7 +63,14 @@ fn see_body(
 }
 
 // Two formulas.
-fn see_pair(f: &[u8], arities: &[u8], levels: usize, at: usize, sorts: [u8; 16], n: usize) -> Seen
+fn see_pair(
+    f: &[u8],
+    arities: &[u8],
+    levels: usize,
+    at: usize,
+    sorts: [u8; figures::MOST_SCOPE],
+    n: usize,
+) -> Seen
     requires { ⌜ (n ≤ mostScope) × Asks (Tabled (now arities)) ⌝ }
     ensures { λ r. ⌜ Promises (Tabled (now (arities .entry))) (λ (ars : List ℕ). ((q : Bool) → r ≡ seen (fit (scopeOf n sorts)) (pairAt (formulaAt (now (f .entry)) ars levels n) q at))) ⌝ }
 {
@@ -79,7 +86,7 @@ fn see_quantifier(
     arities: &[u8],
     levels: usize,
     at: usize,
-    sorts: [u8; 16],
+    sorts: [u8; figures::MOST_SCOPE],
     n: usize,
 ) -> Seen
     requires { ⌜ (n ≤ mostScope) × Asks (Tabled (now arities)) ⌝ }
@@ -97,7 +104,14 @@ pub fn see_property(f: &[u8], arities: &[u8]) -> Seen
     requires { ⌜ Asks (Tabled (now arities)) ⌝ }
     ensures { λ r. ⌜ Promises (Tabled (now (arities .entry))) (λ (ars : List ℕ). r ≡ seen (fit []) (property (now (f .entry)) ars)) ⌝ }
 {
-    match see_formula(f, arities, figures::MOST_NESTING, 0, [0; 16], 0) {
+    match see_formula(
+        f,
+        arities,
+        figures::MOST_NESTING,
+        0,
+        [0; figures::MOST_SCOPE],
+        0,
+    ) {
         Seen::End(e, b) => {
             if e == f.len() {
                 return Seen::End(e, b);

@@ -80,18 +80,12 @@ fn is_among(f: &[u8], at: usize, count: usize, x: usize) -> bool
     }
 }
 
-fn wide(x: u8) -> usize
-    ensures { λ r. ⌜ r ≡ x ⌝ }
-{
-    x as usize
-}
-
 // The new variable x is in its guard: a message among its terms, a time as its time.
 fn in_guard(f: &[u8], terms: usize, count: usize, time: usize, sorts: &[u8], x: usize) -> bool
     requires { ⌜ x < length (now sorts) ⌝ }
     ensures { λ r. ⌜ ((ts : List Term) (e : ℕ) → many (termAt (now (f .entry))) count terms ≡ got ts e → r ≡ inGuard (sortOf (getD (now (sorts .entry)) x 0)) x ts time) ⌝ }
 {
-    if wide(sorts[x]) == protocol::figures::MESSAGE_SORT {
+    if terms::wide(sorts[x]) == protocol::figures::MESSAGE_SORT {
         return is_among(f, terms, count, x);
     }
     x == time

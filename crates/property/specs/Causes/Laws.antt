@@ -3,12 +3,12 @@ use Prim.Native.Nat.{ℕ, _≤_}
 use mathlib.Core.List.{List, [], _∷_}
 use mathlib.Core.Bool.{true}
 use mathlib.Core.Logic.{inl, inr}
-use mathlib.Core.Path.{_≡_, refl, sym, _∙_, subst}
+use mathlib.Core.Path.{_≡_, refl, subst}
 use native.Mathlib.Omega.{arith}
 use lib.ListN.{length}
 use Rattle.lists.specs.Choice.{clash}
 use Rattle.octets.specs.Head.{Bytes}
-use Rattle.rewriting.specs.Table.{Ruling, passed, refused, Row, Ruled}
+use Rattle.rewriting.specs.Table.{passed, Ruled}
 use Rattle.rewriting.specs.Table.Laws.{ruled, ruled-and-then, passed-good}
 use Rattle.number.specs.Reading.{Read, got, fault}
 use Rattle.property.specs.Formula.{Formula}
@@ -65,7 +65,3 @@ module _ (file : List ℕ) (bytes : Bytes file) (ars : List ℕ) (few : length a
 
   pub fit-passing : (f : Formula) → FitProperty f → Passing (property file ars) f
   fit-passing f p = record { end = length file; there = property-back file bytes ars few f (p .within) (p .file-is); fits = p .fits }
-
-  -- 3 exactly where the file is the bytes of no formula within the limits
-  pub no-property : property file ars ≡ fault → (f : Formula) → FormulaWithin ars f → file ≡ encodeFormula f → ⊥
-  no-property h f w e = let z : got f (length file) ≡ fault = sym (property-back file bytes ars few f w e) ∙ h in clash (cc)

@@ -59,7 +59,8 @@ module _ (M : Messages) where
       matches-decides : (tr : Trace (M .Msg)) (g : Pattern) (i : ℕ) (e : Entry (M .Msg)) → Reflects (Matches M S tr v g i e) (matches M b g i e)
       matches-decides tr g i e = reflects-and (same-time i (e .node)) (reflects-and (reflects-eq (g .symbol) (e .fact .symbol)) lists)
         where
-          lists : Reflects (Pairs (M .Same) (map (termUnder M v) (g .terms)) (e .fact .messages)) (sameAll M (map (termUnder M b) (g .terms)) (e .fact .messages))
+          lists : Reflects (Pairs (M .Same) (map (termUnder M v) (g .terms)) (e .fact .messages))
+              (sameAll M (map (termUnder M b) (g .terms)) (e .fact .messages))
           lists =
               reflects-iff
               (pairs-joined (λ x y z p q. M .joined p q) (pairs-turned (λ x y p. M .turned p) (agree-terms (g .terms))))

@@ -99,7 +99,8 @@ module _ (file : List ℕ) (bytes : Bytes file) (ars : List ℕ) (few : length a
         → andThen (scopedAt file ars n at) (λ h e. andThen (formulaAt file ars levels (n + length (h .sorts)) e) (λ x d. got (quantified q h x) d))
         ≡ got (quantified q h x) (at + length (encodeHead h ++ encodeFormula x))
     quant-back q h x at rest f g there =
-        made-back file (scopedAt file ars n) (Scoped ars n) encodeHead (scoped-exact file bytes ars few n) (λ h. formulaAt file ars levels (n + length (h .sorts)))
+        made-back file (scopedAt file ars n) (Scoped ars n) encodeHead (scoped-exact file bytes ars few n)
+        (λ h. formulaAt file ars levels (n + length (h .sorts)))
         (λ h. Fine levels (n + length (h .sorts))) encodeFormula (λ h. inner (n + length (h .sorts))) (quantified q) h x at rest f g there
 
     level-back :
@@ -117,11 +118,14 @@ module _ (file : List ℕ) (bytes : Bytes file) (ars : List ℕ) (few : length a
     level-back (is (together j k)) at rest w there =
         tag-back 5 at _ rest (is (together j k)) (omega arith) there (λ i d. then-got (atomAt file ars 5 i) _ (times-back file bytes false j k i rest (w .1) d))
     level-back (isnt (together j k)) at rest w there =
-        tag-back 6 at _ rest (isnt (together j k)) (omega arith) there (λ i d. then-got (atomAt file ars 6 i) _ (times-back file bytes false j k i rest (w .1) d))
+        tag-back 6 at _ rest (isnt (together j k)) (omega arith) there (λ i d. then-got (atomAt file ars 6 i) _
+        (times-back file bytes false j k i rest (w .1) d))
     level-back (is (action g j)) at rest w there =
-        tag-back 7 at _ rest (is (action g j)) (omega arith) there (λ i d. then-got (atomAt file ars 7 i) _ (action-back file bytes ars few g j i rest (w .1) d))
+        tag-back 7 at _ rest (is (action g j)) (omega arith) there (λ i d. then-got (atomAt file ars 7 i) _
+        (action-back file bytes ars few g j i rest (w .1) d))
     level-back (isnt (action g j)) at rest w there =
-        tag-back 8 at _ rest (isnt (action g j)) (omega arith) there (λ i d. then-got (atomAt file ars 8 i) _ (action-back file bytes ars few g j i rest (w .1) d))
+        tag-back 8 at _ rest (isnt (action g j)) (omega arith) there (λ i d. then-got (atomAt file ars 8 i) _
+        (action-back file bytes ars few g j i rest (w .1) d))
     level-back (both f g) at rest w there =
         tag-back 9 at _ rest (both f g) (omega arith) there
         (λ i d. pair-back true f g i rest (max-left (depth f) (depth g) (w .0), w .1 .0) (max-right (depth f) (depth g) (w .0), w .1 .1) d)
@@ -146,7 +150,8 @@ module _ (file : List ℕ) (bytes : Bytes file) (ars : List ℕ) (few : length a
 
     atom-there : (tag at i e : ℕ) (a : Atom) → Stands file at (groups tag) i → AtomForm file ars tag i a e → Form at (signed (asserts tag) a) e
     atom-there tag at i e a s m =
-        form-by tag at i e (encodeAtom a) (signed (asserts tag) a) (signed-fine (asserts tag) a (m .within)) (signed-bytes tag a (m .low) (m .high)) s (m .stands)
+        form-by tag at i e (encodeAtom a) (signed (asserts tag) a) (signed-fine (asserts tag) a (m .within)) (signed-bytes tag a (m .low) (m .high)) s
+        (m .stands)
       where
         signed-fine : (q : Bool) (a : Atom) → AtomWithin ars a → Fine (suc levels) n (signed q a)
         signed-fine true a w = (omega arith, w)
@@ -160,7 +165,8 @@ module _ (file : List ℕ) (bytes : Bytes file) (ars : List ℕ) (few : length a
         let m = made-form file (formulaAt file ars levels n) (Fine levels n) encodeFormula (inner n) (λ x. formulaAt file ars levels n) (λ x. Fine levels n)
         encodeFormula (λ x. inner n) (paired (eqb tag 9)) f i e h in
         subst (λ (g : Formula). Form at g e) (m .made)
-        (form-by tag at i e (encodeFormula (m .one) ++ encodeFormula (m .two)) (paired (eqb tag 9) (m .one) (m .two)) (paired-fine (eqb tag 9) (m .one) (m .two) (m .first) (m .second))
+        (form-by tag at i e (encodeFormula (m .one) ++ encodeFormula (m .two)) (paired (eqb tag 9) (m .one) (m .two))
+        (paired-fine (eqb tag 9) (m .one) (m .two) (m .first) (m .second))
         (paired-bytes tag (m .one) (m .two) l k) s (m .stands))
       where
         paired-fine : (q : Bool) (x y : Formula) → Fine levels n x → Fine levels n y → Fine (suc levels) n (paired q x y)
@@ -173,10 +179,12 @@ module _ (file : List ℕ) (bytes : Bytes file) (ars : List ℕ) (few : length a
         (λ h e. andThen (formulaAt file ars levels (n + length (h .sorts)) e) (λ x d. got (quantified (eqb tag 12) h x) d)) ≡ got f e
         → Form at f e
     quant-there tag at i e f s l k h =
-        let m = made-form file (scopedAt file ars n) (Scoped ars n) encodeHead (scoped-exact file bytes ars few n) (λ h. formulaAt file ars levels (n + length (h .sorts)))
+        let m = made-form file (scopedAt file ars n) (Scoped ars n) encodeHead (scoped-exact file bytes ars few n)
+        (λ h. formulaAt file ars levels (n + length (h .sorts)))
         (λ h. Fine levels (n + length (h .sorts))) encodeFormula (λ h. inner (n + length (h .sorts))) (quantified (eqb tag 12)) f i e h in
         subst (λ (g : Formula). Form at g e) (m .made)
-        (form-by tag at i e (encodeHead (m .one) ++ encodeFormula (m .two)) (quantified (eqb tag 12) (m .one) (m .two)) (quant-fine (eqb tag 12) (m .one) (m .two) (m .first) (m .second))
+        (form-by tag at i e (encodeHead (m .one) ++ encodeFormula (m .two)) (quantified (eqb tag 12) (m .one) (m .two))
+        (quant-fine (eqb tag 12) (m .one) (m .two) (m .first) (m .second))
         (quant-bytes tag (m .one) (m .two) l k) s (m .stands))
       where
         quant-fine :
@@ -242,10 +250,23 @@ module _ (file : List ℕ) (bytes : Bytes file) (ars : List ℕ) (few : length a
   unfolding property
   property-back f w h =
       let e : 0 + length (encodeFormula f) ≡ length file = omega (arith, ap length h) in
-      then-got (formulaAt file ars mostNesting 0 0) _ (formula-exact mostNesting 0 .back f 0 [] (w .nesting, w .scopes) (h ∙ sym (append-nil (encodeFormula f))))
+      then-got (formulaAt file ars mostNesting 0 0) _ (formula-exact mostNesting 0 .back f 0 [] (w .nesting, w .scopes)
+      (h ∙ sym (append-nil (encodeFormula f))))
       ∙ ap (λ (t : Bool). pick t (got f (0 + length (encodeFormula f))) fault) (eq-eqb (0 + length (encodeFormula f)) (length file) e)
       ∙ ap (got f) e
 
   -- exact in both directions
   pub property-exact : (f : Formula) → (property file ars ≡ got f (length file)) ↔ (FormulaWithin ars f × (file ≡ encodeFormula f))
   property-exact f = ((λ h. let w = property-form f (length file) h in (w .0, w .1)), (λ h. property-back f (h .0) (h .1)))
+
+  -- a fault exactly where the file is the bytes of no formula within the limits
+  pub property-fault : (property file ars ≡ fault) ↔ ((f : Formula) → FormulaWithin ars f → file ≡ encodeFormula f → ⊥)
+  property-fault = (
+    (λ h f w e. let z : got f (length file) ≡ fault = sym (property-back f w e) ∙ h in clash (cc)),
+    (λ n. go n (property file ars) refl),
+  )
+    where
+      go :
+          ((f : Formula) → FormulaWithin ars f → file ≡ encodeFormula f → ⊥) → (r : Read Formula) → property file ars ≡ r → r ≡ fault
+      go n (got f e) h = let w = property-form f e h in absurd (n f (w .0) (w .1))
+      go n fault h = refl

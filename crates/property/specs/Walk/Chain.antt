@@ -25,7 +25,8 @@ module _ {A B C : Type 0} (s : A → Bool) (t : A → B → Bool) (u : C → Boo
   pub chain-end :
       {e : ℕ} {b : Bool} {r : Seen} → sn.End e b ≡ seen s p → ((x : A) → p ≡ got x e → r ≡ seen (t x) (q x e)) → also b r ≡ seen u chain
   chain-end {e} {b} {r} h k =
-      cut-seen s p (sym h) (λ x g c. ap (also b) (k x g) ∙ behind x b c (q x e) ∙ ap (λ (o : Read A). seen u (andThen o (λ x e. andThen (q x e) (λ y d. got (make x y) d)))) (sym g))
+      cut-seen s p (sym h) (λ x g c. ap (also b) (k x g) ∙ behind x b c (q x e) ∙ ap
+      (λ (o : Read A). seen u (andThen o (λ x e. andThen (q x e) (λ y d. got (make x y) d)))) (sym g))
 
   pub chain-fault : sn.Fault ≡ seen s p → sn.Fault ≡ seen u chain
   chain-fault h = ap (λ (o : Read A). seen u (andThen o (λ x e. andThen (q x e) (λ y d. got (make x y) d)))) (sym (cut-fault s p (sym h)))

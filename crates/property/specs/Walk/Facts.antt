@@ -208,7 +208,8 @@ module _ (scope : List Sort) (file ars : List ℕ) (at : ℕ) where
   module _ (tag : ℕ) {r : Seen} where
     pub atom-equal : tag < beforeTag → r ≡ seen (atomFits scope) (equalAt file at) → r ≡ seen (atomFits scope) (atomAt file ars tag at)
     atom-equal l h =
-        h ∙ ap (λ (b : Bool). seen (atomFits scope) (pick b (equalAt file at) (pick (ltb tag actionTag) (timesAt file (ltb tag sameTimeTag) at) (actionAt file ars at))))
+        h ∙ ap (λ (b : Bool). seen (atomFits scope) (pick b (equalAt file at) (pick (ltb tag actionTag) (timesAt file (ltb tag sameTimeTag) at)
+        (actionAt file ars at))))
         (sym (lt-ltb tag beforeTag l))
 
     pub atom-times :

@@ -34,10 +34,12 @@ quantified-fit :
     (scope : List Sort) (q : Bool) (h : Head) (x : Formula)
     → fit scope (quantified q h x) ≡ (guardFits scope (h .sorts) (h .guard) && fit (scope ++ h .sorts) x)
 quantified-fit scope true h x =
-    sym (and-assoc (patternFits (scope ++ h .sorts) (h .guard .pattern) (h .guard .time)) (guarded (length scope) (h .sorts) (h .guard .pattern .terms) (h .guard .time))
+    sym (and-assoc (patternFits (scope ++ h .sorts) (h .guard .pattern) (h .guard .time))
+    (guarded (length scope) (h .sorts) (h .guard .pattern .terms) (h .guard .time))
     (fit (scope ++ h .sorts) x))
 quantified-fit scope false h x =
-    sym (and-assoc (patternFits (scope ++ h .sorts) (h .guard .pattern) (h .guard .time)) (guarded (length scope) (h .sorts) (h .guard .pattern .terms) (h .guard .time))
+    sym (and-assoc (patternFits (scope ++ h .sorts) (h .guard .pattern) (h .guard .time))
+    (guarded (length scope) (h .sorts) (h .guard .pattern .terms) (h .guard .time))
     (fit (scope ++ h .sorts) x))
 
 -- ── two formulas ──
@@ -78,7 +80,8 @@ module _ (file ars : List ℕ) (inner : ℕ → ℕ → Read Formula) (n at : �
 
   pub quant-fault : (q : Bool) → HeadIs (scopedAt file ars n at) n old new op.Fault → sn.Fault ≡ seen (fit (scopeOf n old)) (quantAt file ars inner n q at)
   quant-fault q h =
-      ap (λ (r : Read Head). seen (fit (scopeOf n old)) (andThen r (λ h e. andThen (inner (n + length (h .sorts)) e) (λ x d. got (quantified q h x) d)))) (sym h)
+      ap (λ (r : Read Head). seen (fit (scopeOf n old)) (andThen r (λ h e. andThen (inner (n + length (h .sorts)) e) (λ x d. got (quantified q h x) d))))
+      (sym h)
 
 -- ── behind the tag ──
 module _ (file ars : List ℕ) (inner : ℕ → ℕ → Read Formula) (n tag at : ℕ) (scope : List Sort) where
@@ -148,7 +151,8 @@ module _ (file ars : List ℕ) where
   unfolding property
   property-end {e} {b} h z =
       cut-seen (fit []) (formulaAt file ars mostNesting 0 0) (sym h) (λ f g c.
-      ap (sn.End e) (sym c) ∙ ap (λ (t : Bool). seen (fit []) (pick t (got f e) fault)) (sym (eq-eqb e (length file) z)) ∙ ap (λ (r : Read Formula). seen (fit []) (whole r)) (sym g))
+      ap (sn.End e) (sym c) ∙ ap (λ (t : Bool). seen (fit []) (pick t (got f e) fault)) (sym (eq-eqb e (length file) z)) ∙ ap
+      (λ (r : Read Formula). seen (fit []) (whole r)) (sym g))
 
   pub property-left :
       {e : ℕ} {b : Bool} → sn.End e b ≡ seen (fit []) (formulaAt file ars mostNesting 0 0) → (e ≡ length file → ⊥)

@@ -120,7 +120,8 @@ module _ (file : List ℕ) (at n : ℕ) (old : List ℕ) where
   sorting-stops {now} {k} {j} {i} l s h = many-stop (sortAt file) j k at i (sortsFrom n j now) (s .there) h l
 
 -- ── each new variable is in its guard ──
-pub among : (q : Term → Bool) (r : Read (List Term)) {e : ℕ} {b : Bool} → sn.End e b ≡ seen (anyBy q) r → (ts : List Term) (d : ℕ) → r ≡ got ts d → b ≡ anyBy q ts
+pub among : (q : Term → Bool) (r : Read (List Term)) {e : ℕ} {b : Bool} → sn.End e b ≡ seen (anyBy q) r → (ts : List Term) (d : ℕ) → r ≡ got ts d → b ≡ anyBy q
+    ts
 among q r {e} {b} h ts d g =
     let z : sn.End e b ≡ sn.End d (anyBy q ts) = h ∙ ap (seen (anyBy q)) g in
     cc
@@ -147,7 +148,8 @@ module _ (ts : List Term) (i n k : ℕ) (sorts : List ℕ) where
   pub guarding-begins : Guarding true 0
   guarding-begins = let z : n + 0 ≡ n = omega arith in let y : k - 0 ≡ k = omega arith in ap₂ (λ (x m : ℕ). guarded x (sortsFrom x m sorts) ts i) z y
 
-  pub guarding-next : (ok : Bool) {b : Bool} (j : ℕ) → j < k → Guarding ok j → b ≡ inGuard (sortOf (getD sorts (n + j) 0)) (n + j) ts i → Guarding (ok && b) (j + 1)
+  pub guarding-next : (ok : Bool) {b : Bool} (j : ℕ) → j < k → Guarding ok j → b ≡ inGuard (sortOf (getD sorts (n + j) 0)) (n + j) ts i → Guarding (ok && b)
+      (j + 1)
   guarding-next ok {b} j l h e =
       let z : n + (j + 1) ≡ suc (n + j) = omega arith in
       let y : k - j ≡ suc (k - (j + 1)) = omega arith in
@@ -167,7 +169,8 @@ module _ (ts : List Term) (i n k : ℕ) (sorts : List ℕ) where
 -- ── the guard ──
 module _ (file ars : List ℕ) where
   -- its terms stand at its place
-  pub placed-terms : (y at e : ℕ) (g : Placed) → guardFrom file ars y at ≡ got g e → (d : ℕ) × (many (termAt file) (length (g .terms)) (g .place) ≡ got (g .terms) d)
+  pub placed-terms : (y at e : ℕ) (g : Placed) → guardFrom file ars y at ≡ got g e → (d : ℕ) ×
+      (many (termAt file) (length (g .terms)) (g .place) ≡ got (g .terms) d)
   placed-terms y at e g h =
       cut-lt _ _ _ y (length ars) h
       (λ l h. cut-got (many (termAt file) (getD ars y 0) at) _ h (λ ts d ht h. cut-got (readNumber file d) _ h (λ i c hi h.
@@ -200,7 +203,8 @@ module _ (file ars : List ℕ) where
             ∙ ap (guarded n (sortsFrom n k sorts) (g .terms)) hi in
             record {
               guard = timed-of (pattern-of (g .symbol) (g .terms)) (g .time);
-              there = guard-timed Wide file ars at ∙ ap (λ (r : Read Placed). andThen r (λ g e. got (timed-of (pattern-of (g .symbol) (g .terms)) (g .time)) e)) q
+              there = guard-timed Wide file ars at ∙ ap (λ (r : Read Placed). andThen r
+                  (λ g e. got (timed-of (pattern-of (g .symbol) (g .terms)) (g .time)) e)) q
                   ∙ ap (got (timed-of (pattern-of (g .symbol) (g .terms)) (g .time))) he;
               count = z;
               right = ap₂ _&&_

@@ -3,23 +3,17 @@ use mathlib.Core.Path.{ap, sym}
 use borrow.Author.Needs.{needs}
 use Rattle.property.proofs.facts.also.Statement.{statement}
 use Rattle.property.proofs.facts.also.Tie as tie
-use Rattle.property.proofs.facts.also.Reads as reads
-use Rattle.property.proofs.facts.also.Lts as lts
 
--- src/facts.rt:32:19
 enum-known-r : tie.Need-enum-known-r
 enum-known-r c = search needs
 
--- src/facts.rt:33:24
 enum-told : tie.Need-enum-told
 enum-told c = search needs
 
--- src/facts.rt:28:1
 returns : tie.Need-returns
 returns c =
     ap (also (c .before .before .before .args .b)) (sym (c .before .r .given .1))
 
--- src/facts.rt:28:1
 returns-2 : tie.Need-returns-2
 returns-2 c = search needs
 

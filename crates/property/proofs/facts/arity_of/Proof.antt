@@ -3,19 +3,14 @@ use mathlib.Core.Path.{refl}
 use borrow.Author.Needs.{needs}
 use Rattle.property.proofs.facts.arity_of.Statement.{statement}
 use Rattle.property.proofs.facts.arity_of.Tie as tie
-use Rattle.property.proofs.facts.arity_of.Reads as reads
-use Rattle.property.proofs.facts.arity_of.Lts as lts
 
--- src/facts.rt:42:9
 returns : tie.Need-returns
 returns c =
     arity-out (c .before .args .arities .now) (c .before .args .symbol) (c .if1 .taken)
 
--- src/facts.rt:44:5
 shared-slice-read-result : tie.Need-shared-slice-read-result
 shared-slice-read-result c = search needs
 
--- src/facts.rt:38:1
 returns-2 : tie.Need-returns-2
 returns-2 c =
     arity-in (c .before .before .args .arities .now) (c .before .before .args .symbol) refl (c .before .if1 .left)

@@ -4,54 +4,50 @@ use mathlib.Core.Path.{sym, _∙_}
 use borrow.Author.Needs.{needs}
 use Rattle.property.proofs.facts.guard_terms.Statement.{statement}
 use Rattle.property.proofs.facts.guard_terms.Tie as tie
-use Rattle.property.proofs.facts.guard_terms.Reads as reads
-use Rattle.property.proofs.facts.guard_terms.Lts as lts
-use Rattle.property.proofs.facts.arity_of.Reads as arity-of-reads
-use Rattle.property.proofs.facts.guard_time.Reads as guard-time-reads
-use Rattle.property.proofs.terms.fit_terms.Reads as fit-terms-reads
 
--- src/facts.rt:84:9
 arity-of-requires : tie.Need-arity-of-requires
 arity-of-requires c κs = search needs
 
--- src/facts.rt:86:9
 returns : tie.Need-returns
 returns c =
-    λ ars t. from-undeclared t (scopeOf (c .before .before .before .before .before .args .n) (c .before .before .before .before .before .args .sorts .now)) (c .before .before .before .before .before .args .f .now) (c .before .before .before .before .before .args .symbol) (c .before .before .before .before .before .args .at) (c .before .arity-of .ensures) (c .if1 .taken)
+    let c5 = c .before .before .before .before .before in
+    λ ars t. from-undeclared t (scopeOf (c5 .args .n) (c5 .args .sorts .now)) (c5 .args .f .now) (c5 .args .symbol) (c5 .args .at)
+    (c .before .arity-of .ensures) (c .if1 .taken)
 
--- src/facts.rt:88:35
 cast-fit-terms : tie.Need-cast-fit-terms
 cast-fit-terms c = search needs
 
--- src/facts.rt:88:11
 fit-terms-requires : tie.Need-fit-terms-requires
 fit-terms-requires c κs = search needs
 
--- src/facts.rt:89:19
 enum-known-e : tie.Need-enum-known-e
 enum-known-e c = search needs
 
--- src/facts.rt:89:49
 cast-guard-time : tie.Need-cast-guard-time
 cast-guard-time c = search needs
 
--- src/facts.rt:89:31
 guard-time-requires : tie.Need-guard-time-requires
 guard-time-requires c κs = search needs
 
--- src/facts.rt:90:24
 enum-told : tie.Need-enum-told
 enum-told c = search needs
 
--- src/facts.rt:73:1
 returns-2 : tie.Need-returns-2
 returns-2 c =
-    λ ars t. from-end t (scopeOf (c .before .before .before .before .before .before .before .before .before .before .args .n) (c .before .before .before .before .before .before .before .before .before .before .args .sorts .now)) (c .before .before .before .before .before .before .before .before .before .before .args .f .now) (c .before .before .before .before .before .before .before .before .before .before .args .symbol) (c .before .before .before .before .before .before .before .before .before .before .args .at) (c .before .before .before .before .before .before .arity-of .ensures) (c .before .before .before .before .before .if1 .left) (sym (c .before .before .e .given .1) ∙ c .before .before .before .before .fit-terms .ensures) (c .guard-time .ensures)
+    let c4 = c .before .before .before .before in
+    let c5 = c4 .before in
+    let c6 = c5 .before in
+    let c10 = c6 .before .before .before .before in
+    λ ars t. from-end t (scopeOf (c10 .args .n) (c10 .args .sorts .now)) (c10 .args .f .now) (c10 .args .symbol) (c10 .args .at) (c6 .arity-of .ensures)
+    (c5 .if1 .left) (sym (c .before .before .e .given .1) ∙ c4 .fit-terms .ensures) (c .guard-time .ensures)
 
--- src/facts.rt:73:1
 returns-3 : tie.Need-returns-3
 returns-3 c =
-    λ ars t. from-fault t (scopeOf (c .before .before .before .before .before .before .before .before .args .n) (c .before .before .before .before .before .before .before .before .args .sorts .now)) (c .before .before .before .before .before .before .before .before .args .f .now) (c .before .before .before .before .before .before .before .before .args .symbol) (c .before .before .before .before .before .before .before .before .args .at) (c .before .before .before .before .arity-of .ensures) (c .before .before .before .if1 .left) (sym (c .enum-told .given .1) ∙ c .before .before .fit-terms .ensures)
+    let c3 = c .before .before .before in
+    let c4 = c3 .before in
+    let c8 = c4 .before .before .before .before in
+    λ ars t. from-fault t (scopeOf (c8 .args .n) (c8 .args .sorts .now)) (c8 .args .f .now) (c8 .args .symbol) (c8 .args .at) (c4 .arity-of .ensures)
+    (c3 .if1 .left) (sym (c .enum-told .given .1) ∙ c .before .before .fit-terms .ensures)
 
 pub guard-terms-spec : {M : Type 1} → statement M
 guard-terms-spec =

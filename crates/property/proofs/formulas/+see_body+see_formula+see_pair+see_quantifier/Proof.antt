@@ -86,7 +86,6 @@ see-quantifier-below t =
     (falls 2 see-quantifier-kinds.ps _<_ μ-see-quantifier t)
     see-quantifier.Pre
 
--- src/formulas.rt:55:9
 see-body-returns : (t : ℕ) → see-body-lts.Need-returns (
   see-atom-reads.Asked,
   see-atom-reads.Learnt,
@@ -96,9 +95,10 @@ see-body-returns : (t : ℕ) → see-body-lts.Need-returns (
   see-quantifier.Post,
 ) (see-body-at t) see-body.Post
 see-body-returns t c =
-    λ ars t. body-false (c .before .before .before .args .f .now) ars (formulaAt (c .before .before .before .args .f .now) ars (c .before .before .before .args .levels)) (c .before .before .before .args .n) (c .before .before .before .args .tag) (c .before .before .before .args .at) (scopeOf (c .before .before .before .args .n) (c .before .before .before .args .t6)) (c .if1 .taken)
+    let c3 = c .before .before .before in
+    λ ars t. body-false (c3 .args .f .now) ars (formulaAt (c3 .args .f .now) ars (c3 .args .levels)) (c3 .args .n) (c3 .args .tag) (c3 .args .at)
+    (scopeOf (c3 .args .n) (c3 .args .t6)) (c .if1 .taken)
 
--- src/formulas.rt:58:53
 see-body-slice-aggregate-see-atom : (t : ℕ) → see-body-lts.Need-slice-aggregate-see-atom (
   see-atom-reads.Asked,
   see-atom-reads.Learnt,
@@ -109,7 +109,6 @@ see-body-slice-aggregate-see-atom : (t : ℕ) → see-body-lts.Need-slice-aggreg
 ) (see-body-at t) see-body.Post
 see-body-slice-aggregate-see-atom t c = search needs
 
--- src/formulas.rt:58:9
 see-body-see-atom-requires : (t : ℕ) → see-body-lts.Need-see-atom-requires (
   see-atom-reads.Asked,
   see-atom-reads.Learnt,
@@ -120,7 +119,6 @@ see-body-see-atom-requires : (t : ℕ) → see-body-lts.Need-see-atom-requires (
 ) (see-body-at t) see-body.Post
 see-body-see-atom-requires t c κs = search needs
 
--- src/formulas.rt:58:9
 see-body-returns-2 : (t : ℕ) → see-body-lts.Need-returns-2 (
   see-atom-reads.Asked,
   see-atom-reads.Learnt,
@@ -130,9 +128,11 @@ see-body-returns-2 : (t : ℕ) → see-body-lts.Need-returns-2 (
   see-quantifier.Post,
 ) (see-body-at t) see-body.Post
 see-body-returns-2 t c =
-    λ ars t. body-atom (c .before .before .before .before .before .before .args .f .now) ars (formulaAt (c .before .before .before .before .before .before .args .f .now) ars (c .before .before .before .before .before .before .args .levels)) (c .before .before .before .before .before .before .args .n) (c .before .before .before .before .before .before .args .tag) (c .before .before .before .before .before .before .args .at) (scopeOf (c .before .before .before .before .before .before .args .n) (c .before .before .before .before .before .before .args .t6)) (c .before .before .before .if1 .left) (c .before .before .if2 .taken) (c .see-atom .ensures ars t)
+    let c3 = c .before .before .before in
+    let c6 = c3 .before .before .before in
+    λ ars t. body-atom (c6 .args .f .now) ars (formulaAt (c6 .args .f .now) ars (c6 .args .levels)) (c6 .args .n) (c6 .args .tag) (c6 .args .at)
+    (scopeOf (c6 .args .n) (c6 .args .t6)) (c3 .if1 .left) (c .before .before .if2 .taken) (c .see-atom .ensures ars t)
 
--- src/formulas.rt:61:9
 see-body-see-pair-requires : (t : ℕ) → see-body-lts.Need-see-pair-requires (
   see-atom-reads.Asked,
   see-atom-reads.Learnt,
@@ -143,7 +143,6 @@ see-body-see-pair-requires : (t : ℕ) → see-body-lts.Need-see-pair-requires (
 ) (see-body-at t) see-body.Post
 see-body-see-pair-requires t c κs = search needs
 
--- src/formulas.rt:61:9
 see-body-returns-3 : (t : ℕ) → see-body-lts.Need-returns-3 (
   see-atom-reads.Asked,
   see-atom-reads.Learnt,
@@ -153,9 +152,11 @@ see-body-returns-3 : (t : ℕ) → see-body-lts.Need-returns-3 (
   see-quantifier.Post,
 ) (see-body-at t) see-body.Post
 see-body-returns-3 t c =
-    λ ars t. body-pair (c .before .before .before .before .before .before .args .f .now) ars (formulaAt (c .before .before .before .before .before .before .args .f .now) ars (c .before .before .before .before .before .before .args .levels)) (c .before .before .before .before .before .before .args .n) (c .before .before .before .before .before .before .args .tag) (c .before .before .before .before .before .before .args .at) (scopeOf (c .before .before .before .before .before .before .args .n) (c .before .before .before .before .before .before .args .t6)) (c .before .before .before .if1 .left) (c .before .before .if2 .left) (c .before .if3 .taken) (c .see-pair .ensures ars t)
+    let c3 = c .before .before .before in
+    let c6 = c3 .before .before .before in
+    λ ars t. body-pair (c6 .args .f .now) ars (formulaAt (c6 .args .f .now) ars (c6 .args .levels)) (c6 .args .n) (c6 .args .tag) (c6 .args .at)
+    (scopeOf (c6 .args .n) (c6 .args .t6)) (c3 .if1 .left) (c .before .before .if2 .left) (c .before .if3 .taken) (c .see-pair .ensures ars t)
 
--- src/formulas.rt:63:5
 see-body-see-quantifier-requires : (t : ℕ) → see-body-lts.Need-see-quantifier-requires (
   see-atom-reads.Asked,
   see-atom-reads.Learnt,
@@ -166,7 +167,6 @@ see-body-see-quantifier-requires : (t : ℕ) → see-body-lts.Need-see-quantifie
 ) (see-body-at t) see-body.Post
 see-body-see-quantifier-requires t c κs = search needs
 
--- src/formulas.rt:42:1
 see-body-returns-4 : (t : ℕ) → see-body-lts.Need-returns-4 (
   see-atom-reads.Asked,
   see-atom-reads.Learnt,
@@ -176,9 +176,11 @@ see-body-returns-4 : (t : ℕ) → see-body-lts.Need-returns-4 (
   see-quantifier.Post,
 ) (see-body-at t) see-body.Post
 see-body-returns-4 t c =
-    λ ars t. body-quant (c .before .before .before .before .before .before .args .f .now) ars (formulaAt (c .before .before .before .before .before .before .args .f .now) ars (c .before .before .before .before .before .before .args .levels)) (c .before .before .before .before .before .before .args .n) (c .before .before .before .before .before .before .args .tag) (c .before .before .before .before .before .before .args .at) (scopeOf (c .before .before .before .before .before .before .args .n) (c .before .before .before .before .before .before .args .t6)) (c .before .before .before .if1 .left) (c .before .before .if2 .left) (c .before .if3 .left) (c .see-quantifier .ensures ars t)
+    let c3 = c .before .before .before in
+    let c6 = c3 .before .before .before in
+    λ ars t. body-quant (c6 .args .f .now) ars (formulaAt (c6 .args .f .now) ars (c6 .args .levels)) (c6 .args .n) (c6 .args .tag) (c6 .args .at)
+    (scopeOf (c6 .args .n) (c6 .args .t6)) (c3 .if1 .left) (c .before .before .if2 .left) (c .before .if3 .left) (c .see-quantifier .ensures ars t)
 
--- src/formulas.rt:33:9
 see-formula-returns : (t : ℕ) → see-formula-lts.Need-returns (
   below-reads.Asked,
   below-reads.Learnt,
@@ -186,9 +188,9 @@ see-formula-returns : (t : ℕ) → see-formula-lts.Need-returns (
   see-body.Post,
 ) (see-formula-at t) see-formula.Post
 see-formula-returns t c =
-    λ ars t. level-none (c .before .before .before .args .f .now) ars (c .before .before .before .args .n) (c .before .before .before .args .at) (scopeOf (c .before .before .before .args .n) (c .before .before .before .args .sorts)) (c .before .before .before .args .levels) (c .if1 .taken)
+    let c3 = c .before .before .before in
+    λ ars t. level-none (c3 .args .f .now) ars (c3 .args .n) (c3 .args .at) (scopeOf (c3 .args .n) (c3 .args .sorts)) (c3 .args .levels) (c .if1 .taken)
 
--- src/formulas.rt:35:11
 see-formula-below-requires : (t : ℕ) → see-formula-lts.Need-below-requires (
   below-reads.Asked,
   below-reads.Learnt,
@@ -197,7 +199,6 @@ see-formula-below-requires : (t : ℕ) → see-formula-lts.Need-below-requires (
 ) (see-formula-at t) see-formula.Post
 see-formula-below-requires t c κs = search needs
 
--- src/formulas.rt:36:23
 see-formula-enum-known-tag : (t : ℕ) → see-formula-lts.Need-enum-known-tag (
   below-reads.Asked,
   below-reads.Learnt,
@@ -206,7 +207,6 @@ see-formula-enum-known-tag : (t : ℕ) → see-formula-lts.Need-enum-known-tag (
 ) (see-formula-at t) see-formula.Post
 see-formula-enum-known-tag t c = search needs
 
--- src/formulas.rt:36:55
 see-formula-sub-see-body : (t : ℕ) → see-formula-lts.Need-sub-see-body (
   below-reads.Asked,
   below-reads.Learnt,
@@ -215,7 +215,6 @@ see-formula-sub-see-body : (t : ℕ) → see-formula-lts.Need-sub-see-body (
 ) (see-formula-at t) see-formula.Post
 see-formula-sub-see-body t c = search needs
 
--- src/formulas.rt:36:67
 see-formula-cast-see-body : (t : ℕ) → see-formula-lts.Need-cast-see-body (
   below-reads.Asked,
   below-reads.Learnt,
@@ -224,7 +223,6 @@ see-formula-cast-see-body : (t : ℕ) → see-formula-lts.Need-cast-see-body (
 ) (see-formula-at t) see-formula.Post
 see-formula-cast-see-body t c = search needs
 
--- src/formulas.rt:36:34
 see-formula-see-body-requires : (t : ℕ) → see-formula-lts.Need-see-body-requires (
   below-reads.Asked,
   below-reads.Learnt,
@@ -233,7 +231,6 @@ see-formula-see-body-requires : (t : ℕ) → see-formula-lts.Need-see-body-requ
 ) (see-formula-at t) see-formula.Post
 see-formula-see-body-requires t c κs = search needs
 
--- src/formulas.rt:37:26
 see-formula-enum-told : (t : ℕ) → see-formula-lts.Need-enum-told (
   below-reads.Asked,
   below-reads.Learnt,
@@ -242,7 +239,6 @@ see-formula-enum-told : (t : ℕ) → see-formula-lts.Need-enum-told (
 ) (see-formula-at t) see-formula.Post
 see-formula-enum-told t c = search needs
 
--- src/formulas.rt:21:1
 see-formula-returns-2 : (t : ℕ) → see-formula-lts.Need-returns-2 (
   below-reads.Asked,
   below-reads.Learnt,
@@ -250,9 +246,12 @@ see-formula-returns-2 : (t : ℕ) → see-formula-lts.Need-returns-2 (
   see-body.Post,
 ) (see-formula-at t) see-formula.Post
 see-formula-returns-2 t c =
-    λ ars t. level-tag (c .before .before .before .before .before .before .before .before .args .f .now) ars (c .before .before .before .before .before .before .before .before .args .n) (c .before .before .before .before .before .before .before .before .args .at) (scopeOf (c .before .before .before .before .before .before .before .before .args .n) (c .before .before .before .before .before .before .before .before .args .sorts)) (c .before .before .before .before .before .before .before .before .args .levels) (c .before .before .before .before .before .if1 .left) (ap asRead (sym (c .before .before .tag .given .1)) ∙ c .before .before .before .before .below .ensures) (c .see-body .ensures ars t)
+    let c4 = c .before .before .before .before in
+    let c5 = c4 .before in
+    let c8 = c5 .before .before .before in
+    λ ars t. level-tag (c8 .args .f .now) ars (c8 .args .n) (c8 .args .at) (scopeOf (c8 .args .n) (c8 .args .sorts)) (c8 .args .levels) (c5 .if1 .left)
+    (ap asRead (sym (c .before .before .tag .given .1)) ∙ c4 .below .ensures) (c .see-body .ensures ars t)
 
--- src/formulas.rt:21:1
 see-formula-returns-3 : (t : ℕ) → see-formula-lts.Need-returns-3 (
   below-reads.Asked,
   below-reads.Learnt,
@@ -260,9 +259,11 @@ see-formula-returns-3 : (t : ℕ) → see-formula-lts.Need-returns-3 (
   see-body.Post,
 ) (see-formula-at t) see-formula.Post
 see-formula-returns-3 t c =
-    λ ars t. level-fault (c .before .before .before .before .before .before .args .f .now) ars (c .before .before .before .before .before .before .args .n) (c .before .before .before .before .before .before .args .at) (scopeOf (c .before .before .before .before .before .before .args .n) (c .before .before .before .before .before .before .args .sorts)) (c .before .before .before .before .before .before .args .levels) (c .before .before .before .if1 .left) (ap asRead (sym (c .enum-told .given .1)) ∙ c .before .before .below .ensures)
+    let c3 = c .before .before .before in
+    let c6 = c3 .before .before .before in
+    λ ars t. level-fault (c6 .args .f .now) ars (c6 .args .n) (c6 .args .at) (scopeOf (c6 .args .n) (c6 .args .sorts)) (c6 .args .levels) (c3 .if1 .left)
+    (ap asRead (sym (c .enum-told .given .1)) ∙ c .before .before .below .ensures)
 
--- src/formulas.rt:78:11
 see-pair-see-formula-requires : (t : ℕ) → see-pair-lts.Need-see-formula-requires (
   see-formula-below t,
   see-formula.Post,
@@ -271,7 +272,6 @@ see-pair-see-formula-requires : (t : ℕ) → see-pair-lts.Need-see-formula-requ
 ) (see-pair-at t) see-pair.Post
 see-pair-see-formula-requires t c κs = search needs
 
--- src/formulas.rt:79:19
 see-pair-enum-known-e : (t : ℕ) → see-pair-lts.Need-enum-known-e (
   see-formula-below t,
   see-formula.Post,
@@ -280,7 +280,6 @@ see-pair-enum-known-e : (t : ℕ) → see-pair-lts.Need-enum-known-e (
 ) (see-pair-at t) see-pair.Post
 see-pair-enum-known-e t c = search needs
 
--- src/formulas.rt:79:43
 see-pair-see-formula-requires-2 : (t : ℕ) → see-pair-lts.Need-see-formula-requires-2 (
   see-formula-below t,
   see-formula.Post,
@@ -289,7 +288,6 @@ see-pair-see-formula-requires-2 : (t : ℕ) → see-pair-lts.Need-see-formula-re
 ) (see-pair-at t) see-pair.Post
 see-pair-see-formula-requires-2 t c κs = search needs
 
--- src/formulas.rt:79:28
 see-pair-also-requires : (t : ℕ) → see-pair-lts.Need-also-requires (
   see-formula-below t,
   see-formula.Post,
@@ -298,7 +296,6 @@ see-pair-also-requires : (t : ℕ) → see-pair-lts.Need-also-requires (
 ) (see-pair-at t) see-pair.Post
 see-pair-also-requires t c κs = search needs
 
--- src/formulas.rt:80:24
 see-pair-enum-told : (t : ℕ) → see-pair-lts.Need-enum-told (
   see-formula-below t,
   see-formula.Post,
@@ -307,7 +304,6 @@ see-pair-enum-told : (t : ℕ) → see-pair-lts.Need-enum-told (
 ) (see-pair-at t) see-pair.Post
 see-pair-enum-told t c = search needs
 
--- src/formulas.rt:67:1
 see-pair-returns : (t : ℕ) → see-pair-lts.Need-returns (
   see-formula-below t,
   see-formula.Post,
@@ -315,9 +311,12 @@ see-pair-returns : (t : ℕ) → see-pair-lts.Need-returns (
   also-reads.Learnt,
 ) (see-pair-at t) see-pair.Post
 see-pair-returns t c =
-    λ ars t q. c .also .ensures ∙ pair-end (scopeOf (c .before .before .before .before .before .before .before .before .args .n) (c .before .before .before .before .before .before .before .before .args .sorts)) (formulaAt (c .before .before .before .before .before .before .before .before .args .f .now) ars (c .before .before .before .before .before .before .before .before .args .levels) (c .before .before .before .before .before .before .before .before .args .n)) (c .before .before .before .before .before .before .before .before .args .at) q (sym (c .before .before .before .e .given .1) ∙ c .before .before .before .before .before .see-formula .ensures ars t) (c .before .see-formula2 .ensures ars t)
+    let c3 = c .before .before .before in
+    let c5 = c3 .before .before in
+    let c8 = c5 .before .before .before in
+    λ ars t q. c .also .ensures ∙ pair-end (scopeOf (c8 .args .n) (c8 .args .sorts)) (formulaAt (c8 .args .f .now) ars (c8 .args .levels) (c8 .args .n))
+    (c8 .args .at) q (sym (c3 .e .given .1) ∙ c5 .see-formula .ensures ars t) (c .before .see-formula2 .ensures ars t)
 
--- src/formulas.rt:67:1
 see-pair-returns-2 : (t : ℕ) → see-pair-lts.Need-returns-2 (
   see-formula-below t,
   see-formula.Post,
@@ -325,9 +324,10 @@ see-pair-returns-2 : (t : ℕ) → see-pair-lts.Need-returns-2 (
   also-reads.Learnt,
 ) (see-pair-at t) see-pair.Post
 see-pair-returns-2 t c =
-    λ ars t q. pair-fault (scopeOf (c .before .before .before .before .before .args .n) (c .before .before .before .before .before .args .sorts)) (formulaAt (c .before .before .before .before .before .args .f .now) ars (c .before .before .before .before .before .args .levels) (c .before .before .before .before .before .args .n)) (c .before .before .before .before .before .args .at) q (sym (c .enum-told .given .1) ∙ c .before .before .see-formula .ensures ars t)
+    let c5 = c .before .before .before .before .before in
+    λ ars t q. pair-fault (scopeOf (c5 .args .n) (c5 .args .sorts)) (formulaAt (c5 .args .f .now) ars (c5 .args .levels) (c5 .args .n)) (c5 .args .at) q
+    (sym (c .enum-told .given .1) ∙ c .before .before .see-formula .ensures ars t)
 
--- src/formulas.rt:97:43
 see-quantifier-slice-aggregate-see-head :
     (t : ℕ) → see-quantifier-lts.Need-slice-aggregate-see-head (
       see-head-reads.Asked,
@@ -339,7 +339,6 @@ see-quantifier-slice-aggregate-see-head :
     ) (see-quantifier-at t) see-quantifier.Post
 see-quantifier-slice-aggregate-see-head t c = search needs
 
--- src/formulas.rt:97:11
 see-quantifier-see-head-requires : (t : ℕ) → see-quantifier-lts.Need-see-head-requires (
   see-head-reads.Asked,
   see-head-reads.Learnt,
@@ -350,7 +349,6 @@ see-quantifier-see-head-requires : (t : ℕ) → see-quantifier-lts.Need-see-hea
 ) (see-quantifier-at t) see-quantifier.Post
 see-quantifier-see-head-requires t c κs = search needs
 
--- src/formulas.rt:98:20
 see-quantifier-enum-known-m : (t : ℕ) → see-quantifier-lts.Need-enum-known-m (
   see-head-reads.Asked,
   see-head-reads.Learnt,
@@ -361,7 +359,6 @@ see-quantifier-enum-known-m : (t : ℕ) → see-quantifier-lts.Need-enum-known-m
 ) (see-quantifier-at t) see-quantifier.Post
 see-quantifier-enum-known-m t c = search needs
 
--- src/formulas.rt:98:47
 see-quantifier-see-formula-requires : (t : ℕ) → see-quantifier-lts.Need-see-formula-requires (
   see-head-reads.Asked,
   see-head-reads.Learnt,
@@ -371,11 +368,19 @@ see-quantifier-see-formula-requires : (t : ℕ) → see-quantifier-lts.Need-see-
   also-reads.Learnt,
 ) (see-quantifier-at t) see-quantifier.Post
 see-quantifier-see-formula-requires t c κs =
-    let t = c .before .before .before .before .before .before .before .before .pre .1 .1 in
-    let h = subst (HeadIs (scopedAt (c .before .before .before .before .before .before .before .before .args .f .now) (t .0) (c .before .before .before .before .before .before .before .before .args .n) (c .before .before .before .before .before .before .before .before .args .at)) (c .before .before .before .before .before .before .before .before .args .n) (c .before .before .before .before .before .before .before .before .args .sorts) _) (c .before .m .given .1) (c .before .before .before .before .see-head .ensures (t .0) (t .1)) in
-    (omega (arith, c .before .before .before .before .before .before .before .before .pre .0), (quant-room (c .before .before .before .before .before .before .before .before .args .f .now) (t .0) (formulaAt (c .before .before .before .before .before .before .before .before .args .f .now) (t .0) (c .before .before .before .before .before .before .before .before .args .levels)) (c .before .before .before .before .before .before .before .before .args .n) (c .before .before .before .before .before .before .before .before .args .at) (c .before .before .before .before .before .before .before .before .args .sorts) _ h, t))
+    let c4 = c .before .before .before .before in
+    let c8 = c4 .before .before .before .before in
+    let t = c8 .pre .1 .1 in
+    let h = subst (HeadIs (scopedAt (c8 .args .f .now) (t .0) (c8 .args .n) (c8 .args .at)) (c8 .args .n) (c8 .args .sorts) _) (c .before .m .given .1)
+    (c4 .see-head .ensures (t .0) (t .1)) in (
+      omega (arith, c8 .pre .0),
+      (
+        quant-room (c8 .args .f .now) (t .0) (formulaAt (c8 .args .f .now) (t .0) (c8 .args .levels)) (c8 .args .n) (c8 .args .at)
+            (c8 .args .sorts) _ h,
+        t,
+      ),
+    )
 
--- src/formulas.rt:98:32
 see-quantifier-also-requires : (t : ℕ) → see-quantifier-lts.Need-also-requires (
   see-head-reads.Asked,
   see-head-reads.Learnt,
@@ -386,7 +391,6 @@ see-quantifier-also-requires : (t : ℕ) → see-quantifier-lts.Need-also-requir
 ) (see-quantifier-at t) see-quantifier.Post
 see-quantifier-also-requires t c κs = search needs
 
--- src/formulas.rt:99:26
 see-quantifier-enum-told : (t : ℕ) → see-quantifier-lts.Need-enum-told (
   see-head-reads.Asked,
   see-head-reads.Learnt,
@@ -397,7 +401,6 @@ see-quantifier-enum-told : (t : ℕ) → see-quantifier-lts.Need-enum-told (
 ) (see-quantifier-at t) see-quantifier.Post
 see-quantifier-enum-told t c = search needs
 
--- src/formulas.rt:85:1
 see-quantifier-returns : (t : ℕ) → see-quantifier-lts.Need-returns (
   see-head-reads.Asked,
   see-head-reads.Learnt,
@@ -407,9 +410,13 @@ see-quantifier-returns : (t : ℕ) → see-quantifier-lts.Need-returns (
   also-reads.Learnt,
 ) (see-quantifier-at t) see-quantifier.Post
 see-quantifier-returns t c =
-    λ ars t q. c .also .ensures ∙ quant-end (c .before .before .before .before .before .before .before .before .before .before .args .f .now) ars (formulaAt (c .before .before .before .before .before .before .before .before .before .before .args .f .now) ars (c .before .before .before .before .before .before .before .before .before .before .args .levels)) (c .before .before .before .before .before .before .before .before .before .before .args .n) (c .before .before .before .before .before .before .before .before .before .before .args .at) (c .before .before .before .before .before .before .before .before .before .before .args .sorts) _ q (subst (HeadIs (scopedAt (c .before .before .before .before .before .before .before .before .before .before .args .f .now) ars (c .before .before .before .before .before .before .before .before .before .before .args .n) (c .before .before .before .before .before .before .before .before .before .before .args .at)) (c .before .before .before .before .before .before .before .before .before .before .args .n) (c .before .before .before .before .before .before .before .before .before .before .args .sorts) _) (c .before .before .before .m .given .1) (c .before .before .before .before .before .before .see-head .ensures ars t)) (c .before .see-formula .ensures ars t)
+    let c3 = c .before .before .before in
+    let c6 = c3 .before .before .before in
+    let c10 = c6 .before .before .before .before in
+    λ ars t q. c .also .ensures ∙ quant-end (c10 .args .f .now) ars (formulaAt (c10 .args .f .now) ars (c10 .args .levels)) (c10 .args .n) (c10 .args .at)
+    (c10 .args .sorts) _ q (subst (HeadIs (scopedAt (c10 .args .f .now) ars (c10 .args .n) (c10 .args .at)) (c10 .args .n) (c10 .args .sorts) _)
+    (c3 .m .given .1) (c6 .see-head .ensures ars t)) (c .before .see-formula .ensures ars t)
 
--- src/formulas.rt:85:1
 see-quantifier-returns-2 : (t : ℕ) → see-quantifier-lts.Need-returns-2 (
   see-head-reads.Asked,
   see-head-reads.Learnt,
@@ -419,7 +426,11 @@ see-quantifier-returns-2 : (t : ℕ) → see-quantifier-lts.Need-returns-2 (
   also-reads.Learnt,
 ) (see-quantifier-at t) see-quantifier.Post
 see-quantifier-returns-2 t c =
-    λ ars t q. quant-fault (c .before .before .before .before .before .before .before .args .f .now) ars (formulaAt (c .before .before .before .before .before .before .before .args .f .now) ars (c .before .before .before .before .before .before .before .args .levels)) (c .before .before .before .before .before .before .before .args .n) (c .before .before .before .before .before .before .before .args .at) (c .before .before .before .before .before .before .before .args .sorts) (c .before .before .before .before .before .before .before .args .sorts) q (subst (HeadIs (scopedAt (c .before .before .before .before .before .before .before .args .f .now) ars (c .before .before .before .before .before .before .before .args .n) (c .before .before .before .before .before .before .before .args .at)) (c .before .before .before .before .before .before .before .args .n) (c .before .before .before .before .before .before .before .args .sorts) _) (c .enum-told .given .1) (c .before .before .before .see-head .ensures ars t))
+    let c3 = c .before .before .before in
+    let c7 = c3 .before .before .before .before in
+    λ ars t q. quant-fault (c7 .args .f .now) ars (formulaAt (c7 .args .f .now) ars (c7 .args .levels)) (c7 .args .n) (c7 .args .at) (c7 .args .sorts)
+    (c7 .args .sorts) q (subst (HeadIs (scopedAt (c7 .args .f .now) ars (c7 .args .n) (c7 .args .at)) (c7 .args .n) (c7 .args .sorts) _)
+    (c .enum-told .given .1) (c3 .see-head .ensures ars t))
 
 pub +see-body+see-formula+see-pair+see-quantifier-spec : {M : Type 1} → statement M
 +see-body+see-formula+see-pair+see-quantifier-spec =

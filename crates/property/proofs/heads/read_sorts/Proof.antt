@@ -7,9 +7,6 @@ use native.Mathlib.Omega.{arith}
 use mathlib.Core.Path.{_≡_, subst}
 use Rattle.property.proofs.heads.read_sorts.Statement.{statement}
 use Rattle.property.proofs.heads.read_sorts.Tie as tie
-use Rattle.property.proofs.heads.read_sorts.Reads as reads
-use Rattle.property.proofs.heads.read_sorts.Lts as lts
-use Rattle.property.proofs.heads.read_sort.Reads as read-sort-reads
 
 abbrev Inv-loop : tie.InvT-loop
 Inv-loop f at k sorts₀ n i₀ j₀ sorts i j =
@@ -19,74 +16,81 @@ abbrev μ-loop : tie.MeasureT-loop
 μ-loop f at k sorts₀ n i₀ j₀ sorts i j =
     k - j
 
--- src/heads.rt:58:5
 loop-holds : tie.Need-loop-holds Inv-loop μ-loop
-loop-holds c =
-    (search needs, sorting-begins (c .before .before .args .f .now) (c .before .before .args .at) (c .before .before .args .n) (c .before .before .args .sorts .now))
+loop-holds c = (
+  search needs,
+  sorting-begins (c .before .before .args .f .now) (c .before .before .args .at) (c .before .before .args .n)
+      (c .before .before .args .sorts .now),
+)
 
--- src/heads.rt:59:15
 read-sort-requires : tie.Need-read-sort-requires Inv-loop μ-loop
 read-sort-requires c κs = search needs
 
--- src/heads.rt:60:27
 enum-known-v : tie.Need-enum-known-v Inv-loop μ-loop
 enum-known-v c = search needs
 
--- src/heads.rt:61:32
 cast-sorts : tie.Need-cast-sorts Inv-loop μ-loop
 cast-sorts c =
-    let h = subst (SortIs (c .before .before .before .before .before .before .before .before .args .f .now) (c .before .before .before .before .before .loop .i)) (c .before .v .given .1) (c .before .before .before .read-sort .ensures) in
+    let c3 = c .before .before .before in
+    let c5 = c3 .before .before in
+    let c8 = c5 .before .before .before in
+    let h = subst (SortIs (c8 .args .f .now) (c5 .loop .i)) (c .before .v .given .1) (c3 .read-sort .ensures) in
     omega (arith, h .1)
 
--- src/heads.rt:61:23
 add-sorts : tie.Need-add-sorts Inv-loop μ-loop
 add-sorts c =
-    omega (arith, c .before .before .before .before .before .before .before .before .pre, c .before .before .before .before .before .loop .inv .1 .size, c .before .before .before .before .loop-test .taken)
+    let c4 = c .before .before .before .before in
+    let c5 = c4 .before in
+    let c8 = c5 .before .before .before in
+    omega (arith, c8 .pre, c5 .loop .inv .1 .size, c4 .loop-test .taken)
 
--- src/heads.rt:61:17
 slice-write-sorts : tie.Need-slice-write-sorts Inv-loop μ-loop
 slice-write-sorts c =
-    omega (arith, c .before .before .before .before .before .before .before .before .pre, c .before .before .before .before .before .loop .inv .1 .size, c .before .before .before .before .loop-test .taken)
+    let c4 = c .before .before .before .before in
+    let c5 = c4 .before in
+    let c8 = c5 .before .before .before in
+    omega (arith, c8 .pre, c5 .loop .inv .1 .size, c4 .loop-test .taken)
 
--- src/heads.rt:63:17
 add-j : tie.Need-add-j Inv-loop μ-loop
 add-j c = search needs
 
--- src/heads.rt:58:5
 loop-less : tie.Need-loop-less Inv-loop μ-loop
 loop-less c = search needs
 
--- src/heads.rt:58:5
 loop-again : tie.Need-loop-again Inv-loop μ-loop
 loop-again c =
-    let h = subst (SortIs (c .before .before .before .before .before .before .before .before .args .f .now) (c .before .before .before .before .before .loop .i)) (c .before .v .given .1) (c .before .before .before .read-sort .ensures) in
-    let room : c .before .before .before .before .before .before .before .before .args .n + c .before .before .before .before .before .loop .j < length (c .before .before .before .before .before .loop .sorts) = omega (arith, c .before .before .before .before .before .before .before .before .pre, c .before .before .before .before .before .loop .inv .1 .size, c .before .before .before .before .loop-test .taken) in
-    (search needs, sorting-next (c .before .before .before .before .before .before .before .before .args .f .now) (c .before .before .before .before .before .before .before .before .args .at) (c .before .before .before .before .before .before .before .before .args .n) (c .before .before .before .before .before .before .before .before .args .sorts .now) room (c .before .before .before .before .before .loop .inv .1) h)
+    let c3 = c .before .before .before in
+    let c4 = c3 .before in
+    let c5 = c4 .before in
+    let c8 = c5 .before .before .before in
+    let h = subst (SortIs (c8 .args .f .now) (c5 .loop .i)) (c .before .v .given .1) (c3 .read-sort .ensures) in
+    let room : c8 .args .n + c5 .loop .j < length (c5 .loop .sorts) = omega (arith, c8 .pre, c5 .loop .inv .1 .size, c4 .loop-test .taken) in
+    (search needs, sorting-next (c8 .args .f .now) (c8 .args .at) (c8 .args .n) (c8 .args .sorts .now) room (c5 .loop .inv .1) h)
 
--- src/heads.rt:66:17
 enum-told : tie.Need-enum-told Inv-loop μ-loop
 enum-told c = search needs
 
--- src/heads.rt:66:17
 same-length : tie.Need-same-length Inv-loop μ-loop
 same-length c =
     c .before .before .before .before .loop .inv .1 .size
 
--- src/heads.rt:66:17
 returns : tie.Need-returns Inv-loop μ-loop
 returns c =
-    sorting-stops (c .before .before .before .before .before .before .before .args .f .now) (c .before .before .before .before .before .before .before .args .at) (c .before .before .before .before .before .before .before .args .n) (c .before .before .before .before .before .before .before .args .sorts .now) (c .before .before .before .loop-test .taken) (c .before .before .before .before .loop .inv .1) (subst (SortIs (c .before .before .before .before .before .before .before .args .f .now) (c .before .before .before .before .loop .i)) (c .enum-told .given .1) (c .before .before .read-sort .ensures))
+    let c3 = c .before .before .before in
+    let c4 = c3 .before in
+    let c7 = c4 .before .before .before in
+    sorting-stops (c7 .args .f .now) (c7 .args .at) (c7 .args .n) (c7 .args .sorts .now) (c3 .loop-test .taken) (c4 .loop .inv .1)
+    (subst (SortIs (c7 .args .f .now) (c4 .loop .i)) (c .enum-told .given .1) (c .before .before .read-sort .ensures))
 
--- src/heads.rt:52:1
 same-length-2 : tie.Need-same-length-2 Inv-loop μ-loop
 same-length-2 c =
     c .before .loop .inv .1 .size
 
--- src/heads.rt:52:1
 returns-2 : tie.Need-returns-2 Inv-loop μ-loop
 returns-2 c =
-    let m : c .before .loop .j ≡ c .before .before .before .before .args .k = omega arith in
-    sorting-ends (c .before .before .before .before .args .f .now) (c .before .before .before .before .args .at) (c .before .before .before .before .args .n) (c .before .before .before .before .args .sorts .now) m (c .before .loop .inv .1)
+    let c4 = c .before .before .before .before in
+    let m : c .before .loop .j ≡ c4 .args .k = omega arith in
+    sorting-ends (c4 .args .f .now) (c4 .args .at) (c4 .args .n) (c4 .args .sorts .now) m (c .before .loop .inv .1)
 
 pub read-sorts-spec : {M : Type 1} → statement M
 read-sorts-spec =

@@ -11,9 +11,6 @@ use native.Mathlib.Omega.{arith}
 use mathlib.Core.Path.{_≡_, ap, sym, _∙_}
 use Rattle.property.proofs.terms.fit_terms.Statement.{statement}
 use Rattle.property.proofs.terms.fit_terms.Tie as tie
-use Rattle.property.proofs.terms.fit_terms.Reads as reads
-use Rattle.property.proofs.terms.fit_terms.Lts as lts
-use Rattle.property.proofs.terms.fit_term.Reads as fit-term-reads
 
 abbrev Inv-loop : tie.InvT-loop
 Inv-loop f at k sorts n i₀ j₀ fits₀ i j fits =
@@ -23,46 +20,52 @@ abbrev μ-loop : tie.MeasureT-loop
 μ-loop f at k sorts n i₀ j₀ fits₀ i j fits =
     k - j
 
--- src/terms.rt:106:5
 loop-holds : tie.Need-loop-holds Inv-loop μ-loop
-loop-holds c =
-    (search needs, each-none (termAt (c .before .before .args .f .now)) (termFits (scopeOf (c .before .before .args .n) (c .before .before .args .sorts .now))) (c .before .before .args .at))
+loop-holds c = (
+  search needs,
+  each-none (termAt (c .before .before .args .f .now)) (termFits (scopeOf (c .before .before .args .n) (c .before .before .args .sorts .now)))
+      (c .before .before .args .at),
+)
 
--- src/terms.rt:107:15
 fit-term-requires : tie.Need-fit-term-requires Inv-loop μ-loop
 fit-term-requires c κs = search needs
 
--- src/terms.rt:108:23
 enum-known-e : tie.Need-enum-known-e Inv-loop μ-loop
 enum-known-e c = search needs
 
--- src/terms.rt:111:17
 add-j : tie.Need-add-j Inv-loop μ-loop
 add-j c = search needs
 
--- src/terms.rt:106:5
 loop-less : tie.Need-loop-less Inv-loop μ-loop
 loop-less c = search needs
 
--- src/terms.rt:106:5
 loop-again : tie.Need-loop-again Inv-loop μ-loop
 loop-again c =
-    (search needs, each-more (termAt (c .before .before .before .before .before .before .before .before .args .f .now)) (termFits (scopeOf (c .before .before .before .before .before .before .before .before .args .n) (c .before .before .before .before .before .before .before .before .args .sorts .now))) _ _ _ _ _ _ (c .before .before .before .before .before .loop .inv .1) (sym (c .before .before .before .fit-term .ensures) ∙ c .before .e .given .1))
+    let c3 = c .before .before .before in
+    let c5 = c3 .before .before in
+    let c8 = c5 .before .before .before in (
+      search needs,
+      each-more (termAt (c8 .args .f .now)) (termFits (scopeOf (c8 .args .n) (c8 .args .sorts .now))) _ _ _ _ _ _ (c5 .loop .inv .1)
+          (sym (c3 .fit-term .ensures) ∙ c .before .e .given .1),
+    )
 
--- src/terms.rt:114:17
 enum-told : tie.Need-enum-told Inv-loop μ-loop
 enum-told c = search needs
 
--- src/terms.rt:114:17
 returns : tie.Need-returns Inv-loop μ-loop
 returns c =
-    sym (each-stop (termAt (c .before .before .before .before .before .before .before .args .f .now)) (termFits (scopeOf (c .before .before .before .before .before .before .before .args .n) (c .before .before .before .before .before .before .before .args .sorts .now))) _ _ _ _ _ (c .before .before .before .before .loop .inv .1) (sym (c .before .before .fit-term .ensures) ∙ c .enum-told .given .1) (c .before .before .before .loop-test .taken))
+    let c3 = c .before .before .before in
+    let c4 = c3 .before in
+    let c7 = c4 .before .before .before in
+    sym (each-stop (termAt (c7 .args .f .now)) (termFits (scopeOf (c7 .args .n) (c7 .args .sorts .now))) _ _ _ _ _ (c4 .loop .inv .1)
+    (sym (c .before .before .fit-term .ensures) ∙ c .enum-told .given .1) (c3 .loop-test .taken))
 
--- src/terms.rt:99:1
 returns-2 : tie.Need-returns-2 Inv-loop μ-loop
 returns-2 c =
-    let m : c .before .loop .j ≡ c .before .before .before .before .args .k = omega arith in
-    sym (ap (λ (q : ℕ). seen (allBy (termFits (scopeOf (c .before .before .before .before .args .n) (c .before .before .before .before .args .sorts .now)))) (many (termAt (c .before .before .before .before .args .f .now)) q (c .before .before .before .before .args .at))) (sym m) ∙ c .before .loop .inv .1)
+    let c4 = c .before .before .before .before in
+    let m : c .before .loop .j ≡ c4 .args .k = omega arith in
+    sym (ap (λ (q : ℕ). seen (allBy (termFits (scopeOf (c4 .args .n) (c4 .args .sorts .now)))) (many (termAt (c4 .args .f .now)) q (c4 .args .at))) (sym m) ∙ c
+    .before .loop .inv .1)
 
 pub fit-terms-spec : {M : Type 1} → statement M
 fit-terms-spec =
