@@ -107,6 +107,7 @@ module _ (file : List ℕ) where
   unfoldable pub termAt : ℕ → Read Term
   termAt at = andThen (below file termTags at) (λ t e. andThen (readNumber file e) (λ n d. got (termOf t n) d))
 
+  -- "each sort (0 message, 3 time)"
   unfoldable pub sortAt : ℕ → Read Sort
   sortAt at = andThen (readNumber file at) (λ v e. pick (eqb v messageSort) (got msg e) (pick (eqb v timeSort) (got tmp e) fault))
 
@@ -130,16 +131,19 @@ module _ (file ars : List ℕ) where
       andThen (below file (length ars) at) (λ s e.
       andThen (many (termAt file) (getD ars s 0) e) (λ ts d. got (pattern-of s ts) d))
 
+  -- "fact, time variable"
   unfoldable pub timedAt : ℕ → Read Timed
   timedAt at = andThen (factAt at) (λ g e. andThen (readNumber file e) (λ i d. got (timed-of g i) d))
 
+  -- "a count of new variables (8), each sort (0 message, 3 time), a guard fact, its time variable"
   unfoldable pub headAt : ℕ → Read Head
   headAt at = andThen (counted file mostNew (sortAt file) at) (λ s e. andThen (timedAt e) (λ g d. got (head-of s g) d))
 
-  -- what stands behind an atom's tag: 1, 2 equal; 3, 4 before; 5, 6 same time; 7, 8 action
+  -- "action .. (fact, time variable)"
   unfoldable pub actionAt : ℕ → Read Atom
   actionAt at = andThen (timedAt at) (λ g e. got (action (g .pattern) (g .time)) e)
 
+  -- what stands behind an atom's tag: 1, 2 equal; 3, 4 before; 5, 6 same time; 7, 8 action
   abbrev pub atomAt : ℕ → ℕ → Read Atom
   atomAt tag at =
       pick (ltb tag beforeTag) (equalAt file at) (pick (ltb tag actionTag) (timesAt file (ltb tag sameTimeTag) at) (actionAt at))

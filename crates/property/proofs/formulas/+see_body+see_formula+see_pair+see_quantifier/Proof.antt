@@ -1,5 +1,6 @@
 use borrow.Author.Needs.{needs}
-use Rattle.property.specs.Walk.Formulas.{pair-end, pair-fault, quant-room, quant-end, quant-fault, body-false, body-atom, body-pair, body-quant, level-none, level-tag, level-fault}
+use Rattle.property.specs.Walk.Formulas.{pair-end, pair-fault, quant-room, quant-end, quant-fault, body-false}
+use Rattle.property.specs.Walk.Formulas.{body-atom, body-pair, body-quant, level-none, level-tag, level-fault}
 use Rattle.property.specs.Walk.{scopeOf, HeadIs}
 use Rattle.property.specs.Layout.{scopedAt, formulaAt}
 use Rattle.number.specs.Reading.{asRead}
