@@ -47,6 +47,11 @@ pub record Listed (p s nodes entries : List ℕ) (P : Protocol) (xs : List Node)
   pub right : RightNodes p s nodes (length xs) P xs
   pub each : (e : ℕ) → e < length (actionsIn P xs) → EntryIs P xs (getD entries e 0) e
 
+-- and how many there are
+pub record ListedAll (p s nodes entries : List ℕ) (total : ℕ) (P : Protocol) (xs : List Node) : Type 0 where
+  pub listed : Listed p s nodes entries P xs
+  pub count : total ≡ length (actionsIn P xs)
+
 -- ── of right nodes ──
 module _ {p s nodes : List ℕ} {n : ℕ} {P : Protocol} {xs : List Node} (r : RightNodes p s nodes n P xs) where
   pub right-all : RightNodes p s nodes (length xs) P xs
@@ -215,3 +220,12 @@ module _ {p nodes : List ℕ} {n : ℕ} {s : List ℕ} {P : Protocol} {xs : List
           entered = g .so-far .entered;
           all = g .so-far .is ∙ ap (actionsBefore P xs) z ∙ before-all (actions P) xs;
         })
+
+-- ── the listed ones ──
+pub total-few : {p s nodes entries : List ℕ} {total : ℕ} {P : Protocol} {xs : List Node} → ListedAll p s nodes entries total P xs → total ≤ mostActions
+total-few a = omega (arith, a .count, actions-few (a .listed .right))
+
+pub all-listed :
+    {p nodes starts symbols entries : List ℕ} {total : ℕ} {s : List ℕ} {P : Protocol} {xs : List Node}
+    → AllEntered p nodes starts symbols entries total s P xs → ListedAll p s nodes entries total P xs
+all-listed a = record { listed = record { right = a .entered .right; each = λ e l. a .entered .each e (omega (arith, a .all)) }; count = a .all }

@@ -8,3 +8,5 @@ pub mod Chains
 pub mod Tables
 -- the actions by the number of their entry
 pub mod Entries
+-- the first number of each place: a public name's, or a mark
+pub mod Numbers

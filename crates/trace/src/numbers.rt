@@ -1,0 +1,133 @@
+// The first number of each argument: a public name's, or a mark of its canonical form.
+ghost use mathlib.Core.Path.{_≡_};
+ghost use mathlib.Core.List.{List};
+ghost use Prim.Native.Nat.{_+_, _*_, _≤_, _<_};
+ghost use lib.ListN.{length};
+ghost use Rattle.lists.specs.Asks.{Asks, Promises, Asks₂, Promises₂};
+ghost use Rattle.term.specs.Term.{Term};
+ghost use Rattle.message.specs.Canon.{canon};
+ghost use Rattle.protocol.specs.Protocol.{Protocol};
+ghost use Rattle.steps.specs.Nodes.{Node, noNode};
+ghost use Rattle.facts.specs.Calls.{Room, OneOf, factAt, argumentAt};
+ghost use Rattle.facts.specs.Marks.{markFrom};
+ghost use Rattle.trace.specs.Tables.{stride, mostActions, placeCount, actionsIn};
+ghost use Rattle.trace.specs.Entries.{ListedAll};
+ghost use Rattle.trace.specs.Numbers.{FormIn, formNumber, argumentNumber, Counted, ActionOf, NumberedTo};
+use crate::entries;
+use facts::nodes::FactId;
+use facts::symbols;
+use facts::writing::Wanted;
+use prepared::sections;
+use steps::values::Name;
+
+// Above all marks and all places: the number of public name 0.
+pub const BASE: u32 = 65536;
+
+// Argument j of entry e has the place STRIDE * e + j.
+pub const STRIDE: usize = protocol::figures::MOST_FACT_ARITY;
+
+pub const PLACES: usize = STRIDE * entries::MOST_ACTIONS;
+
+const MARK_BASE: u32 = 257;
+
+// The mark of some bytes.
+fn mark_bytes(file: &[u8]) -> u32
+    ensures { λ r. ⌜ r ≡ markFrom 0 (now (file .entry)) ⌝ }
+{
+    let mut h: u32 = 0;
+    let mut i: usize = 0;
+    while i < file.len() {
+        h = (h * MARK_BASE + file[i] as u32) % facts::marks::LIMIT;
+        i += 1;
+    }
+    h
+}
+
+// The number of a canonical form.
+fn form_number(form: &[u8], p: &[u8]) -> u32
+    requires { ⌜ Asks (FormIn (now form) (now p)) ⌝ }
+    ensures { λ r. ⌜ Promises (FormIn (now (form .entry)) (now (p .entry))) (λ (t : Term). r ≡ formNumber t) ⌝ }
+{
+    match steps::values::name_at(form, &p[..sections::ARITIES], 0) {
+        Name::FreshName(_) => mark_bytes(form),
+        Name::PublicName(name) => BASE + name.0,
+        Name::Other => mark_bytes(form),
+    }
+}
+
+// The number of argument j of a node's fact.
+fn argument_number(
+    work: &mut [u8],
+    p: &[u8],
+    s: &[u8],
+    nodes: &[usize],
+    x: FactId,
+    j: usize,
+) -> u32
+    requires { ⌜ Asks₂ (OneOf (now p) (now s) (now nodes) x j) × Room (now work) 0 ⌝ }
+    ensures { λ r. ⌜ Promises₂ (OneOf (now (p .entry)) (now (s .entry)) (now (nodes .entry)) x j) (λ (P : Protocol) (m : Node). r ≡ formNumber (canon (argumentAt P (x .list) (x .number) j m))) ⌝ }
+{
+    let a = facts::nodes::node_fact(work, 0, p, s, nodes, x, Wanted::One(j));
+    form_number(&work[..a.end], p)
+}
+
+// The number of place j of a fact that has so many arguments.
+fn place_number(
+    work: &mut [u8],
+    p: &[u8],
+    s: &[u8],
+    nodes: &[usize],
+    x: FactId,
+    count: usize,
+    j: usize,
+) -> u32
+    requires { ⌜ Asks₂ (Counted (now p) (now s) (now nodes) x count) × Room (now work) 0 ⌝ }
+    ensures { λ r. ⌜ Promises₂ (Counted (now (p .entry)) (now (s .entry)) (now (nodes .entry)) x count) (λ (P : Protocol) (m : Node). r ≡ argumentNumber (factAt P (x .list) (x .number) m) j) ⌝ }
+{
+    if j < count {
+        return argument_number(work, p, s, nodes, x, j);
+    }
+    BASE
+}
+
+// The places of the action of entry e.
+fn number_action(
+    work: &mut [u8],
+    p: &[u8],
+    s: &[u8],
+    nodes: &[usize],
+    x: FactId,
+    e: usize,
+    classes: &mut [u32],
+)
+    requires { ⌜ Asks₂ (ActionOf (now p) (now s) (now nodes) x e) × Room (now work) 0 × (e < mostActions) × (placeCount ≤ length (now classes)) ⌝ }
+    ensures { λ r. ⌜ Promises₂ (ActionOf (now (p .entry)) (now (s .entry)) (now (nodes .entry)) x e) (λ (P : Protocol) (xs : List Node). NumberedTo (now (classes .entry)) (stride * e) P xs → NumberedTo (now (classes .exit)) (stride * (e + 1)) P xs) ⌝ }
+{
+    let count = symbols::argument_count(p, nodes, x);
+    let mut j: usize = 0;
+    while j < STRIDE {
+        classes[STRIDE * e + j] = place_number(work, p, s, nodes, x, count, j);
+        j += 1;
+    }
+}
+
+// The places of all actions.
+pub fn number_actions(
+    work: &mut [u8],
+    p: &[u8],
+    s: &[u8],
+    nodes: &[usize],
+    entries: &[u32],
+    total: usize,
+    classes: &mut [u32],
+)
+    requires { ⌜ Asks₂ (ListedAll (now p) (now s) (now nodes) (now entries) total) × Room (now work) 0 × (mostActions ≤ length (now entries)) × (placeCount ≤ length (now classes)) ⌝ }
+    ensures { λ r. ⌜ Promises₂ (ListedAll (now (p .entry)) (now (s .entry)) (now (nodes .entry)) (now (entries .entry)) total) (λ (P : Protocol) (xs : List Node). NumberedTo (now (classes .exit)) (stride * total) P xs) ⌝ }
+{
+    let mut e: usize = 0;
+    while e < total {
+        let x = entries::action_of(entries[e]);
+        number_action(work, p, s, nodes, x, e, classes);
+        e += 1;
+    }
+}
