@@ -5,9 +5,9 @@ use mathlib.Core.List.{List}
 use mathlib.Core.Logic.{_↔_}
 use mathlib.Core.Path.{_≡_, refl, ap, sym, _∙_, subst}
 use native.Mathlib.Omega.{arith}
-use lib.ListN.{length, getD, set, replicate, length-set, getD-replicate, length-replicate, List·getD-eq-default}
+use lib.ListN.{length, getD, set, length-set}
 use lib.Seq.{getD-set-same, getD-set-other}
-use Rattle.lists.specs.Choice.{by-size, by-order}
+use Rattle.lists.specs.Choice.{by-order}
 
 -- above all marks and all places
 abbrev pub base : ℕ
@@ -69,8 +69,8 @@ module _ {K : Type 0} (key : ℕ → K) (raw : List ℕ) where
     pub found : (q : ℕ) → q < m → Marked q → (l : ℕ) × (key l ≡ key q) × InChain chains (getD chains (getD raw q 0) 0) l
 
   -- ── at the start ──
-  pub classed-none : (n : ℕ) → Classed raw (replicate n 0) 0
-  classed-none n = record {
+  pub classed-none : (chains : List ℕ) → ((i : ℕ) → getD chains i 0 ≡ 0) → Classed raw chains 0
+  classed-none chains none = record {
     kept = λ q l. refl;
     named = λ q l. refl;
     low = λ q l k. absurd (omega arith);
@@ -79,10 +79,6 @@ module _ {K : Type 0} (key : ℕ → K) (raw : List ℕ) where
     falls = λ r. omega (arith, none (linksAt + r));
     found = λ q l. absurd (omega arith);
   }
-    where
-      none : (i : ℕ) → getD (replicate {A = ℕ} n 0) i 0 ≡ 0
-      none i =
-          by-size i n (λ l. getD-replicate n i 0 0 l) (λ l. List·getD-eq-default (replicate n 0) 0 (omega (arith, l, length-replicate {A = ℕ} n 0)))
 
   module _ {classes chains : List ℕ} {m : ℕ} (c : Classed classes chains m) where
     -- ── a place that has a name, or none ──
@@ -108,7 +104,7 @@ module _ {K : Type 0} (key : ℕ → K) (raw : List ℕ) where
         go (suc r) e = omega (arith, c .sound i r e .0)
 
     module _ (room : m < length classes) (marked : Marked m) 
-        (marks : (q r : ℕ) → Marked q → Marked r → key q ≡ key r → getD raw q 0 ≡ getD raw r 0) where
+        (marks : (q r : ℕ) → q < m + 1 → r < m + 1 → Marked q → Marked r → key q ≡ key r → getD raw q 0 ≡ getD raw r 0) where
       -- ── an earlier place has its key ──
       module _ (r : ℕ) (less : r < m) (is : Marked r) (eq : key r ≡ key m) where
         abbrev classes₁ : List ℕ
@@ -151,13 +147,13 @@ module _ {K : Type 0} (key : ℕ → K) (raw : List ℕ) where
               );
           sound = λ i q e. let s = c .sound i q e in (omega (arith, s .0), s .1);
           falls = c .falls;
-          found = λ q l k. let a = by q l k in leader q k a;
+          found = λ q l k. leader q l k (by q l k);
         }
           where
-            leader : (q : ℕ) → Marked q → By q → (l : ℕ) × (key l ≡ key q) × InChain chains (getD chains (getD raw q 0) 0) l
-            leader q k a =
+            leader : (q : ℕ) → q < m + 1 → Marked q → By q → (l : ℕ) × (key l ≡ key q) × InChain chains (getD chains (getD raw q 0) 0) l
+            leader q b k a =
                 let (l, e, i) = c .found (a .at) (a .at-less) (a .at-marked) in
-                (l, e ∙ sym (a .keys), subst (λ (h : ℕ). InChain chains (getD chains h 0) l) (marks (a .at) q (a .at-marked) k (sym (a .keys))) i)
+                (l, e ∙ sym (a .keys), subst (λ (h : ℕ). InChain chains (getD chains h 0) l) (marks (a .at) q (omega (arith, a .at-less)) b (a .at-marked) k (sym (a .keys))) i)
 
       -- ── none has it ──
       module _ (new : (q : ℕ) → q < m → Marked q → key q ≡ key m → ⊥) (long : linksAt + m < length chains) where

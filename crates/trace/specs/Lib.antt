@@ -10,3 +10,5 @@ pub mod Tables
 pub mod Entries
 -- the first number of each place: a public name's, or a mark
 pub mod Numbers
+-- the class of each place
+pub mod Classes

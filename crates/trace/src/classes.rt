@@ -1,0 +1,108 @@
+// The class of each argument: the place of the first one that is the same message.
+ghost use mathlib.Core.Path.{_≡_};
+ghost use mathlib.Core.List.{List};
+ghost use Prim.Native.Nat.{ℕ, _+_, _*_, _≤_, _<_};
+ghost use lib.ListN.{length, getD};
+ghost use Rattle.lists.specs.Asks.{Asks₂, Promises₂, Asks₃, Promises₃};
+ghost use Rattle.protocol.specs.Protocol.{Protocol};
+ghost use Rattle.steps.specs.Nodes.{Node};
+ghost use Rattle.facts.specs.Writing.{factRoom};
+ghost use Rattle.facts.specs.Calls.{Room};
+ghost use Rattle.trace.specs.Tables.{stride, mostActions, placeCount};
+ghost use Rattle.trace.specs.Chains.{linksAt, Classed};
+ghost use Rattle.trace.specs.Classes.{Walkable, Earlier, keyAt, Classing, Ready};
+use crate::entries;
+use crate::numbers;
+use facts::compare;
+
+// The chains of places: for each mark the last place that begins a class, and one; behind these, for each such place the one before it.
+const LINKS: usize = numbers::BASE as usize;
+
+pub const CHAINS: usize = LINKS + numbers::PLACES;
+
+// A place in the chain from a head on whose argument is the same as that of place q, and one; 0 if there is none.
+fn earlier(
+    work: &mut [u8],
+    p: &[u8],
+    s: &[u8],
+    nodes: &[usize],
+    entries: &[u32],
+    chains: &[u32],
+    head: u32,
+    q: usize,
+) -> u32
+    requires { ⌜ Asks₂ (Walkable (now p) (now s) (now nodes) (now entries) (now chains) head q) × Room (now work) factRoom × (mostActions ≤ length (now entries)) × (linksAt + placeCount ≤ length (now chains)) ⌝ }
+    ensures { λ r. ⌜ Promises₂ (Walkable (now (p .entry)) (now (s .entry)) (now (nodes .entry)) (now (entries .entry)) (now (chains .entry)) head q) (λ (P : Protocol) (xs : List Node). Earlier (keyAt P xs) (now (chains .entry)) head q r) ⌝ }
+{
+    let x = entries::action_of(entries[q / numbers::STRIDE]);
+    let mut h = head;
+    while h != 0 {
+        let r = h as usize - 1;
+        let y = entries::action_of(entries[r / numbers::STRIDE]);
+        if compare::same_argument(
+            work,
+            p,
+            s,
+            nodes,
+            x,
+            q % numbers::STRIDE,
+            y,
+            r % numbers::STRIDE,
+        ) {
+            return h;
+        }
+        h = chains[LINKS + r];
+    }
+    0
+}
+
+// The class of place q: a public name keeps its number; else that of an earlier place with the same argument, or q itself.
+fn class_place(
+    work: &mut [u8],
+    p: &[u8],
+    s: &[u8],
+    nodes: &[usize],
+    entries: &[u32],
+    classes: &mut [u32],
+    chains: &mut [u32],
+    q: usize,
+)
+    requires { ⌜ Asks₃ (Classing (now p) (now s) (now nodes) (now entries) (now classes) (now chains) q) × Room (now work) factRoom × (mostActions ≤ length (now entries)) × (placeCount ≤ length (now classes)) × (linksAt + placeCount ≤ length (now chains)) ⌝ }
+    ensures { λ r. ⌜ Promises₃ (Classing (now (p .entry)) (now (s .entry)) (now (nodes .entry)) (now (entries .entry)) (now (classes .entry)) (now (chains .entry)) q) (λ (raw : List ℕ) (P : Protocol) (xs : List Node). Classed (keyAt P xs) raw (now (classes .exit)) (now (chains .exit)) (q + 1)) ⌝ }
+{
+    let mark = classes[q];
+    if numbers::BASE <= mark {
+        return;
+    }
+    let head = chains[mark as usize];
+    let h = earlier(work, p, s, nodes, entries, chains, head, q);
+    if h == 0 {
+        classes[q] = q as u32;
+        chains[LINKS + q] = head;
+        chains[mark as usize] = (q + 1) as u32;
+        return;
+    }
+    classes[q] = classes[h as usize - 1];
+}
+
+// The classes of all places, from their first numbers. The chains are empty at first.
+pub fn class_places(
+    work: &mut [u8],
+    p: &[u8],
+    s: &[u8],
+    nodes: &[usize],
+    entries: &[u32],
+    classes: &mut [u32],
+    chains: &mut [u32],
+    total: usize,
+)
+    requires { ⌜ Asks₂ (Ready (now p) (now s) (now nodes) (now entries) (now classes) total) × Room (now work) factRoom × (mostActions ≤ length (now entries)) × (placeCount ≤ length (now classes)) × (linksAt + placeCount ≤ length (now chains)) × ((i : ℕ) → getD (now chains) i 0 ≡ 0) ⌝ }
+    ensures { λ r. ⌜ Promises₂ (Ready (now (p .entry)) (now (s .entry)) (now (nodes .entry)) (now (entries .entry)) (now (classes .entry)) total) (λ (P : Protocol) (xs : List Node). Classed (keyAt P xs) (now (classes .entry)) (now (classes .exit)) (now (chains .exit)) (stride * total)) ⌝ }
+{
+    let end = numbers::STRIDE * total;
+    let mut q: usize = 0;
+    while q < end {
+        class_place(work, p, s, nodes, entries, classes, chains, q);
+        q += 1;
+    }
+}
