@@ -14,6 +14,8 @@ use Rattle.steps.specs.Facts.{factsOf}
 use Rattle.facts.specs.Calls.{factAt, argumentAt}
 use Rattle.trace.specs.Joined.{joined, before}
 use Rattle.trace.specs.Chains.{base}
+-- the tables that the code makes
+pub mod Made
 
 -- ── sizes ──
 -- the actions of all nodes, and the places of their arguments
