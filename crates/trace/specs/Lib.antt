@@ -12,3 +12,5 @@ pub mod Entries
 pub mod Numbers
 -- the class of each place
 pub mod Classes
+-- the nodes with an action
+pub mod Active

@@ -5,7 +5,7 @@ use mathlib.Core.Bool.{Bool}
 use mathlib.Core.Logic.{_↔_}
 use mathlib.Core.Path.{_≡_, refl, ap, ap₂, sym, _∙_, subst}
 use native.Mathlib.Omega.{arith}
-use lib.ListN.{length, getD}
+use lib.ListN.{length, getD, replicate, getD-replicate, length-replicate, List·getD-eq-default}
 use lib.Dec.{ltb}
 use borrow.Author.Tests.{lt-ltb}
 use Rattle.lists.specs.Choice.{pick, by-size}
@@ -22,14 +22,15 @@ use Rattle.steps.specs.Causes.Good.{RightNodes}
 use Rattle.steps.specs.Nodes.{Node, noNode, NodeWithin}
 use Rattle.steps.specs.Facts.Formed.{FactFormed, facts-formed}
 use Rattle.steps.specs.Values.Parts.{noTerm}
-use Rattle.facts.specs.Calls.{factAt, argumentAt}
+use Rattle.facts.specs.Writing.{factRoom}
+use Rattle.facts.specs.Calls.{factAt, argumentAt, Room}
 use Rattle.facts.specs.Marks.{markFrom, markBase, markLimit, mark-small}
 use Rattle.trace.specs.Joined.{joined-at, before-inside}
 use Rattle.trace.specs.Chains.{base, Classed, Marked}
 use Rattle.trace.specs.Tables.{ar, stride, placeCount, actions, actionsIn, entryOf, placeOf, ArgumentIs, Tables}
-use Rattle.trace.specs.Entries.{AllEntered, actions-few}
+use Rattle.trace.specs.Entries.{AllEntered, actions-few, all-listed}
 use Rattle.trace.specs.Numbers.{publicNumber, formNumber, argumentNumber, NumberedTo}
-use Rattle.trace.specs.Classes.{actionAt, termAt, keyAt, IsPlace}
+use Rattle.trace.specs.Classes.{actionAt, termAt, keyAt, IsPlace, Ready}
 
 -- ── for crate facts: marks of bytes are below their limit ──
 from-below : (h : ℕ) → h < markLimit → (bs : List ℕ) → markFrom h bs < markLimit
@@ -174,3 +175,16 @@ module _ {p s nodes starts symbols entries raw classes chains : List ℕ} {total
           λ h. w .1 (argument-key right a ∙ d .1 h),
         );
   }
+
+-- ── what the parts of the code ask of each other ──
+pub room-less : (work : List ℕ) → Room work factRoom → Room work 0
+room-less work r = record { enough = omega (arith, r .enough); short = r .short }
+
+pub ready :
+    {p nodes starts symbols entries raw : List ℕ} {total : ℕ} {s : List ℕ} {P : Protocol} {xs : List Node}
+    → AllEntered p nodes starts symbols entries total s P xs → NumberedTo raw (stride * total) P xs → Ready p s nodes entries raw total P xs
+ready e t = record { all = all-listed e; numbered = t }
+
+pub zeros-at : (n i : ℕ) → getD (replicate {A = ℕ} n 0) i 0 ≡ 0
+zeros-at n i =
+    by-size i n (λ l. getD-replicate n i 0 0 l) (λ l. List·getD-eq-default (replicate n 0) 0 (omega (arith, l, length-replicate {A = ℕ} n 0)))

@@ -1,0 +1,44 @@
+// The tables of a trace: where the actions of each node begin, the symbol of each action, the class of each argument.
+ghost use mathlib.Core.List.{List};
+ghost use Prim.Native.Nat.{_≤_, _<_};
+ghost use lib.ListN.{length};
+ghost use Rattle.lists.specs.Asks.{Asks₂, Promises₂};
+ghost use Rattle.protocol.specs.Protocol.{Protocol};
+ghost use Rattle.steps.specs.Nodes.{Node};
+ghost use Rattle.steps.specs.Causes.Good.{RightNodes};
+ghost use Rattle.facts.specs.Writing.{factRoom};
+ghost use Rattle.facts.specs.Calls.{Room};
+ghost use Rattle.trace.specs.Tables.{mostActions, placeCount, Tables};
+use crate::classes;
+use crate::entries;
+use crate::numbers;
+
+// The actions of the n nodes of a table, in numbers. Canonical bytes go into the work slice.
+pub fn make_tables(
+    work: &mut [u8],
+    p: &[u8],
+    s: &[u8],
+    nodes: &[usize],
+    n: usize,
+    starts: &mut [u32],
+    symbols: &mut [u32],
+    classes: &mut [u32],
+)
+    requires { ⌜ Asks₂ (RightNodes (now p) (now s) (now nodes) n) × Room (now work) factRoom × (n < length (now starts)) × (mostActions ≤ length (now symbols)) × (placeCount ≤ length (now classes)) ⌝ }
+    ensures { λ r. ⌜ Promises₂ (RightNodes (now (p .entry)) (now (s .entry)) (now (nodes .entry)) n) (λ (P : Protocol) (xs : List Node). Tables (now (starts .exit)) (now (symbols .exit)) (now (classes .exit)) P xs) ⌝ }
+{
+    let mut entries = [0u32; entries::MOST_ACTIONS];
+    let total = entries::enter_nodes(p, nodes, n, starts, symbols, &mut entries);
+    numbers::number_actions(work, p, s, nodes, &entries, total, classes);
+    let mut chains = [0u32; classes::CHAINS];
+    classes::class_places(
+        work,
+        p,
+        s,
+        nodes,
+        &entries,
+        classes,
+        &mut chains,
+        total,
+    );
+}
