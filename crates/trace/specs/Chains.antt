@@ -103,7 +103,7 @@ module _ {K : Type 0} (key : ℕ → K) (raw : List ℕ) where
         go zero e = omega arith
         go (suc r) e = omega (arith, c .sound i r e .0)
 
-    module _ (room : m < length classes) (marked : Marked m) 
+    module _ (room : m < length classes) (marked : Marked m)
         (marks : (q r : ℕ) → q < m + 1 → r < m + 1 → Marked q → Marked r → key q ≡ key r → getD raw q 0 ≡ getD raw r 0) where
       -- ── an earlier place has its key ──
       module _ (r : ℕ) (less : r < m) (is : Marked r) (eq : key r ≡ key m) where

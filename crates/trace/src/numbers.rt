@@ -56,14 +56,7 @@ fn form_number(form: &[u8], p: &[u8]) -> u32
 }
 
 // The number of argument j of a node's fact.
-fn argument_number(
-    work: &mut [u8],
-    p: &[u8],
-    s: &[u8],
-    nodes: &[usize],
-    x: FactId,
-    j: usize,
-) -> u32
+fn argument_number(work: &mut [u8], p: &[u8], s: &[u8], nodes: &[usize], x: FactId, j: usize) -> u32
     requires { ⌜ Asks₂ (OneOf (now p) (now s) (now nodes) x j) × Room (now work) 0 ⌝ }
     ensures { λ r. ⌜ Promises₂ (OneOf (now (p .entry)) (now (s .entry)) (now (nodes .entry)) x j) (λ (P : Protocol) (m : Node). r ≡ formNumber (canon (argumentAt P (x .list) (x .number) j m))) ⌝ }
 {

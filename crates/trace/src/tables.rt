@@ -31,14 +31,5 @@ pub fn make_tables(
     let total = entries::enter_nodes(p, nodes, n, starts, symbols, &mut entries);
     numbers::number_actions(work, p, s, nodes, &entries, total, classes);
     let mut chains = [0u32; classes::CHAINS];
-    classes::class_places(
-        work,
-        p,
-        s,
-        nodes,
-        &entries,
-        classes,
-        &mut chains,
-        total,
-    );
+    classes::class_places(work, p, s, nodes, &entries, classes, &mut chains, total);
 }

@@ -70,11 +70,14 @@ loop-less c = search needs
 
 -- src/active.rt:20:5
 loop-again : tie.Need-loop-again Inv-loop μ-loop
-loop-again c =
-    (omega arith, ⊎-elim (λ h. omega (arith, h .1, c .before .before .before .before .loop .inv .1)) (λ h. omega (arith, h .1, c .before .before .before .before .loop .inv .1)) (c .if1 .came), λ P xs b e.
-    let l : c .before .before .before .before .loop .k < length xs = omega (arith, e, c .before .before .before .loop-test .taken) in
-    let o = c .before .before .before .before .loop .inv .2 P xs b e in
-    ⊎-elim (λ h. h .1 ∙ active-more b (c .before .before .before .before .loop .k) l _ o (h .0 .taken)) (λ h. h .1 ∙ active-same b (c .before .before .before .before .loop .k) l _ o (omega (arith, h .0 .left))) (c .if1 .came))
+loop-again c = (
+  omega arith,
+  ⊎-elim (λ h. omega (arith, h .1, c .before .before .before .before .loop .inv .1)) (λ h. omega (arith, h .1, c .before .before .before .before .loop .inv .1)) (c .if1 .came),
+  λ P xs b e.
+      let l : c .before .before .before .before .loop .k < length xs = omega (arith, e, c .before .before .before .loop-test .taken) in
+      let o = c .before .before .before .before .loop .inv .2 P xs b e in
+      ⊎-elim (λ h. h .1 ∙ active-more b (c .before .before .before .before .loop .k) l _ o (h .0 .taken)) (λ h. h .1 ∙ active-same b (c .before .before .before .before .loop .k) l _ o (omega (arith, h .0 .left))) (c .if1 .came),
+)
 
 -- src/active.rt:14:1
 returns : tie.Need-returns Inv-loop μ-loop

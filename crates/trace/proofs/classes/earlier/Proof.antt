@@ -125,13 +125,15 @@ loop-less c =
 
 -- src/classes.rt:39:5
 loop-again : tie.Need-loop-again Inv-loop μ-loop
-loop-again c =
-    (search needs, λ P xs w.
-    let e : c .before .before .before .before .before .before .before .before .before .loop .h ≡ suc (c .before .before .before .before .before .before .before .before .before .loop .h - 1) = omega (arith, c .before .before .before .before .before .before .before .before .loop-test .taken) in
-    let i = c .before .before .before .before .before .before .before .before .before .loop .inv .1 P xs w .places _ e in
-    walking-next w (c .before .before .before .before .before .before .before .before .before .loop .inv .1 P xs w) (c .before .before .before .before .before .before .before .before .before .loop .h - 1) e
-    (λ k. true-false _ (keys-test (w .listed) _ _ (w .place) i _ (c .before .before .before .before .before .before .before .before .before .before .action-of .ensures) _ (c .before .before .before .before .before .before .action-of2 .ensures) _
-    (c .before .before .before .before .same-argument .ensures P _ _ (two-places (w .listed) _ _ (w .place) i _ (c .before .before .before .before .before .before .before .before .before .before .action-of .ensures) _ (c .before .before .before .before .before .before .action-of2 .ensures))) .1 k) (c .before .if1 .left)))
+loop-again c = (
+  search needs,
+  λ P xs w.
+      let e : c .before .before .before .before .before .before .before .before .before .loop .h ≡ suc (c .before .before .before .before .before .before .before .before .before .loop .h - 1) = omega (arith, c .before .before .before .before .before .before .before .before .loop-test .taken) in
+      let i = c .before .before .before .before .before .before .before .before .before .loop .inv .1 P xs w .places _ e in
+      walking-next w (c .before .before .before .before .before .before .before .before .before .loop .inv .1 P xs w) (c .before .before .before .before .before .before .before .before .before .loop .h - 1) e
+      (λ k. true-false _ (keys-test (w .listed) _ _ (w .place) i _ (c .before .before .before .before .before .before .before .before .before .before .action-of .ensures) _ (c .before .before .before .before .before .before .action-of2 .ensures) _
+      (c .before .before .before .before .same-argument .ensures P _ _ (two-places (w .listed) _ _ (w .place) i _ (c .before .before .before .before .before .before .before .before .before .before .action-of .ensures) _ (c .before .before .before .before .before .before .action-of2 .ensures))) .1 k) (c .before .if1 .left)),
+)
 
 -- src/classes.rt:24:1
 same-length-2 : tie.Need-same-length-2 Inv-loop μ-loop

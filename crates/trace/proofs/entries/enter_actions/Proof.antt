@@ -103,10 +103,14 @@ loop-less c = search needs
 
 -- src/entries.rt:46:5
 loop-again : tie.Need-loop-again Inv-loop μ-loop
-loop-again c =
-    (omega arith, search needs, search needs, λ s P xs b.
-    let l = inside b _ (c .before .before .before .fact-count .ensures) _ (c .before .loop-test .taken) in
-    begun-more b (c .before .before .loop .i) l (c .before .before .loop .inv .3 s P xs b) (omega (arith, c .before .before .loop .inv .1, c .before .before .before .before .before .before .before .before .pre .1)) (omega (arith, c .before .before .loop .inv .2, c .before .before .before .before .before .before .before .before .pre .2)) _ (c .fact-symbol .ensures s P _ (begun-listed b _ l)))
+loop-again c = (
+  omega arith,
+  search needs,
+  search needs,
+  λ s P xs b.
+      let l = inside b _ (c .before .before .before .fact-count .ensures) _ (c .before .loop-test .taken) in
+      begun-more b (c .before .before .loop .i) l (c .before .before .loop .inv .3 s P xs b) (omega (arith, c .before .before .loop .inv .1, c .before .before .before .before .before .before .before .before .pre .1)) (omega (arith, c .before .before .loop .inv .2, c .before .before .before .before .before .before .before .before .pre .2)) _ (c .fact-symbol .ensures s P _ (begun-listed b _ l)),
+)
 
 -- src/entries.rt:56:5
 add-result : tie.Need-add-result Inv-loop μ-loop

@@ -58,10 +58,15 @@ loop-less c = search needs
 
 -- src/entries.rt:73:5
 loop-again : tie.Need-loop-again Inv-loop μ-loop
-loop-again c =
-    (omega arith, search needs, search needs, search needs, λ s P xs r.
-    let g = c .before .before .before .before .before .before .before .before .loop .inv .4 s P xs r in
-    entering-more r g (omega (arith, c .before .before .before .before .before .before .before .before .loop .inv .1, c .before .before .before .before .before .before .before .before .before .before .before .before .before .before .pre .1, c .before .before .before .before .before .before .before .loop-test .taken)) (c .before .before .before .before .enter-actions .ensures s P xs (entering-begun r g (c .before .before .before .before .before .before .before .loop-test .taken))))
+loop-again c = (
+  omega arith,
+  search needs,
+  search needs,
+  search needs,
+  λ s P xs r.
+      let g = c .before .before .before .before .before .before .before .before .loop .inv .4 s P xs r in
+      entering-more r g (omega (arith, c .before .before .before .before .before .before .before .before .loop .inv .1, c .before .before .before .before .before .before .before .before .before .before .before .before .before .before .pre .1, c .before .before .before .before .before .before .before .loop-test .taken)) (c .before .before .before .before .enter-actions .ensures s P xs (entering-begun r g (c .before .before .before .before .before .before .before .loop-test .taken))),
+)
 
 -- src/entries.rt:78:17
 cast-starts-2 : tie.Need-cast-starts-2 Inv-loop μ-loop

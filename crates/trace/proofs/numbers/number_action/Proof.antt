@@ -74,9 +74,13 @@ loop-less c = search needs
 
 -- src/numbers.rt:108:5
 loop-again : tie.Need-loop-again Inv-loop μ-loop
-loop-again c =
-    (omega arith, search needs, search needs, λ P xs a t. numbered-more (c .before .before .before .before .before .before .before .before .before .before .before .before .args .e) (c .before .before .before .before .before .loop .j) _ (c .before .before .before .before .loop-test .taken) (c .before .before .before .before .before .loop .inv .3 P xs a t) (omega (arith, c .before .before .before .before .before .before .before .before .before .before .before .before .pre .2, c .before .before .before .before .before .before .before .before .before .before .before .before .pre .3, c .before .before .before .before .before .loop .inv .2, c .before .before .before .before .loop-test .taken))
-    (c .before .before .place-number .ensures P _ (action-counted a _ (c .before .before .before .before .before .before .argument-count .ensures)) ∙ ap (λ (g : Fact). argumentNumber g (c .before .before .before .before .before .loop .j)) (a .is)))
+loop-again c = (
+  omega arith,
+  search needs,
+  search needs,
+  λ P xs a t. numbered-more (c .before .before .before .before .before .before .before .before .before .before .before .before .args .e) (c .before .before .before .before .before .loop .j) _ (c .before .before .before .before .loop-test .taken) (c .before .before .before .before .before .loop .inv .3 P xs a t) (omega (arith, c .before .before .before .before .before .before .before .before .before .before .before .before .pre .2, c .before .before .before .before .before .before .before .before .before .before .before .before .pre .3, c .before .before .before .before .before .loop .inv .2, c .before .before .before .before .loop-test .taken))
+      (c .before .before .place-number .ensures P _ (action-counted a _ (c .before .before .before .before .before .before .argument-count .ensures)) ∙ ap (λ (g : Fact). argumentNumber g (c .before .before .before .before .before .loop .j)) (a .is)),
+)
 
 -- src/numbers.rt:94:1
 same-length : tie.Need-same-length Inv-loop μ-loop
