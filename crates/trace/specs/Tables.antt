@@ -16,6 +16,8 @@ use Rattle.trace.specs.Joined.{joined, before}
 use Rattle.trace.specs.Chains.{base}
 -- the tables that the code makes
 pub mod Made
+-- the trace that is read off them
+pub mod Trace
 
 -- ── sizes ──
 -- the actions of all nodes, and the places of their arguments
