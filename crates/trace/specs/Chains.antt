@@ -1,17 +1,15 @@
 -- Chains of places by mark, and the classes that they give. Each place that is not numbered by its name gets the number of an earlier place with
 -- the same key, found in the chain of its mark, or else its own.
-use Prim.Native.Nat.{ℕ, zero, suc, _+_, _≤_, _<_}
+use Prim.Native.Nat.{ℕ, suc, _+_, _≤_, _<_}
 use mathlib.Core.List.{List}
 use mathlib.Core.Logic.{_↔_}
-use mathlib.Core.Path.{_≡_, refl, ap, sym, _∙_, subst}
-use native.Mathlib.Omega.{arith}
-use lib.ListN.{length, getD, set, length-set}
-use lib.Seq.{getD-set-same, getD-set-other}
-use Rattle.lists.specs.Choice.{by-order}
-
--- above all marks and all places
-abbrev pub base : ℕ
-base = 65536
+use mathlib.Core.Path.{_≡_}
+use lib.ListN.{getD}
+use Rattle.trace.specs.Tables.{base}
+-- what is in a chain
+pub mod Laws
+-- one place more
+pub mod Steps
 
 -- the heads of the chains, one for each mark; behind them a link for each place
 abbrev pub linksAt : ℕ
@@ -27,247 +25,17 @@ module _ (chains : List ℕ) where
   abbrev pub Falls : Type 0
   Falls = (r : ℕ) → getD chains (linksAt + r) 0 ≤ r
 
--- ── laws of chains ──
-pub chain-ends : {chains : List ℕ} {h l : ℕ} → InChain chains h l → h ≡ 0 → ⊥
-chain-ends (here e) z = omega arith
-chain-ends (later r e c) z = omega arith
+-- ── the classes of the places before m, from their first numbers ──
+-- it has a mark and no name
+abbrev pub Marked : List ℕ → ℕ → Type 0
+Marked raw q = getD raw q 0 < base
 
--- what the head is not is behind it
-pub chain-behind : {chains : List ℕ} {h l : ℕ} → InChain chains h l → (r : ℕ) → h ≡ suc r → (l ≡ r → ⊥) → InChain chains (getD chains (linksAt + r) 0) l
-chain-behind (here e) r h n = absurd (n (omega arith))
-chain-behind {chains} (later {l = l} q e c) r h n =
-    let z : q ≡ r = omega arith in subst (λ (i : ℕ). InChain chains (getD chains (linksAt + i) 0) l) z c
-
--- what holds of all that heads and links name holds of all in a chain
-pub chain-has :
-    {chains : List ℕ} (P : ℕ → Type 0) → ((i r : ℕ) → getD chains i 0 ≡ suc r → P r) → {h l : ℕ} → InChain chains h l → ((r : ℕ) → h ≡ suc r → P r) → P l
-chain-has P sound (here {l = l} e) first = first l e
-chain-has P sound (later r e c) first = chain-has P sound c (λ q z. sound (linksAt + r) q z)
-
--- chains below a place stay where no link of them is changed
-pub chain-kept :
-    {chains : List ℕ} (chains′ : List ℕ) (m : ℕ) → Falls chains → ((r : ℕ) → r < m → getD chains′ (linksAt + r) 0 ≡ getD chains (linksAt + r) 0)
-    → {h l : ℕ} → InChain chains h l → h ≤ m → InChain chains′ h l
-chain-kept chains′ m falls same (here e) b = here e
-chain-kept {chains} chains′ m falls same (later {l = l} r e c) b =
-    later r e
-    (subst (λ (h : ℕ). InChain chains′ h l) (sym (same r (omega arith))) (chain-kept chains′ m falls same c (omega (arith, falls r, e, b))))
-
--- ── the classes of the places below m ──
 module _ {K : Type 0} (key : ℕ → K) (raw : List ℕ) where
-  -- it has a mark and no name
-  abbrev pub Marked : ℕ → Type 0
-  Marked q = getD raw q 0 < base
-
   pub record Classed (classes chains : List ℕ) (m : ℕ) : Type 0 where
     pub kept : (q : ℕ) → m ≤ q → getD classes q 0 ≡ getD raw q 0
     pub named : (q : ℕ) → base ≤ getD raw q 0 → getD classes q 0 ≡ getD raw q 0
-    pub low : (q : ℕ) → q < m → Marked q → getD classes q 0 ≤ q
-    pub same : (q r : ℕ) → q < m → r < m → Marked q → Marked r → (getD classes q 0 ≡ getD classes r 0) ↔ (key q ≡ key r)
-    pub sound : (i r : ℕ) → getD chains i 0 ≡ suc r → (r < m) × Marked r
+    pub low : (q : ℕ) → q < m → Marked raw q → getD classes q 0 ≤ q
+    pub same : (q r : ℕ) → q < m → r < m → Marked raw q → Marked raw r → (getD classes q 0 ≡ getD classes r 0) ↔ (key q ≡ key r)
+    pub sound : (i r : ℕ) → getD chains i 0 ≡ suc r → (r < m) × Marked raw r
     pub falls : Falls chains
-    pub found : (q : ℕ) → q < m → Marked q → (l : ℕ) × (key l ≡ key q) × InChain chains (getD chains (getD raw q 0) 0) l
-
-  -- ── at the start ──
-  pub classed-none : (chains : List ℕ) → ((i : ℕ) → getD chains i 0 ≡ 0) → Classed raw chains 0
-  classed-none chains none = record {
-    kept = λ q l. refl;
-    named = λ q l. refl;
-    low = λ q l k. absurd (omega arith);
-    same = λ q r l. absurd (omega arith);
-    sound = λ i r e. absurd (omega (arith, none i, e));
-    falls = λ r. omega (arith, none (linksAt + r));
-    found = λ q l. absurd (omega arith);
-  }
-
-  module _ {classes chains : List ℕ} {m : ℕ} (c : Classed classes chains m) where
-    -- ── a place that has a name, or none ──
-    pub classed-past : base ≤ getD raw m 0 → Classed classes chains (m + 1)
-    classed-past h = record {
-      kept = λ q l. c .kept q (omega arith);
-      named = c .named;
-      low = λ q l k. c .low q (less q l k) k;
-      same = λ q r l n k j. c .same q r (less q l k) (less r n j) k j;
-      sound = λ i r e. let s = c .sound i r e in (omega (arith, s .0), s .1);
-      falls = c .falls;
-      found = λ q l k. c .found q (less q l k) k;
-    }
-      where
-        less : (q : ℕ) → q < m + 1 → Marked q → q < m
-        less q l k = by-order q m (λ a. a) (λ a. absurd (omega (arith, ap (λ (i : ℕ). getD raw i 0) a, k, h))) (λ a. absurd (omega arith))
-
-    head-low : (i : ℕ) → getD chains i 0 ≤ m
-    head-low i = go (getD chains i 0) refl
-      where
-        go : (h : ℕ) → getD chains i 0 ≡ h → h ≤ m
-        go zero e = omega arith
-        go (suc r) e = omega (arith, c .sound i r e .0)
-
-    module _ (room : m < length classes) (marked : Marked m)
-        (marks : (q r : ℕ) → q < m + 1 → r < m + 1 → Marked q → Marked r → key q ≡ key r → getD raw q 0 ≡ getD raw r 0) where
-      -- ── an earlier place has its key ──
-      module _ (r : ℕ) (less : r < m) (is : Marked r) (eq : key r ≡ key m) where
-        abbrev classes₁ : List ℕ
-        classes₁ = set classes m (getD classes r 0)
-
-        -- each place goes by one before it
-        record By (q : ℕ) : Type 0 where
-          at : ℕ
-          at-less : at < m
-          at-low : at ≤ q
-          at-marked : Marked at
-          class : getD classes₁ q 0 ≡ getD classes at 0
-          keys : key q ≡ key at
-
-        by : (q : ℕ) → q < m + 1 → Marked q → By q
-        by q l k =
-            by-order q m
-            (λ a. record { at = q; at-less = a; at-low = omega arith; at-marked = k; class = getD-set-other classes m q _ 0 (λ z. omega arith); keys = refl })
-            (λ a. record {
-              at = r;
-              at-less = less;
-              at-low = omega arith;
-              at-marked = is;
-              class = ap (λ (i : ℕ). getD classes₁ i 0) a ∙ getD-set-same classes m _ 0 room;
-              keys = ap key a ∙ sym eq;
-            })
-            (λ a. absurd (omega arith))
-
-        pub classed-same : Classed classes₁ chains (m + 1)
-        classed-same = record {
-          kept = λ q l. getD-set-other classes m q _ 0 (λ z. omega arith) ∙ c .kept q (omega arith);
-          named = λ q l. getD-set-other classes m q _ 0 (λ z. absurd (omega (arith, ap (λ (i : ℕ). getD raw i 0) z, marked, l))) ∙ c .named q l;
-          low = λ q l k. let b = by q l k in omega (arith, b .class, c .low (b .at) (b .at-less) (b .at-marked), b .at-low);
-          same = λ q s l n k j.
-              let a = by q l k in
-              let b = by s n j in
-              let w = c .same (a .at) (b .at) (a .at-less) (b .at-less) (a .at-marked) (b .at-marked) in (
-                λ e. a .keys ∙ w .0 (sym (a .class) ∙ e ∙ b .class) ∙ sym (b .keys),
-                λ e. a .class ∙ w .1 (sym (a .keys) ∙ e ∙ b .keys) ∙ sym (b .class),
-              );
-          sound = λ i q e. let s = c .sound i q e in (omega (arith, s .0), s .1);
-          falls = c .falls;
-          found = λ q l k. leader q l k (by q l k);
-        }
-          where
-            leader : (q : ℕ) → q < m + 1 → Marked q → By q → (l : ℕ) × (key l ≡ key q) × InChain chains (getD chains (getD raw q 0) 0) l
-            leader q b k a =
-                let (l, e, i) = c .found (a .at) (a .at-less) (a .at-marked) in
-                (l, e ∙ sym (a .keys), subst (λ (h : ℕ). InChain chains (getD chains h 0) l) (marks (a .at) q (omega (arith, a .at-less)) b (a .at-marked) k (sym (a .keys))) i)
-
-      -- ── none has it ──
-      module _ (new : (q : ℕ) → q < m → Marked q → key q ≡ key m → ⊥) (long : linksAt + m < length chains) where
-        abbrev mark : ℕ
-        mark = getD raw m 0
-
-        abbrev head : ℕ
-        head = getD chains mark 0
-
-        abbrev classes₂ : List ℕ
-        classes₂ = set classes m m
-
-        abbrev chains₁ : List ℕ
-        chains₁ = set chains (linksAt + m) head
-
-        abbrev chains₂ : List ℕ
-        chains₂ = set chains₁ mark (m + 1)
-
-        class-here : getD classes₂ m 0 ≡ m
-        class-here = getD-set-same classes m m 0 room
-
-        class-old : (q : ℕ) → (q ≡ m → ⊥) → getD classes₂ q 0 ≡ getD classes q 0
-        class-old q n = getD-set-other classes m q m 0 n
-
-        head-new : getD chains₂ mark 0 ≡ suc m
-        head-new = getD-set-same chains₁ mark (m + 1) 0 (omega (arith, marked, long, length-set chains (linksAt + m) head)) ∙ omega arith
-
-        other : (i : ℕ) → (i ≡ mark → ⊥) → (i ≡ linksAt + m → ⊥) → getD chains₂ i 0 ≡ getD chains i 0
-        other i a b = getD-set-other chains₁ mark i (m + 1) 0 a ∙ getD-set-other chains (linksAt + m) i head 0 b
-
-        link-new : getD chains₂ (linksAt + m) 0 ≡ head
-        link-new = getD-set-other chains₁ mark (linksAt + m) (m + 1) 0 (λ z. omega (arith, marked)) ∙ getD-set-same chains (linksAt + m) head 0 long
-
-        link-old : (r : ℕ) → r < m → getD chains₂ (linksAt + r) 0 ≡ getD chains (linksAt + r) 0
-        link-old r l = other (linksAt + r) (λ z. omega (arith, marked)) (λ z. omega arith)
-
-        kept-chain : (i l : ℕ) → InChain chains (getD chains i 0) l → InChain chains₂ (getD chains i 0) l
-        kept-chain i l s = chain-kept chains₂ m (c .falls) link-old s (head-low i)
-
-        same-new : (q r : ℕ) → q < m + 1 → r < m + 1 → Marked q → Marked r → (getD classes₂ q 0 ≡ getD classes₂ r 0) ↔ (key q ≡ key r)
-        same-new q r l n k j =
-            by-order q m
-            (λ a. by-order r m
-            (λ b. let w = c .same q r a b k j in (
-              λ e. w .0 (sym (class-old q (λ z. omega arith)) ∙ e ∙ class-old r (λ z. omega arith)),
-              λ e. class-old q (λ z. omega arith) ∙ w .1 e ∙ sym (class-old r (λ z. omega arith)),
-            ))
-            (λ b. (
-              λ e. absurd (omega (arith, e, c .low q a k, class-old q (λ z. omega arith), ap (λ (i : ℕ). getD classes₂ i 0) b, class-here)),
-              λ e. absurd (new q a k (e ∙ ap key b)),
-            ))
-            (λ b. absurd (omega arith)))
-            (λ a. by-order r m
-            (λ b. (
-              λ e. absurd (omega (arith, e, c .low r b j, class-old r (λ z. omega arith), ap (λ (i : ℕ). getD classes₂ i 0) a, class-here)),
-              λ e. absurd (new r b j (sym e ∙ ap key a)),
-            ))
-            (λ b. let z : q ≡ r = a ∙ sym b in ((λ e. ap key z), (λ e. ap (λ (i : ℕ). getD classes₂ i 0) z)))
-            (λ b. absurd (omega arith)))
-            (λ a. absurd (omega arith))
-
-        sound-new : (i r : ℕ) → getD chains₂ i 0 ≡ suc r → (r < m + 1) × Marked r
-        sound-new i r e =
-            by-test i mark
-            (λ a. let z : m ≡ r = omega (arith, e, ap (λ (k : ℕ). getD chains₂ k 0) a, head-new) in (omega arith, subst Marked z marked))
-            (λ a. by-test i (linksAt + m)
-            (λ b. wider r (c .sound mark r (sym link-new ∙ sym (ap (λ (k : ℕ). getD chains₂ k 0) b) ∙ e)))
-            (λ b. wider r (c .sound i r (sym (other i a b) ∙ e))))
-          where
-            wider : (r : ℕ) → (r < m) × Marked r → (r < m + 1) × Marked r
-            wider r s = (omega (arith, s .0), s .1)
-
-            by-test : {C : Type 0} (i j : ℕ) → (i ≡ j → C) → ((i ≡ j → ⊥) → C) → C
-            by-test i j f g = by-order i j (λ a. g (λ z. omega arith)) f (λ a. g (λ z. omega arith))
-
-        falls-new : Falls chains₂
-        falls-new r =
-            by-order r m
-            (λ a. omega (arith, link-old r a, c .falls r))
-            (λ a. omega (arith, ap (λ (k : ℕ). getD chains₂ (linksAt + k) 0) a, link-new, head-low mark, a))
-            (λ a. omega (arith, other (linksAt + r) (λ z. omega (arith, marked)) (λ z. omega arith), c .falls r))
-
-        found-new : (q : ℕ) → q < m + 1 → Marked q → (l : ℕ) × (key l ≡ key q) × InChain chains₂ (getD chains₂ (getD raw q 0) 0) l
-        found-new q l k =
-            by-order q m
-            (λ a. let (x, e, i) = c .found q a k in (x, e, old q x k i))
-            (λ a. (m, sym (ap key a), here (ap (λ (i : ℕ). getD chains₂ (getD raw i 0) 0) a ∙ head-new)))
-            (λ a. absurd (omega arith))
-          where
-            old : (q x : ℕ) → Marked q → InChain chains (getD chains (getD raw q 0) 0) x → InChain chains₂ (getD chains₂ (getD raw q 0) 0) x
-            old q x k i =
-                by-order (getD raw q 0) mark
-                (λ a. same q x k i (λ z. omega arith))
-                (λ a.
-                later m (ap (λ (j : ℕ). getD chains₂ j 0) a ∙ head-new)
-                (subst (λ (h : ℕ). InChain chains₂ h x) (ap (λ (j : ℕ). getD chains j 0) a ∙ sym link-new) (kept-chain (getD raw q 0) x i)))
-                (λ a. same q x k i (λ z. omega arith))
-              where
-                same : (q x : ℕ) → Marked q → InChain chains (getD chains (getD raw q 0) 0) x → (getD raw q 0 ≡ mark → ⊥)
-                    → InChain chains₂ (getD chains₂ (getD raw q 0) 0) x
-                same q x k i n =
-                    subst (λ (h : ℕ). InChain chains₂ h x) (sym (other (getD raw q 0) n (λ z. omega (arith, k)))) (kept-chain (getD raw q 0) x i)
-
-        pub classed-new : Classed classes₂ chains₂ (m + 1)
-        classed-new = record {
-          kept = λ q l. class-old q (λ z. omega arith) ∙ c .kept q (omega arith);
-          named = λ q l. class-old q (λ z. omega (arith, ap (λ (i : ℕ). getD raw i 0) z, marked, l)) ∙ c .named q l;
-          low = λ q l k.
-              by-order q m
-              (λ a. omega (arith, class-old q (λ z. omega arith), c .low q a k))
-              (λ a. omega (arith, ap (λ (i : ℕ). getD classes₂ i 0) a, class-here, a))
-              (λ a. absurd (omega arith));
-          same = same-new;
-          sound = sound-new;
-          falls = falls-new;
-          found = found-new;
-        }
+    pub found : (q : ℕ) → q < m → Marked raw q → (l : ℕ) × (key l ≡ key q) × InChain chains (getD chains (getD raw q 0) 0) l

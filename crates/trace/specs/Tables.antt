@@ -13,7 +13,6 @@ use Rattle.steps.specs.Nodes.{Node, noNode, mostNodes}
 use Rattle.steps.specs.Facts.{factsOf}
 use Rattle.facts.specs.Calls.{factAt, argumentAt}
 use Rattle.trace.specs.Joined.{joined, before}
-use Rattle.trace.specs.Chains.{base}
 -- the tables that the code makes
 pub mod Made
 -- the trace that is read off them
@@ -30,6 +29,10 @@ stride = mostFactArity
 
 abbrev pub placeCount : ℕ
 placeCount = stride * mostActions
+
+-- the number of public name 0: above all places and all marks
+abbrev pub base : ℕ
+base = 65536
 
 -- ── the trace ──
 module _ (P : Protocol) where

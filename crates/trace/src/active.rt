@@ -1,12 +1,12 @@
 // The nodes that have an action.
 ghost use mathlib.Core.Path.{_≡_};
 ghost use mathlib.Core.List.{List};
-ghost use Prim.Native.Nat.{_≤_, _<_};
+ghost use Prim.Native.Nat.{_<_};
 ghost use lib.ListN.{length};
 ghost use Rattle.lists.specs.Asks.{Promises₂};
 ghost use Rattle.lists.specs.Lists.{countBy};
 ghost use Rattle.protocol.specs.Protocol.{Protocol};
-ghost use Rattle.steps.specs.Nodes.{Node, mostNodes};
+ghost use Rattle.steps.specs.Nodes.{Node};
 ghost use Rattle.trace.specs.Tables.{Starts};
 ghost use Rattle.trace.specs.Active.{isActive};
 

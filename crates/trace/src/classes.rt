@@ -9,8 +9,9 @@ ghost use Rattle.steps.specs.Nodes.{Node};
 ghost use Rattle.facts.specs.Writing.{factRoom};
 ghost use Rattle.facts.specs.Calls.{Room};
 ghost use Rattle.trace.specs.Tables.{stride, mostActions, placeCount};
+ghost use Rattle.trace.specs.Entries.{ListedAll};
 ghost use Rattle.trace.specs.Chains.{linksAt, Classed};
-ghost use Rattle.trace.specs.Classes.{Walkable, Earlier, keyAt, Classing, Ready};
+ghost use Rattle.trace.specs.Classes.{Walkable, Earlier, keyAt, Classing, Ready, ClassesAre};
 use crate::entries;
 use crate::numbers;
 use facts::compare;
@@ -18,7 +19,7 @@ use facts::compare;
 // The chains of places: for each mark the last place that begins a class, and one; behind these, for each such place the one before it.
 const LINKS: usize = numbers::BASE as usize;
 
-pub const CHAINS: usize = LINKS + numbers::PLACES;
+const CHAINS: usize = LINKS + numbers::PLACES;
 
 // A place in the chain from a head on whose argument is the same as that of place q, and one; 0 if there is none.
 fn earlier(
@@ -86,7 +87,7 @@ fn class_place(
 }
 
 // The classes of all places, from their first numbers. The chains are empty at first.
-pub fn class_places(
+fn class_places(
     work: &mut [u8],
     p: &[u8],
     s: &[u8],
@@ -105,4 +106,22 @@ pub fn class_places(
         class_place(work, p, s, nodes, entries, classes, chains, q);
         q += 1;
     }
+}
+
+// The class of each argument of the actions that are listed.
+pub fn class_arguments(
+    work: &mut [u8],
+    p: &[u8],
+    s: &[u8],
+    nodes: &[usize],
+    entries: &[u32],
+    total: usize,
+    classes: &mut [u32],
+)
+    requires { ⌜ Asks₂ (ListedAll (now p) (now s) (now nodes) (now entries) total) × Room (now work) factRoom × (mostActions ≤ length (now entries)) × (placeCount ≤ length (now classes)) ⌝ }
+    ensures { λ r. ⌜ Promises₂ (ListedAll (now (p .entry)) (now (s .entry)) (now (nodes .entry)) (now (entries .entry)) total) (λ (P : Protocol) (xs : List Node). ClassesAre (now (classes .exit)) (stride * total) P xs) ⌝ }
+{
+    numbers::number_actions(work, p, s, nodes, entries, total, classes);
+    let mut chains = [0u32; CHAINS];
+    class_places(work, p, s, nodes, entries, classes, &mut chains, total);
 }

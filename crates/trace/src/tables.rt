@@ -11,7 +11,6 @@ ghost use Rattle.facts.specs.Calls.{Room};
 ghost use Rattle.trace.specs.Tables.{mostActions, placeCount, Tables};
 use crate::classes;
 use crate::entries;
-use crate::numbers;
 
 // The actions of the n nodes of a table, in numbers. Canonical bytes go into the work slice.
 pub fn make_tables(
@@ -29,7 +28,5 @@ pub fn make_tables(
 {
     let mut entries = [0u32; entries::MOST_ACTIONS];
     let total = entries::enter_nodes(p, nodes, n, starts, symbols, &mut entries);
-    numbers::number_actions(work, p, s, nodes, &entries, total, classes);
-    let mut chains = [0u32; classes::CHAINS];
-    classes::class_places(work, p, s, nodes, &entries, classes, &mut chains, total);
+    classes::class_arguments(work, p, s, nodes, &entries, total, classes);
 }

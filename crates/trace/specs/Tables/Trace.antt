@@ -1,8 +1,7 @@
 -- The trace that is read off the tables: node by node, fact by fact and argument by argument it is the trace of messages in numbers, and the
 -- numbers tell which messages are the same and which are public names. Of messages only their promise is used.
-use Prim.Native.Nat.{ℕ, zero, suc, _+_, _*_, _-_, _≤_, _<_}
+use Prim.Native.Nat.{ℕ, zero, suc, _+_, _*_, _-_, _<_}
 use mathlib.Core.List.{List, [], _∷_}
-use mathlib.Core.Bool.{Bool, true, false}
 use mathlib.Core.Logic.{_↔_}
 use mathlib.Core.Path.{_≡_, refl, ap, sym, _∙_, subst}
 use native.Mathlib.Omega.{arith}
@@ -12,7 +11,6 @@ use borrow.Author.Tests.{eqb-true, eqb-false}
 use Rattle.lists.specs.All.{All}
 use Rattle.lists.specs.All.Laws.{all-both}
 use Rattle.lists.specs.Tests.{by-bool, not-true}
-use Rattle.term.specs.Term.{Term}
 use Rattle.message.specs.Promise.{Message, SameMessage, publicName, Promise, messages}
 use Rattle.protocol.specs.Figures.{actionList}
 use Rattle.protocol.specs.Protocol.{Fact, Protocol, noFact}
@@ -26,8 +24,7 @@ use Rattle.steps.specs.Causes.Good.{RightNodes}
 use Rattle.facts.specs.Calls.{factAt}
 use Rattle.facts.specs.Calls.Laws.{arity-is}
 use Rattle.trace.specs.Joined.{before-more}
-use Rattle.trace.specs.Chains.{base}
-use Rattle.trace.specs.Tables.{ar, stride, actions, actionsBefore, ArgumentIs, entryOf, placeOf, Tables}
+use Rattle.trace.specs.Tables.{base, ar, stride, actions, actionsBefore, ArgumentIs, entryOf, placeOf, Tables}
 
 -- ── the trace in numbers, as it is read off the tables ──
 pub record NumberFact : Type 0 where
@@ -132,8 +129,13 @@ module _ {starts symbols classes : List ℕ} {P : Protocol} {xs : List Node} (t 
       count-is : getD starts (k + 1) 0 - getD starts k 0 ≡ length (actions P x)
       count-is =
           let z : k + 1 ≡ suc k = omega arith in
-          omega (arith, t .begun .begins (k + 1) (omega arith), t .begun .begins k (omega arith), ap (actionsBefore P xs) z,
-          before-more (actions P) noNode xs k l)
+          omega (
+            arith,
+            t .begun .begins (k + 1) (omega arith),
+            t .begun .begins k (omega arith),
+            ap (actionsBefore P xs) z,
+            before-more (actions P) noNode xs k l,
+          )
 
       module _ (i : ℕ) (m : i < length (actions P x)) where
         abbrev e : ℕ

@@ -1,21 +1,18 @@
 use borrow.Author.Needs.{needs}
 use native.Mathlib.Omega.{arith}
-use lib.ListN.{length, getD}
-use mathlib.Core.Path.{_≡_, ap, _∙_}
+use lib.ListN.{length}
+use mathlib.Core.Path.{_≡_}
 use mathlib.Core.List.{List}
-use Prim.Native.Nat.{ℕ, suc, _+_, _*_, _-_, _≤_, _<_}
-use Rattle.steps.specs.Nodes.{Node, noNode}
+use Prim.Native.Nat.{suc, _-_}
+use Rattle.steps.specs.Nodes.{Node}
 use Rattle.lists.specs.Tests.{true-false}
 use Rattle.lists.specs.Asks.{Promises₂}
 use Rattle.protocol.specs.Protocol.{Protocol}
 use Rattle.facts.specs.Owed.{room-kept}
-use Rattle.trace.specs.Classes.{Walkable, Walking, keyAt, walking-first, walking-next, walking-found, walking-ends, place-small, two-places, keys-test}
+use Rattle.trace.specs.Classes.{Walkable, Walking}
+use Rattle.trace.specs.Classes.Walk.{walking-first, walking-next, walking-found, walking-ends, place-small, two-places, keys-test}
 use Rattle.trace.proofs.classes.earlier.Statement.{statement}
 use Rattle.trace.proofs.classes.earlier.Tie as tie
-use Rattle.trace.proofs.classes.earlier.Reads as reads
-use Rattle.trace.proofs.classes.earlier.Lts as lts
-use Rattle.facts.proofs.compare.same_argument.Reads as same-argument-reads
-use Rattle.trace.proofs.entries.action_of.Reads as action-of-reads
 
 abbrev Inv-loop : tie.InvT-loop
 Inv-loop work₀ p s nodes entries chains head q x h₀ work h =
@@ -25,121 +22,133 @@ abbrev μ-loop : tie.MeasureT-loop
 μ-loop work₀ p s nodes entries chains head q x h₀ work h =
     h
 
--- src/classes.rt:37:32
 mul-action-of : tie.Need-mul-action-of Inv-loop μ-loop
 mul-action-of c =
     let (P, xs, w) = c .before .before .before .before .before .before .pre .0 in
     omega (arith, place-small (w .listed) _ (w .place))
 
--- src/classes.rt:37:32
 shared-slice-read-action-of : tie.Need-shared-slice-read-action-of Inv-loop μ-loop
 shared-slice-read-action-of c =
-    let (P, xs, w) = c .before .before .before .before .before .before .before .pre .0 in
-    omega (arith, place-small (w .listed) _ (w .place), c .before .before .before .before .before .before .before .pre .2)
+    let c7 = c .before .before .before .before .before .before .before in
+    let (P, xs, w) = c7 .pre .0 in
+    omega (arith, place-small (w .listed) _ (w .place), c7 .pre .2)
 
--- src/classes.rt:37:9
 action-of-requires : tie.Need-action-of-requires Inv-loop μ-loop
 action-of-requires c κs = search needs
 
--- src/classes.rt:39:5
 loop-holds : tie.Need-loop-holds Inv-loop μ-loop
 loop-holds c =
     (search needs, λ P xs w. walking-first w)
 
--- src/classes.rt:40:17
 cast-r : tie.Need-cast-r Inv-loop μ-loop
 cast-r c =
     let (P, xs, w) = c .before .before .before .before .before .before .before .before .before .before .pre .0 in
     let e : c .before .loop .h ≡ suc (c .before .loop .h - 1) = omega (arith, c .loop-test .taken) in
     omega (arith, place-small (w .listed) _ (c .before .loop .inv .1 P xs w .places _ e))
 
--- src/classes.rt:40:17
 sub-r : tie.Need-sub-r Inv-loop μ-loop
 sub-r c = search needs
 
--- src/classes.rt:41:36
 mul-action-of-2 : tie.Need-mul-action-of-2 Inv-loop μ-loop
 mul-action-of-2 c =
     let (P, xs, w) = c .before .before .before .before .before .before .before .before .before .before .pre .0 in
     let e : c .before .loop .h ≡ suc (c .before .loop .h - 1) = omega (arith, c .loop-test .taken) in
     omega (arith, place-small (w .listed) _ (c .before .loop .inv .1 P xs w .places _ e))
 
--- src/classes.rt:41:36
 shared-slice-read-action-of-2 : tie.Need-shared-slice-read-action-of-2 Inv-loop μ-loop
 shared-slice-read-action-of-2 c =
-    let (P, xs, w) = c .before .before .before .before .before .before .before .before .before .before .before .pre .0 in
+    let c11 = c .before .before .before .before .before .before .before .before .before .before .before in
+    let (P, xs, w) = c11 .pre .0 in
     let e : c .before .before .loop .h ≡ suc (c .before .before .loop .h - 1) = omega (arith, c .before .loop-test .taken) in
-    omega (arith, place-small (w .listed) _ (c .before .before .loop .inv .1 P xs w .places _ e), c .before .before .before .before .before .before .before .before .before .before .before .pre .2)
+    omega (arith, place-small (w .listed) _ (c .before .before .loop .inv .1 P xs w .places _ e), c11 .pre .2)
 
--- src/classes.rt:41:13
 action-of-requires-2 : tie.Need-action-of-requires-2 Inv-loop μ-loop
 action-of-requires-2 c κs = search needs
 
--- src/classes.rt:42:12
 same-argument-requires : tie.Need-same-argument-requires Inv-loop μ-loop
 same-argument-requires c κs =
-    let (P, xs, w) = c .before .before .before .before .before .before .before .before .before .before .before .before .before .pre .0 in
-    let e : c .before .before .before .before .loop .h ≡ suc (c .before .before .before .before .loop .h - 1) = omega (arith, c .before .before .before .loop-test .taken) in
-    ((P, _, _, two-places (w .listed) _ _ (w .place) (c .before .before .before .before .loop .inv .1 P xs w .places _ e) _ (c .before .before .before .before .before .action-of .ensures) _ (c .before .action-of2 .ensures)), room-kept _ _ _ (c .before .before .before .before .loop .inv .0) (c .before .before .before .before .before .before .before .before .before .before .before .before .before .pre .1))
+    let c3 = c .before .before .before in
+    let c4 = c3 .before in
+    let c5 = c4 .before in
+    let c13 = c5 .before .before .before .before .before .before .before .before in
+    let (P, xs, w) = c13 .pre .0 in
+    let e : c4 .loop .h ≡ suc (c4 .loop .h - 1) = omega (arith, c3 .loop-test .taken) in (
+      (P, _, _, two-places (w .listed) _ _ (w .place) (c4 .loop .inv .1 P xs w .places _ e) _ (c5 .action-of .ensures) _ (c .before .action-of2 .ensures)),
+      room-kept _ _ _ (c4 .loop .inv .0) (c13 .pre .1),
+    )
 
--- src/classes.rt:52:13
 same-length : tie.Need-same-length Inv-loop μ-loop
 same-length c = search needs
 
--- src/classes.rt:52:13
 returns : tie.Need-returns Inv-loop μ-loop
 returns c =
+    let c3 = c .before .before .before in
+    let c5 = c3 .before .before in
+    let c7 = c5 .before .before in
+    let c8 = c7 .before in
+    let c9 = c8 .before in
     λ P xs w.
-    let e : c .before .before .before .before .before .before .before .before .loop .h ≡ suc (c .before .before .before .before .before .before .before .before .loop .h - 1) = omega (arith, c .before .before .before .before .before .before .before .loop-test .taken) in
-    let i = c .before .before .before .before .before .before .before .before .loop .inv .1 P xs w .places _ e in
-    walking-found w (c .before .before .before .before .before .before .before .before .loop .inv .1 P xs w) _ e
-    (keys-test (w .listed) _ _ (w .place) i _ (c .before .before .before .before .before .before .before .before .before .action-of .ensures) _ (c .before .before .before .before .before .action-of2 .ensures) _
-    (c .before .before .before .same-argument .ensures P _ _ (two-places (w .listed) _ _ (w .place) i _ (c .before .before .before .before .before .before .before .before .before .action-of .ensures) _ (c .before .before .before .before .before .action-of2 .ensures))) .0 (c .if1 .taken))
+    let e : c8 .loop .h ≡ suc (c8 .loop .h - 1) = omega (arith, c7 .loop-test .taken) in
+    let i = c8 .loop .inv .1 P xs w .places _ e in
+    walking-found w (c8 .loop .inv .1 P xs w) _ e
+    (keys-test (w .listed) _ _ (w .place) i _ (c9 .action-of .ensures) _ (c5 .action-of2 .ensures) _
+    (c3 .same-argument .ensures P _ _ (two-places (w .listed) _ _ (w .place) i _ (c9 .action-of .ensures) _ (c5 .action-of2 .ensures))) .0 (c .if1 .taken))
 
--- src/classes.rt:54:20
 add-h : tie.Need-add-h Inv-loop μ-loop
 add-h c =
-    let (P, xs, w) = c .before .before .before .before .before .before .before .before .before .before .before .before .before .before .before .before .before .pre .0 in
-    let e : c .before .before .before .before .before .before .before .before .loop .h ≡ suc (c .before .before .before .before .before .before .before .before .loop .h - 1) = omega (arith, c .before .before .before .before .before .before .before .loop-test .taken) in
-    omega (arith, place-small (w .listed) _ (c .before .before .before .before .before .before .before .before .loop .inv .1 P xs w .places _ e))
+    let c7 = c .before .before .before .before .before .before .before in
+    let c8 = c7 .before in
+    let c17 = c8 .before .before .before .before .before .before .before .before .before in
+    let (P, xs, w) = c17 .pre .0 in
+    let e : c8 .loop .h ≡ suc (c8 .loop .h - 1) = omega (arith, c7 .loop-test .taken) in
+    omega (arith, place-small (w .listed) _ (c8 .loop .inv .1 P xs w .places _ e))
 
--- src/classes.rt:54:13
 mul-h : tie.Need-mul-h Inv-loop μ-loop
 mul-h c =
-    let (P, xs, w) = c .before .before .before .before .before .before .before .before .before .before .before .before .before .before .before .before .before .pre .0 in
-    let e : c .before .before .before .before .before .before .before .before .loop .h ≡ suc (c .before .before .before .before .before .before .before .before .loop .h - 1) = omega (arith, c .before .before .before .before .before .before .before .loop-test .taken) in
-    omega (arith, place-small (w .listed) _ (c .before .before .before .before .before .before .before .before .loop .inv .1 P xs w .places _ e))
+    let c7 = c .before .before .before .before .before .before .before in
+    let c8 = c7 .before in
+    let c17 = c8 .before .before .before .before .before .before .before .before .before in
+    let (P, xs, w) = c17 .pre .0 in
+    let e : c8 .loop .h ≡ suc (c8 .loop .h - 1) = omega (arith, c7 .loop-test .taken) in
+    omega (arith, place-small (w .listed) _ (c8 .loop .inv .1 P xs w .places _ e))
 
--- src/classes.rt:54:13
 shared-slice-read-h : tie.Need-shared-slice-read-h Inv-loop μ-loop
 shared-slice-read-h c =
-    let (P, xs, w) = c .before .before .before .before .before .before .before .before .before .before .before .before .before .before .before .before .before .before .pre .0 in
-    let e : c .before .before .before .before .before .before .before .before .before .loop .h ≡ suc (c .before .before .before .before .before .before .before .before .before .loop .h - 1) = omega (arith, c .before .before .before .before .before .before .before .before .loop-test .taken) in
-    omega (arith, place-small (w .listed) _ (c .before .before .before .before .before .before .before .before .before .loop .inv .1 P xs w .places _ e), c .before .before .before .before .before .before .before .before .before .before .before .before .before .before .before .before .before .before .pre .3)
+    let c8 = c .before .before .before .before .before .before .before .before in
+    let c9 = c8 .before in
+    let c18 = c9 .before .before .before .before .before .before .before .before .before in
+    let (P, xs, w) = c18 .pre .0 in
+    let e : c9 .loop .h ≡ suc (c9 .loop .h - 1) = omega (arith, c8 .loop-test .taken) in
+    omega (arith, place-small (w .listed) _ (c9 .loop .inv .1 P xs w .places _ e), c18 .pre .3)
 
--- src/classes.rt:39:5
 loop-less : tie.Need-loop-less Inv-loop μ-loop
 loop-less c =
-    let (P, xs, w) = c .before .before .before .before .before .before .before .before .before .before .before .before .before .before .before .before .before .before .pre .0 in
-    omega (arith, w .falls (c .before .before .before .before .before .before .before .before .before .loop .h - 1), c .before .before .before .before .before .before .before .before .loop-test .taken)
+    let c8 = c .before .before .before .before .before .before .before .before in
+    let c9 = c8 .before in
+    let c18 = c9 .before .before .before .before .before .before .before .before .before in
+    let (P, xs, w) = c18 .pre .0 in
+    omega (arith, w .falls (c9 .loop .h - 1), c8 .loop-test .taken)
 
--- src/classes.rt:39:5
 loop-again : tie.Need-loop-again Inv-loop μ-loop
-loop-again c = (
-  search needs,
-  λ P xs w.
-      let e : c .before .before .before .before .before .before .before .before .before .loop .h ≡ suc (c .before .before .before .before .before .before .before .before .before .loop .h - 1) = omega (arith, c .before .before .before .before .before .before .before .before .loop-test .taken) in
-      let i = c .before .before .before .before .before .before .before .before .before .loop .inv .1 P xs w .places _ e in
-      walking-next w (c .before .before .before .before .before .before .before .before .before .loop .inv .1 P xs w) (c .before .before .before .before .before .before .before .before .before .loop .h - 1) e
-      (λ k. true-false _ (keys-test (w .listed) _ _ (w .place) i _ (c .before .before .before .before .before .before .before .before .before .before .action-of .ensures) _ (c .before .before .before .before .before .before .action-of2 .ensures) _
-      (c .before .before .before .before .same-argument .ensures P _ _ (two-places (w .listed) _ _ (w .place) i _ (c .before .before .before .before .before .before .before .before .before .before .action-of .ensures) _ (c .before .before .before .before .before .before .action-of2 .ensures))) .1 k) (c .before .if1 .left)),
-)
+loop-again c =
+    let c4 = c .before .before .before .before in
+    let c6 = c4 .before .before in
+    let c8 = c6 .before .before in
+    let c9 = c8 .before in
+    let c10 = c9 .before in (
+      search needs,
+      λ P xs w.
+          let e : c9 .loop .h ≡ suc (c9 .loop .h - 1) = omega (arith, c8 .loop-test .taken) in
+          let i = c9 .loop .inv .1 P xs w .places _ e in
+          walking-next w (c9 .loop .inv .1 P xs w) (c9 .loop .h - 1) e
+          (λ k. true-false _ (keys-test (w .listed) _ _ (w .place) i _ (c10 .action-of .ensures) _ (c6 .action-of2 .ensures) _
+          (c4 .same-argument .ensures P _ _ (two-places (w .listed) _ _ (w .place) i _ (c10 .action-of .ensures) _ (c6 .action-of2 .ensures))) .1 k)
+          (c .before .if1 .left)),
+    )
 
--- src/classes.rt:24:1
 same-length-2 : tie.Need-same-length-2 Inv-loop μ-loop
 same-length-2 c = search needs
 
--- src/classes.rt:24:1
 returns-2 : tie.Need-returns-2 Inv-loop μ-loop
 returns-2 c =
     λ P xs w. walking-ends w (c .before .loop .inv .1 P xs w) (omega (arith, c .loop-test .left))

@@ -2,133 +2,137 @@ use native.Mathlib.Omega.{arith}
 use lib.ListN.{length, getD}
 use mathlib.Core.Path.{_≡_}
 use mathlib.Core.List.{List}
-use Prim.Native.Nat.{ℕ, _+_, _-_, _≤_, _<_}
+use Prim.Native.Nat.{ℕ, _+_, _-_, _≤_}
 use Rattle.steps.specs.Nodes.{Node, noNode}
 use Rattle.protocol.specs.Protocol.{Protocol}
 use Rattle.lists.specs.Asks.{Promises₃}
 use Rattle.facts.specs.Calls.Laws.{symbol-known}
-use Rattle.trace.specs.Entries.{Begun, Entered, begun-node, begun-listed, begun-more, begun-first, inside, bounds, end-small, node-entered}
+use Rattle.trace.specs.Entries.{Begun, Entered}
+use Rattle.trace.specs.Entries.Laws.{begun-node, begun-listed, begun-more, begun-first, inside, bounds, end-small, node-entered}
 use borrow.Author.Needs.{needs}
 use Rattle.trace.proofs.entries.enter_actions.Statement.{statement}
 use Rattle.trace.proofs.entries.enter_actions.Tie as tie
-use Rattle.trace.proofs.entries.enter_actions.Reads as reads
-use Rattle.trace.proofs.entries.enter_actions.Lts as lts
-use Rattle.facts.proofs.counts.fact_count.Reads as fact-count-reads
-use Rattle.facts.proofs.symbols.fact_symbol.Reads as fact-symbol-reads
 
 abbrev Inv-loop : tie.InvT-loop
 Inv-loop p nodes k from symbols₀ entries₀ count i₀ symbols entries i =
-    (i ≤ count) × (length symbols ≡ length symbols₀) × (length entries ≡ length entries₀) × Promises₃ (Begun p nodes symbols₀ entries₀ k from) (λ (s : List ℕ) (P : Protocol) (xs : List Node). Entered p nodes symbols entries (from + i) s P xs)
+    (i ≤ count) × (length symbols ≡ length symbols₀) × (length entries ≡ length entries₀) × Promises₃ (Begun p nodes symbols₀ entries₀ k from)
+    (λ (s : List ℕ) (P : Protocol) (xs : List Node). Entered p nodes symbols entries (from + i) s P xs)
 
 abbrev μ-loop : tie.MeasureT-loop
 μ-loop p nodes k from symbols₀ entries₀ count i₀ symbols entries i =
     count - i
 
--- src/entries.rt:44:9
 fact-count-requires : tie.Need-fact-count-requires Inv-loop μ-loop
 fact-count-requires c κs =
-    let (s, P, xs, b) = c .before .before .before .before .pre .0 in
-    ((s, P, getD xs (c .before .before .before .before .args .k) noNode, begun-node b), omega arith)
+    let c4 = c .before .before .before .before in
+    let (s, P, xs, b) = c4 .pre .0 in
+    ((s, P, getD xs (c4 .args .k) noNode, begun-node b), omega arith)
 
--- src/entries.rt:46:5
 loop-holds : tie.Need-loop-holds Inv-loop μ-loop
 loop-holds c =
     (omega arith, search needs, search needs, λ s P xs b. begun-first b)
 
--- src/entries.rt:52:29
 fact-symbol-requires : tie.Need-fact-symbol-requires Inv-loop μ-loop
 fact-symbol-requires c κs =
-    let (s, P, xs, b) = c .before .before .before .before .before .before .before .pre .0 in
-    (s, P, getD xs (c .before .before .before .before .before .before .before .args .k) noNode, begun-listed b _ (inside b _ (c .before .before .fact-count .ensures) _ (c .loop-test .taken)))
+    let c7 = c .before .before .before .before .before .before .before in
+    let (s, P, xs, b) = c7 .pre .0 in
+    (s, P, getD xs (c7 .args .k) noNode, begun-listed b _ (inside b _ (c .before .before .fact-count .ensures) _ (c .loop-test .taken)))
 
--- src/entries.rt:52:29
 cast-symbols : tie.Need-cast-symbols Inv-loop μ-loop
 cast-symbols c =
-    let (s, P, xs, b) = c .before .before .before .before .before .before .before .before .pre .0 in
-    let l = begun-listed b _ (inside b _ (c .before .before .before .fact-count .ensures) _ (c .before .loop-test .taken)) in
+    let c3 = c .before .before .before in
+    let c8 = c3 .before .before .before .before .before in
+    let (s, P, xs, b) = c8 .pre .0 in
+    let l = begun-listed b _ (inside b _ (c3 .fact-count .ensures) _ (c .before .loop-test .taken)) in
     omega (arith, symbol-known l _ (c .fact-symbol .ensures s P _ l))
 
--- src/entries.rt:52:17
 add-symbols : tie.Need-add-symbols Inv-loop μ-loop
 add-symbols c =
-    omega (arith, bounds (c .before .before .before .before .before .before .before .before .pre .0 .3) _ (c .before .before .before .fact-count .ensures) _ (c .before .loop-test .taken))
+    let c3 = c .before .before .before in
+    let c8 = c3 .before .before .before .before .before in
+    omega (arith, bounds (c8 .pre .0 .3) _ (c3 .fact-count .ensures) _ (c .before .loop-test .taken))
 
--- src/entries.rt:52:9
 mul-symbols : tie.Need-mul-symbols Inv-loop μ-loop
 mul-symbols c =
-    omega (arith, bounds (c .before .before .before .before .before .before .before .before .pre .0 .3) _ (c .before .before .before .fact-count .ensures) _ (c .before .loop-test .taken))
+    let c3 = c .before .before .before in
+    let c8 = c3 .before .before .before .before .before in
+    omega (arith, bounds (c8 .pre .0 .3) _ (c3 .fact-count .ensures) _ (c .before .loop-test .taken))
 
--- src/entries.rt:52:9
 slice-write-symbols : tie.Need-slice-write-symbols Inv-loop μ-loop
 slice-write-symbols c =
-    omega (arith, bounds (c .before .before .before .before .before .before .before .before .pre .0 .3) _ (c .before .before .before .fact-count .ensures) _ (c .before .loop-test .taken), c .before .before .loop .inv .1, c .before .before .before .before .before .before .before .before .pre .1)
+    let c3 = c .before .before .before in
+    let c8 = c3 .before .before .before .before .before in
+    omega (arith, bounds (c8 .pre .0 .3) _ (c3 .fact-count .ensures) _ (c .before .loop-test .taken), c .before .before .loop .inv .1, c8 .pre .1)
 
--- src/entries.rt:53:30
 mul-entries : tie.Need-mul-entries Inv-loop μ-loop
 mul-entries c =
-    omega (arith, bounds (c .before .before .before .before .before .before .before .before .pre .0 .3) _ (c .before .before .before .fact-count .ensures) _ (c .before .loop-test .taken))
+    let c3 = c .before .before .before in
+    let c8 = c3 .before .before .before .before .before in
+    omega (arith, bounds (c8 .pre .0 .3) _ (c3 .fact-count .ensures) _ (c .before .loop-test .taken))
 
--- src/entries.rt:53:30
 add-entries : tie.Need-add-entries Inv-loop μ-loop
 add-entries c =
-    omega (arith, bounds (c .before .before .before .before .before .before .before .before .pre .0 .3) _ (c .before .before .before .fact-count .ensures) _ (c .before .loop-test .taken))
+    let c3 = c .before .before .before in
+    let c8 = c3 .before .before .before .before .before in
+    omega (arith, bounds (c8 .pre .0 .3) _ (c3 .fact-count .ensures) _ (c .before .loop-test .taken))
 
--- src/entries.rt:53:29
 cast-entries : tie.Need-cast-entries Inv-loop μ-loop
 cast-entries c =
-    omega (arith, bounds (c .before .before .before .before .before .before .before .before .pre .0 .3) _ (c .before .before .before .fact-count .ensures) _ (c .before .loop-test .taken))
+    let c3 = c .before .before .before in
+    let c8 = c3 .before .before .before .before .before in
+    omega (arith, bounds (c8 .pre .0 .3) _ (c3 .fact-count .ensures) _ (c .before .loop-test .taken))
 
--- src/entries.rt:53:17
 add-entries-2 : tie.Need-add-entries-2 Inv-loop μ-loop
 add-entries-2 c =
-    omega (arith, bounds (c .before .before .before .before .before .before .before .before .pre .0 .3) _ (c .before .before .before .fact-count .ensures) _ (c .before .loop-test .taken))
+    let c3 = c .before .before .before in
+    let c8 = c3 .before .before .before .before .before in
+    omega (arith, bounds (c8 .pre .0 .3) _ (c3 .fact-count .ensures) _ (c .before .loop-test .taken))
 
--- src/entries.rt:53:9
 mul-entries-2 : tie.Need-mul-entries-2 Inv-loop μ-loop
 mul-entries-2 c =
-    omega (arith, bounds (c .before .before .before .before .before .before .before .before .pre .0 .3) _ (c .before .before .before .fact-count .ensures) _ (c .before .loop-test .taken))
+    let c3 = c .before .before .before in
+    let c8 = c3 .before .before .before .before .before in
+    omega (arith, bounds (c8 .pre .0 .3) _ (c3 .fact-count .ensures) _ (c .before .loop-test .taken))
 
--- src/entries.rt:53:9
 slice-write-entries : tie.Need-slice-write-entries Inv-loop μ-loop
 slice-write-entries c =
-    omega (arith, bounds (c .before .before .before .before .before .before .before .before .pre .0 .3) _ (c .before .before .before .fact-count .ensures) _ (c .before .loop-test .taken), c .before .before .loop .inv .2, c .before .before .before .before .before .before .before .before .pre .2)
+    let c3 = c .before .before .before in
+    let c8 = c3 .before .before .before .before .before in
+    omega (arith, bounds (c8 .pre .0 .3) _ (c3 .fact-count .ensures) _ (c .before .loop-test .taken), c .before .before .loop .inv .2, c8 .pre .2)
 
--- src/entries.rt:54:9
 add-i : tie.Need-add-i Inv-loop μ-loop
 add-i c = search needs
 
--- src/entries.rt:46:5
 loop-less : tie.Need-loop-less Inv-loop μ-loop
 loop-less c = search needs
 
--- src/entries.rt:46:5
 loop-again : tie.Need-loop-again Inv-loop μ-loop
-loop-again c = (
-  omega arith,
-  search needs,
-  search needs,
-  λ s P xs b.
-      let l = inside b _ (c .before .before .before .fact-count .ensures) _ (c .before .loop-test .taken) in
-      begun-more b (c .before .before .loop .i) l (c .before .before .loop .inv .3 s P xs b) (omega (arith, c .before .before .loop .inv .1, c .before .before .before .before .before .before .before .before .pre .1)) (omega (arith, c .before .before .loop .inv .2, c .before .before .before .before .before .before .before .before .pre .2)) _ (c .fact-symbol .ensures s P _ (begun-listed b _ l)),
-)
+loop-again c =
+    let c3 = c .before .before .before in
+    let c8 = c3 .before .before .before .before .before in (
+      omega arith,
+      search needs,
+      search needs,
+      λ s P xs b.
+          let l = inside b _ (c3 .fact-count .ensures) _ (c .before .loop-test .taken) in
+          begun-more b (c .before .before .loop .i) l (c .before .before .loop .inv .3 s P xs b) (omega (arith, c .before .before .loop .inv .1, c8 .pre .1))
+          (omega (arith, c .before .before .loop .inv .2, c8 .pre .2)) _ (c .fact-symbol .ensures s P _ (begun-listed b _ l)),
+    )
 
--- src/entries.rt:56:5
 add-result : tie.Need-add-result Inv-loop μ-loop
 add-result c =
     omega (arith, end-small (c .before .before .before .before .before .before .before .pre .0 .3) _ (c .before .before .fact-count .ensures))
 
--- src/entries.rt:33:1
 same-length : tie.Need-same-length Inv-loop μ-loop
 same-length c = search needs
 
--- src/entries.rt:33:1
 same-length-2 : tie.Need-same-length-2 Inv-loop μ-loop
 same-length-2 c = search needs
 
--- src/entries.rt:33:1
 returns : tie.Need-returns Inv-loop μ-loop
 returns c =
-    λ s P xs b. node-entered b _ (c .before .before .fact-count .ensures) (c .before .loop .i) (omega (arith, c .before .loop .inv .0, c .loop-test .left)) (c .before .loop .inv .3 s P xs b)
+    λ s P xs b. node-entered b _ (c .before .before .fact-count .ensures) (c .before .loop .i) (omega (arith, c .before .loop .inv .0, c .loop-test .left))
+    (c .before .loop .inv .3 s P xs b)
 
 pub enter-actions-spec : {M : Type 1} → statement M
 enter-actions-spec =

@@ -4,93 +4,94 @@ use native.Mathlib.Omega.{arith}
 use lib.ListN.{length, getD}
 use mathlib.Core.Path.{_≡_, ap, _∙_}
 use mathlib.Core.List.{List}
-use Prim.Native.Nat.{ℕ, _+_, _*_, _-_, _≤_, _<_}
+use Prim.Native.Nat.{_+_, _*_, _-_, _≤_}
 use Rattle.steps.specs.Nodes.{Node, noNode}
 use Rattle.lists.specs.Asks.{Promises₂}
 use Rattle.protocol.specs.Protocol.{Protocol, Fact}
 use Rattle.facts.specs.Owed.{room-kept}
 use Rattle.facts.specs.Calls.Laws.{fact-listed}
 use Rattle.trace.specs.Tables.{stride}
-use Rattle.trace.specs.Numbers.{ActionOf, NumberedTo, argumentNumber, action-counted, numbered-more, numbered-at}
+use Rattle.trace.specs.Numbers.{ActionOf, NumberedTo, argumentNumber}
+use Rattle.trace.specs.Numbers.Places.{action-counted, numbered-more, numbered-at}
 use Rattle.trace.proofs.numbers.number_action.Statement.{statement}
 use Rattle.trace.proofs.numbers.number_action.Tie as tie
-use Rattle.trace.proofs.numbers.number_action.Reads as reads
-use Rattle.trace.proofs.numbers.number_action.Lts as lts
-use Rattle.facts.proofs.symbols.argument_count.Reads as argument-count-reads
-use Rattle.trace.proofs.numbers.place_number.Reads as place-number-reads
 
 abbrev Inv-loop : tie.InvT-loop
 Inv-loop work₀ p s nodes x e classes₀ count j₀ work classes j =
-    (j ≤ stride) × (length work ≡ length work₀) × (length classes ≡ length classes₀) × Promises₂ (ActionOf p s nodes x e) (λ (P : Protocol) (xs : List Node). NumberedTo classes₀ (stride * e) P xs → NumberedTo classes (stride * e + j) P xs)
+    (j ≤ stride) × (length work ≡ length work₀) × (length classes ≡ length classes₀) × Promises₂ (ActionOf p s nodes x e)
+    (λ (P : Protocol) (xs : List Node). NumberedTo classes₀ (stride * e) P xs → NumberedTo classes (stride * e + j) P xs)
 
 abbrev μ-loop : tie.MeasureT-loop
 μ-loop work₀ p s nodes x e classes₀ count j₀ work classes j =
     stride - j
 
--- src/numbers.rt:106:9
 argument-count-requires : tie.Need-argument-count-requires Inv-loop μ-loop
 argument-count-requires c κs =
-    let (P, xs, a) = c .before .before .before .before .before .pre .0 in
-    (now (c .before .before .before .before .before .args .s), P, getD xs (c .before .before .before .before .before .args .x .node) noNode, fact-listed (a .whole))
+    let c5 = c .before .before .before .before .before in
+    let (P, xs, a) = c5 .pre .0 in
+    (now (c5 .args .s), P, getD xs (c5 .args .x .node) noNode, fact-listed (a .whole))
 
--- src/numbers.rt:108:5
 loop-holds : tie.Need-loop-holds Inv-loop μ-loop
 loop-holds c =
     (omega arith, search needs, search needs, λ P xs a t. numbered-at _ _ (omega arith) t)
 
--- src/numbers.rt:109:35
 place-number-requires : tie.Need-place-number-requires Inv-loop μ-loop
 place-number-requires c κs =
-    let (P, xs, a) = c .before .before .before .before .before .before .before .before .before .pre .0 in
-    ((P, getD xs (c .before .before .before .before .before .before .before .before .before .args .x .node) noNode, action-counted a _ (c .before .before .before .argument-count .ensures)), room-kept _ _ _ (c .before .before .loop .inv .1) (c .before .before .before .before .before .before .before .before .before .pre .1))
+    let c3 = c .before .before .before in
+    let c9 = c3 .before .before .before .before .before .before in
+    let (P, xs, a) = c9 .pre .0 in
+    ((P, getD xs (c9 .args .x .node) noNode, action-counted a _ (c3 .argument-count .ensures)), room-kept _ _ _ (c .before .before .loop .inv .1) (c9 .pre .1))
 
--- src/numbers.rt:109:17
 mul-classes : tie.Need-mul-classes Inv-loop μ-loop
 mul-classes c =
     omega (arith, c .before .before .before .before .before .before .before .before .before .before .before .before .pre .2)
 
--- src/numbers.rt:109:17
 add-classes : tie.Need-add-classes Inv-loop μ-loop
 add-classes c =
-    omega (arith, c .before .before .before .before .before .before .before .before .before .before .before .before .pre .2, c .before .before .before .before .loop-test .taken)
+    let c4 = c .before .before .before .before in
+    let c12 = c4 .before .before .before .before .before .before .before .before in
+    omega (arith, c12 .pre .2, c4 .loop-test .taken)
 
--- src/numbers.rt:109:9
 mul-classes-2 : tie.Need-mul-classes-2 Inv-loop μ-loop
 mul-classes-2 c =
-    omega (arith, c .before .before .before .before .before .before .before .before .before .before .before .before .pre .2, c .before .before .before .before .loop-test .taken)
+    let c4 = c .before .before .before .before in
+    let c12 = c4 .before .before .before .before .before .before .before .before in
+    omega (arith, c12 .pre .2, c4 .loop-test .taken)
 
--- src/numbers.rt:109:9
 slice-write-classes : tie.Need-slice-write-classes Inv-loop μ-loop
 slice-write-classes c =
-    omega (arith, c .before .before .before .before .before .before .before .before .before .before .before .before .pre .2, c .before .before .before .before .before .before .before .before .before .before .before .before .pre .3, c .before .before .before .before .before .loop .inv .2, c .before .before .before .before .loop-test .taken)
+    let c4 = c .before .before .before .before in
+    let c5 = c4 .before in
+    let c12 = c5 .before .before .before .before .before .before .before in
+    omega (arith, c12 .pre .2, c12 .pre .3, c5 .loop .inv .2, c4 .loop-test .taken)
 
--- src/numbers.rt:110:9
 add-j : tie.Need-add-j Inv-loop μ-loop
 add-j c = search needs
 
--- src/numbers.rt:108:5
 loop-less : tie.Need-loop-less Inv-loop μ-loop
 loop-less c = search needs
 
--- src/numbers.rt:108:5
 loop-again : tie.Need-loop-again Inv-loop μ-loop
-loop-again c = (
-  omega arith,
-  search needs,
-  search needs,
-  λ P xs a t. numbered-more (c .before .before .before .before .before .before .before .before .before .before .before .before .args .e) (c .before .before .before .before .before .loop .j) _ (c .before .before .before .before .loop-test .taken) (c .before .before .before .before .before .loop .inv .3 P xs a t) (omega (arith, c .before .before .before .before .before .before .before .before .before .before .before .before .pre .2, c .before .before .before .before .before .before .before .before .before .before .before .before .pre .3, c .before .before .before .before .before .loop .inv .2, c .before .before .before .before .loop-test .taken))
-      (c .before .before .place-number .ensures P _ (action-counted a _ (c .before .before .before .before .before .before .argument-count .ensures)) ∙ ap (λ (g : Fact). argumentNumber g (c .before .before .before .before .before .loop .j)) (a .is)),
-)
+loop-again c =
+    let c4 = c .before .before .before .before in
+    let c5 = c4 .before in
+    let c6 = c5 .before in
+    let c12 = c6 .before .before .before .before .before .before in (
+      omega arith,
+      search needs,
+      search needs,
+      λ P xs a t. numbered-more (c12 .args .e) (c5 .loop .j) _ (c4 .loop-test .taken) (c5 .loop .inv .3 P xs a t)
+          (omega (arith, c12 .pre .2, c12 .pre .3, c5 .loop .inv .2, c4 .loop-test .taken))
+          (c .before .before .place-number .ensures P _ (action-counted a _ (c6 .argument-count .ensures)) ∙ ap (λ (g : Fact). argumentNumber g (c5 .loop .j))
+          (a .is)),
+    )
 
--- src/numbers.rt:94:1
 same-length : tie.Need-same-length Inv-loop μ-loop
 same-length c = search needs
 
--- src/numbers.rt:94:1
 same-length-2 : tie.Need-same-length-2 Inv-loop μ-loop
 same-length-2 c = search needs
 
--- src/numbers.rt:94:1
 returns : tie.Need-returns Inv-loop μ-loop
 returns c =
     λ P xs a t. numbered-at _ _ (omega (arith, c .before .loop .inv .0, c .loop-test .left)) (c .before .loop .inv .3 P xs a t)
