@@ -1,16 +1,18 @@
--- The actions of nodes in numbers.
+-- The actions of nodes in numbers: the trace as the judge reads it.
 
--- for crate lists: lists one behind the other
-pub mod Joined
--- chains of places by mark, and the classes that they give
-pub mod Chains
--- the tables: starts, symbols, classes
+-- ── what is promised ──
+-- the tables: where each node's actions begin, the symbol of each action, the class of each argument; the trace that is read off them
 pub mod Tables
--- the actions by the number of their entry
-pub mod Entries
--- the first number of each place: a public name's, or a mark
-pub mod Numbers
--- the class of each place
-pub mod Classes
 -- the nodes with an action
 pub mod Active
+-- ── for the code ──
+-- the actions of all nodes, an entry each
+pub mod Entries
+-- the first number of each argument: a public name's, or a mark
+pub mod Numbers
+-- chains of places by mark, and the classes that they give
+pub mod Chains
+-- the class of each argument
+pub mod Classes
+-- for crate lists: lists one behind the other
+pub mod Joined

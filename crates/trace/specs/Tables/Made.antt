@@ -18,9 +18,10 @@ use Rattle.steps.specs.Nodes.{Node, noNode, NodeWithin}
 use Rattle.steps.specs.Facts.Formed.{FactFormed, facts-formed}
 use Rattle.steps.specs.Values.Parts.{noTerm}
 use Rattle.facts.specs.Calls.{factAt}
-use Rattle.trace.specs.Joined.{joined-at, before-inside}
-use Rattle.trace.specs.Tables.{ar, stride, actions, actionsIn, entryOf, placeOf, ArgumentIs, Tables}
+use Rattle.trace.specs.Joined.{joined-at, before-inside, before-most}
+use Rattle.trace.specs.Tables.{mostActions, Starts, ar, stride, actions, actionsIn, entryOf, placeOf, ArgumentIs, Tables}
 use Rattle.trace.specs.Entries.{AllEntered}
+use Rattle.trace.specs.Entries.Laws.{actions-few}
 use Rattle.trace.specs.Classes.{ClassesAre, actionAt, keyAt, IsPlace}
 
 -- ── for crate facts: "each arity (0 to 8)" ──
@@ -117,3 +118,9 @@ module _ {p s nodes starts symbols entries classes : List ℕ} {total : ℕ} {P 
           λ h. w .1 (argument-key right a ∙ d .1 h),
         );
   }
+
+-- ── what callers may ask: the entries of all nodes lie within the tables ──
+pub starts-few :
+    {p s nodes starts : List ℕ} {n : ℕ} {P : Protocol} {xs : List Node} → RightNodes p s nodes n P xs → Starts starts P xs → (k : ℕ) → k ≤ n
+    → getD starts k 0 ≤ mostActions
+starts-few {P = P} {xs} r b k l = omega (arith, b .begins k (omega (arith, r .stand .count)), before-most (actions P) xs k, actions-few r)

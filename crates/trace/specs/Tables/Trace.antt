@@ -10,6 +10,7 @@ use lib.Dec.{eqb}
 use borrow.Author.Tests.{eqb-true, eqb-false}
 use Rattle.lists.specs.All.{All}
 use Rattle.lists.specs.All.Laws.{all-both}
+use Rattle.lists.specs.Lists.{nth}
 use Rattle.lists.specs.Tests.{by-bool, not-true}
 use Rattle.message.specs.Promise.{Message, SameMessage, publicName, Promise, messages}
 use Rattle.protocol.specs.Figures.{actionList}
@@ -19,7 +20,7 @@ use Rattle.steps.specs.Nodes.{Node, noNode, NodeWithin}
 use Rattle.steps.specs.Table.Laws.{node-in}
 use Rattle.steps.specs.Values.{NodeRight}
 use Rattle.steps.specs.Values.Parts.{noTerm}
-use Rattle.steps.specs.Facts.Messages.{each, MessageFact, IsMessage, message, IsMessages, messageFact, IsNode, facts-messages, messagesOf}
+use Rattle.steps.specs.Facts.Messages.{each, MessageFact, IsMessage, message, IsMessages, messageFact, IsNode, facts-messages, messagesOf, messageTrace, orNone}
 use Rattle.steps.specs.Causes.Good.{RightNodes}
 use Rattle.facts.specs.Calls.{factAt}
 use Rattle.facts.specs.Calls.Laws.{arity-is}
@@ -152,7 +153,8 @@ module _ {starts symbols classes : List ℕ} {P : Protocol} {xs : List Node} (t 
             sym (arity-is {a = record { node = k; list = actionList; number = i }}
             (record { node = node-in (r .stand) k (omega (arith, r .stand .count)); listed = m }) (getD symbols e 0) symbol-is)
 
-        fact-like :
+        -- the same symbol, as many arguments, and each argument's number is that of its message
+        pub fact-like :
             (h : IsMessages (ar P) (factAt P actionList i x))
             → LikeFact classes P xs (messageFact (ar P) (factAt P actionList i x) h) (numberFact arities starts symbols classes e)
         fact-like h = record {
@@ -166,7 +168,7 @@ module _ {starts symbols classes : List ℕ} {P : Protocol} {xs : List Node} (t 
               (ap (λ (f : ℕ). getD classes (stride * f + j) 0) entry-is)));
         }
 
-      node-like :
+      pub node-like :
           (h : IsNode P (r .stand .prepared .body .within) x)
           → Pairs (LikeFact classes P xs) (messagesOf P (r .stand .prepared .body .within) actionList x h) (numberNode arities starts symbols classes k)
       node-like h =
@@ -178,11 +180,15 @@ module _ {starts symbols classes : List ℕ} {P : Protocol} {xs : List Node} (t 
           subst (λ (y : Fact). (v : IsMessages (ar P) y) → LikeFact classes P xs (messageFact (ar P) y v) (numberFact arities starts symbols classes
           (getD starts k 0 + i))) q (fact-like i b) g))
 
-    -- crate steps' messageTrace is this list by number, from 1
+    -- the nodes' actions as messages
     abbrev pub messageNodes : List (List (MessageFact (ar P)))
     messageNodes =
         each (IsNode P (r .stand .prepared .body .within)) (messagesOf P (r .stand .prepared .body .within) actionList) xs
         (all-both (NodeWithin P) (NodeRight P) xs (r .stand .within) (r .right))
+
+    pub nodes-traced :
+        (k : ℕ) → messageTrace P (r .stand .prepared .body .within) xs (r .stand .within) (r .right) k ≡ orNone (nth messageNodes k)
+    nodes-traced k = refl
 
     pub trace-numbered : Pairs (Pairs (LikeFact classes P xs)) messageNodes (numberTrace arities starts symbols classes n)
     trace-numbered =
