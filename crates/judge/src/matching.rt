@@ -23,8 +23,8 @@ pub struct Bindings {
 
 // Whether a guard is an entry's fact, and the values with those of the new variables.
 pub struct Matched {
-    pub yes: bool,
     pub values: [u32; 16],
+    pub yes: bool,
 }
 
 // The class number that a code stands for.
