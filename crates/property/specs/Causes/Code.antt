@@ -1,10 +1,11 @@
 -- What the code answers of a property file.
-use Prim.Native.Nat.{ℕ, _<_}
+use Prim.Native.Nat.{ℕ, _≤_, _<_}
 use mathlib.Core.List.{List, [], _∷_, map}
 use mathlib.Core.Option.{none, some}
 use mathlib.Core.Bool.{Bool, true, false, not, cond}
-use mathlib.Core.Path.{_≡_, refl, ap, sym, _∙_}
+use mathlib.Core.Path.{_≡_, refl, ap, sym, _∙_, subst}
 use native.Mathlib.Omega.{arith}
+use lib.ListN.{length}
 use Rattle.lists.specs.Choice.{pick, clash}
 use Rattle.lists.specs.All.{All}
 use Rattle.rewriting.specs.Table.{Ruling, passed, refused, orRefuse}
@@ -12,6 +13,7 @@ use Rattle.number.specs.Reading.{Read, seen}
 use Rattle.number.specs.Reading.Laws.{cut-seen, cut-fault}
 use Rattle.number.specs.declared.Seen.the-variants as sn
 use Rattle.term.specs.Arity.{undeclared}
+use Rattle.protocol.specs.Figures.{symbolCount}
 use Rattle.protocol.specs.Protocol.{Own, Protocol, factArities}
 use Rattle.protocol.specs.Protocol.Limits.{OwnWithin}
 use Rattle.protocol.specs.Protocol.Exact.{few-arities}
@@ -20,7 +22,13 @@ use Rattle.property.specs.Formula.{Formula}
 use Rattle.property.specs.Fit.{fit}
 use Rattle.property.specs.Walk.{Tabled}
 use Rattle.property.specs.Causes.{propertyItem, fitRuling, propertyRuling}
-use Rattle.property.specs.Causes.Laws.{Passing, passed-passing}
+use Rattle.property.specs.Causes.Laws.{Passing, passed-passing, passing-reads, passing-test}
+use Rattle.property.specs.Formula.Limits.{FormulaWithin}
+use Rattle.property.specs.Layout.{property}
+use Rattle.property.specs.Layout.Exact.{property-form}
+use Rattle.property.specs.Reads.{Reads}
+use Rattle.property.specs.Reads.Laws.{reads-wider}
+use Rattle.octets.specs.Head.{Bytes}
 use Rattle.property.specs.declared.ruling.PropertyRuling.{PropertyRuling}
 use Rattle.property.specs.declared.ruling.PropertyRuling.the-variants as pr
 
@@ -81,3 +89,23 @@ good-passing r o h g = go (propertyRuling r) refl (sym (ap rulingOf g) ∙ h)
     go : (q : Ruling Formula) → propertyRuling r ≡ q → passed tt ≡ plainly q → (f : Formula) × Passing r f
     go (passed f) e i = (f, passed-passing r f e)
     go (refused n k) e i = clash (cc)
+
+-- it is written in the file, under the table of arities that the prepared protocol has; it is within the limits, and its test of 5 holds
+pub record Judgeable (table ars file : List ℕ) (f : Formula) : Type 0 where
+  pub reads : Reads file table 0 f (length file)
+  pub within : FormulaWithin ars f
+  pub fits : fit [] f ≡ true
+
+pub passing-judgeable :
+    {p : List ℕ} {P : Protocol} → Body p P → (file : List ℕ) → Bytes file → (f : Formula) → Passing (property file (factArities (P .symbols))) f
+    → Judgeable (aritiesOf p) (factArities (P .symbols)) file f
+passing-judgeable {p} {P} b file bytes f h =
+    let ars : List ℕ = factArities (P .symbols) in
+    let few : length ars ≤ symbolCount = few-arities (P .symbols) (b .within .few-symbols) in
+    let w = property-form file bytes ars (omega arith) f (h .end) (h .there) in
+    let there : Reads file ars 0 f (length file) = subst (Reads file ars 0 f) (w .2) (passing-reads file ars f h) in
+    record {
+      reads = subst (λ (l : List ℕ). Reads file l 0 f (length file)) (sym (b .tabled)) (reads-wider file ars symbolCount few there);
+      within = w .0;
+      fits = passing-test file ars f h;
+    }
