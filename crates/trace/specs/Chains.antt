@@ -32,10 +32,15 @@ Marked raw q = getD raw q 0 < base
 
 module _ {K : Type 0} (key : ℕ → K) (raw : List ℕ) where
   pub record Classed (classes chains : List ℕ) (m : ℕ) : Type 0 where
+    -- the places from m on still have their first numbers, and a public name keeps its own
     pub kept : (q : ℕ) → m ≤ q → getD classes q 0 ≡ getD raw q 0
     pub named : (q : ℕ) → base ≤ getD raw q 0 → getD classes q 0 ≡ getD raw q 0
+    -- another class is a place that is not later
     pub low : (q : ℕ) → q < m → Marked raw q → getD classes q 0 ≤ q
+    -- equal classes exactly for equal keys
     pub same : (q r : ℕ) → q < m → r < m → Marked raw q → Marked raw r → (getD classes q 0 ≡ getD classes r 0) ↔ (key q ≡ key r)
+    -- heads and links name places before m that have a mark
     pub sound : (i r : ℕ) → getD chains i 0 ≡ suc r → (r < m) × Marked raw r
     pub falls : Falls chains
+    -- the chain of a place's mark has one with its key
     pub found : (q : ℕ) → q < m → Marked raw q → (l : ℕ) × (key l ≡ key q) × InChain chains (getD chains (getD raw q 0) 0) l

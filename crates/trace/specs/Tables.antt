@@ -39,6 +39,7 @@ module _ (P : Protocol) where
   abbrev pub ar : ℕ → Option ℕ
   ar = arity (tagArities (P .functions))
 
+  -- "The trace gives each node number, from 1, the actions of that node, perhaps none"
   abbrev pub actions : Node → List Fact
   actions = factsOf P actionList
 
@@ -66,11 +67,12 @@ module _ (P : Protocol) where
     placeOf k i j = stride * entryOf k i + j
 
 -- ── what the tables say of it ──
+-- for each node how many actions stand before its own, and behind the last how many there are
 pub record Starts (starts : List ℕ) (P : Protocol) (xs : List Node) : Type 0 where
   pub begins : (k : ℕ) → k ≤ length xs → getD starts k 0 ≡ actionsBefore P xs k
 
--- "Two messages count as equal exactly when the paper's ten equations make them equal": their numbers are then equal, and the public name n
--- has the number base + n
+-- for each action its symbol; for each argument a number: equal numbers exactly when "the paper's ten equations make them equal", and base + n
+-- exactly for the public name n
 pub record Tables (starts symbols classes : List ℕ) (P : Protocol) (xs : List Node) : Type 0 where
   pub begun : Starts starts P xs
   pub symbol :

@@ -11,6 +11,16 @@ ghost use Rattle.facts.specs.Calls.{Room};
 ghost use Rattle.trace.specs.Tables.{mostActions, placeCount, Tables};
 use crate::classes;
 use crate::entries;
+use crate::numbers;
+
+// The lengths that are enough for the tables, and for the work slice: the canonical bytes of two facts.
+pub const STARTS: usize = steps::nodes::MOST_NODES + 1;
+
+pub const SYMBOLS: usize = entries::MOST_ACTIONS;
+
+pub const CLASSES: usize = numbers::PLACES;
+
+pub const WORK: usize = 2 * facts::writing::FACT_ROOM;
 
 // The actions of the n nodes of a table, in numbers. Canonical bytes go into the work slice.
 pub fn make_tables(

@@ -85,7 +85,7 @@ module _ {raw classes chains : List ℕ} {m : ℕ} {P : Protocol} {xs : List Nod
         λ e. c .named q u ∙ a ∙ ap formNumber e,
       ))
 
-  pub classes-are : ClassesAre classes m P xs
+  classes-are : ClassesAre classes m P xs
   classes-are = record { same = class-exact; named = class-name }
 
 -- ── what the parts of the code ask of each other ──

@@ -36,10 +36,10 @@ module _ {raw : List ℕ} {P : Protocol} {xs : List Node} (t : NumberedTo raw (s
     number-at : placeNumber P xs q < base
     number-at = omega (arith, t .each q l, marked)
 
-    pub marked-place : IsPlace P xs q
+    marked-place : IsPlace P xs q
     marked-place = record { entry = omega (arith, l); argument = argument-marked (actionAt P xs q) (q % stride) number-at .0 }
 
-    pub marked-number : getD raw q 0 ≡ formNumber (keyAt P xs q)
+    marked-number : getD raw q 0 ≡ formNumber (keyAt P xs q)
     unfolding keyAt
     marked-number = t .each q l ∙ argument-marked (actionAt P xs q) (q % stride) number-at .1
 

@@ -24,7 +24,7 @@ use Rattle.trace.specs.Entries.{ActionIs, EntryIs, Entered, ListedAll, N
 
 -- ── of right nodes ──
 module _ {p s nodes : List ℕ} {n : ℕ} {P : Protocol} {xs : List Node} (r : RightNodes p s nodes n P xs) where
-  pub right-all : RightNodes p s nodes (length xs) P xs
+  right-all : RightNodes p s nodes (length xs) P xs
   right-all = subst (λ (k : ℕ). RightNodes p s nodes k P xs) (sym (r .stand .count)) r
 
   node-few : (x : Node) → NodeWithin P x → length (actions P x) ≤ mostFacts
@@ -35,14 +35,14 @@ module _ {p s nodes : List ℕ} {n : ℕ} {P : Protocol} {xs : List Node} (r : R
       let a = joined-few (actions P) mostFacts xs (all-map (NodeWithin P) (λ x. length (actions P x) ≤ mostFacts) node-few xs (r .stand .within)) in
       omega (arith, a, r .stand .count, r .stand .few)
 
-  pub count-few : (k : ℕ) → k < length xs → length (actions P (getD xs k noNode)) ≤ mostFacts
+  count-few : (k : ℕ) → k < length xs → length (actions P (getD xs k noNode)) ≤ mostFacts
   count-few k l = node-few (getD xs k noNode) (all-inside (NodeWithin P) noNode xs (r .stand .within) k l)
 
 -- ── filling ──
-pub code-node : (k i : ℕ) → i < mostFacts → (mostFacts * k + i) / mostFacts ≡ k
+code-node : (k i : ℕ) → i < mostFacts → (mostFacts * k + i) / mostFacts ≡ k
 code-node k i l = omega arith
 
-pub code-number : (k i : ℕ) → i < mostFacts → (mostFacts * k + i) % mostFacts ≡ i
+code-number : (k i : ℕ) → i < mostFacts → (mostFacts * k + i) % mostFacts ≡ i
 code-number k i l = omega arith
 
 pub entry-is :
@@ -53,11 +53,11 @@ entry-is P xs k i l m b =
     (record { node = l; listed = m; fact = sym (joined-at (actions P) noNode noFact xs k i l m) })
 
 module _ {p nodes symbols entries s : List ℕ} {P : Protocol} {xs : List Node} where
-  pub entered-none : RightNodes p s nodes (length xs) P xs → Entered p nodes symbols entries 0 s P xs
+  entered-none : RightNodes p s nodes (length xs) P xs → Entered p nodes symbols entries 0 s P xs
   entered-none r = record { right = r; each = λ e l. absurd (omega arith); symbol = λ e l. absurd (omega arith) }
 
   -- one entry more
-  pub entered-more :
+  entered-more :
       (m y v : ℕ) → Entered p nodes symbols entries m s P xs → m < length symbols → m < length entries → y ≡ getD (actionsIn P xs) m noFact .symbol
       → EntryIs P xs v m → Entered p nodes (set symbols m y) (set entries m v) (m + 1) s P xs
   entered-more m y v t a b hy hv = record {
@@ -87,11 +87,11 @@ module _ {p nodes symbols entries : List ℕ} {k from : ℕ} {s : List ℕ} {P :
     pub begun-listed : ListedFact p nodes action s P (getD xs k noNode)
     begun-listed = record { node = begun-node; listed = l }
 
-    pub begun-small : from + i < mostActions
+    begun-small : from + i < mostActions
     begun-small =
         omega (arith, b .so-far .is, before-inside (actions P) noNode xs k i (b .less) l, actions-few (b .so-far .entered .right))
 
-    pub number-small : i < mostFacts
+    number-small : i < mostFacts
     number-small = omega (arith, count-few (b .so-far .entered .right) k (b .less))
 
     -- one action more
@@ -108,7 +108,7 @@ module _ {p nodes symbols entries : List ℕ} {k from : ℕ} {s : List ℕ} {P :
         (entered-more (from + i) y (mostFacts * k + i) t (omega (arith, a, begun-small)) (omega (arith, c, begun-small))
         (hy ∙ sym (ap (λ (g : Fact). g .symbol) f)) (subst (EntryIs P xs (mostFacts * k + i)) (sym o) (entry-is P xs k i (b .less) l number-small)))
 
-  pub begun-count : (count : ℕ) → count ≡ length (actions P (getD xs k noNode)) → from + count ≡ actionsBefore P xs (k + 1)
+  begun-count : (count : ℕ) → count ≡ length (actions P (getD xs k noNode)) → from + count ≡ actionsBefore P xs (k + 1)
   begun-count count e =
       let z : suc k ≡ k + 1 = omega arith in
       omega (arith, e, b .so-far .is, before-more (actions P) noNode xs k (b .less), ap (actionsBefore P xs) z)

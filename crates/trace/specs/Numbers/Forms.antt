@@ -45,7 +45,7 @@ module _ {form p : List ℕ} where
   begins : (t : Term) → FormIn form p t → form ≡ encode t ++ []
   begins t f = f .bytes ∙ sym (append-nil (encode t))
 
-  pub public-there : (t : Term) → FormIn form p t → (n e : ℕ) → symbolAt form (slotsOf p) 0 ≡ sy.Leaf 1 n e → t ≡ leaf public n
+  public-there : (t : Term) → FormIn form p t → (n e : ℕ) → symbolAt form (slotsOf p) 0 ≡ sy.Leaf 1 n e → t ≡ leaf public n
   public-there (leaf variable m) f n e h =
       let g = symbol-of-leaf form (slotsOf p) variable m 0 [] (f .range) (begins (leaf variable m) f) in
       let z : _≡_ {A = ℕ} 0 1 = cc in
@@ -62,7 +62,7 @@ module _ {form p : List ℕ} where
       let g = symbol-of-app form (slotsOf p) k ts 0 [] (f .formed .0) (f .range .0) (begins (app k ts) f) in
       clash (cc)
 
-  pub no-public : (t : Term) → FormIn form p t → ((n e : ℕ) → symbolAt form (slotsOf p) 0 ≡ sy.Leaf 1 n e → ⊥) → publicNumber t ≡ none
+  no-public : (t : Term) → FormIn form p t → ((n e : ℕ) → symbolAt form (slotsOf p) 0 ≡ sy.Leaf 1 n e → ⊥) → publicNumber t ≡ none
   no-public (leaf variable m) f h = refl
   no-public (leaf public m) f h =
       absurd (h m _ (symbol-of-leaf form (slotsOf p) public m 0 [] (f .range) (begins (leaf public m) f)))
@@ -71,7 +71,7 @@ module _ {form p : List ℕ} where
 
   -- by the name that code finds
   module _ {t : Term} (f : FormIn form p t) (x : Name) (is : NameIs (symbolAt form (slotsOf p) 0) x) where
-    pub is-public : {y : Public} → x ≡ nm.PublicName y → t ≡ leaf public (y .0)
+    is-public : {y : Public} → x ≡ nm.PublicName y → t ≡ leaf public (y .0)
     is-public {y} e = let (d, h) = subst (NameIs (symbolAt form (slotsOf p) 0)) e is in public-there t f (y .0) d h
 
     pub public-small : {y : Public} → x ≡ nm.PublicName y → base + y .0 < 2 ^ 32
@@ -106,7 +106,7 @@ module _ (v : ℕ) where
     occurss-range (t & ts) r o = ⊎-elim (λ q. occurs-range t (r .0) q) (λ q. occurss-range ts (r .1) q) o
 
 module _ (p : Protocol) (fit : Within p) where
-  pub facts-range : (x : Node) → NodeWithin p x → (list : ℕ) → All (λ f. All InRange (f .terms)) (factsOf p list x)
+  facts-range : (x : Node) → NodeWithin p x → (list : ℕ) → All (λ f. All InRange (f .terms)) (factsOf p list x)
   facts-range x b list =
       subst (λ (o : Option Rule). All (λ f. All InRange (f .terms)) (filledList list (x .values) o)) (sym (b .known))
       (map-all (FactWithin (tagArities (p .functions)) (factArities (p .symbols))) (λ f. All InRange (f .terms)) (filledFact (x .values))

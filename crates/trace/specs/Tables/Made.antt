@@ -72,18 +72,18 @@ module _ {p s nodes : List ℕ} {P : Protocol} {xs : List Node} (r : RightNodes 
     action-is : actionAt P xs (placeOf P xs k i j) ≡ factAt P actionList i (getD xs k noNode)
     action-is = ap (λ (e : ℕ). getD (actionsIn P xs) e noFact) entry-is ∙ joined-at (actions P) noNode noFact xs k i (a .node) (a .action)
 
-    pub argument-place : IsPlace P xs (placeOf P xs k i j)
+    argument-place : IsPlace P xs (placeOf P xs k i j)
     argument-place = record {
       entry = omega (arith, entry-is, before-inside (actions P) noNode xs k i (a .node) (a .action));
       argument = omega (arith, number-is, ap (λ (f : Fact). length (f .terms)) action-is, a .argument);
     }
 
-    pub argument-key : keyAt P xs (placeOf P xs k i j) ≡ canon (m .term)
+    argument-key : keyAt P xs (placeOf P xs k i j) ≡ canon (m .term)
     unfolding keyAt
     argument-key =
         ap₂ (λ (f : Fact) (n : ℕ). canon (getD (f .terms) n noTerm)) action-is number-is ∙ sym (ap canon (a .is))
 
-    pub argument-inside : placeOf P xs k i j < stride * length (actionsIn P xs)
+    argument-inside : placeOf P xs k i j < stride * length (actionsIn P xs)
     argument-inside = omega (arith, narrow, before-inside (actions P) noNode xs k i (a .node) (a .action))
 
 -- ── the tables ──

@@ -56,7 +56,7 @@ pub data Pairs {A B : Type 0} (R : A → B → Type 0) : List A → List B → T
   more : {a : A} {b : B} {l : List A} {m : List B} → R a b → Pairs R l m → Pairs R (a ∷ l) (b ∷ m)
 
 module _ {A B C : Type 0} (Q : A → Type 0) (make : (x : A) → Q x → B) (R : B → C → Type 0) (d : A) where
-  pub pairs-row :
+  pairs-row :
       (xs : List A) (h : All Q xs) (m : ℕ → C) → ((i : ℕ) (x : A) (g : Q x) → i < length xs → getD xs i d ≡ x → R (make x g) (m i))
       → Pairs R (each Q make xs h) (row m (length xs))
   pairs-row [] h m f = nothing
