@@ -22,3 +22,6 @@ pub const EVERY: usize = 12;
 
 // "16 in scope"
 pub const SCOPE: usize = 16;
+
+// "each arity (0 to 8)": so many classes stand for an entry.
+pub const ARITY: usize = protocol::figures::MOST_FACT_ARITY;

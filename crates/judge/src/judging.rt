@@ -49,7 +49,7 @@ fn occurs(
     let mut e = entries::next_of(symbols, fact.symbol, 0, count);
     while e < count {
         node = entries::node_of(starts, node, e);
-        let p = protocol::figures::MOST_FACT_ARITY * e;
+        let p = figures::ARITY * e;
         let same = matching::agree(&codes, fact.count, classes, p, &values, base);
         found = found | ((time == node + 1) & same);
         e = entries::next_of(symbols, fact.symbol, e + 1, count);
@@ -234,7 +234,7 @@ pub fn holds(
     ensures { λ r. ⌜ Promises₂ (Property (now (file .entry)) (now (arities .entry))) (λ (ars : List ℕ) (φ : Formula). r ≡ truthOf (now (starts .entry)) (now (symbols .entry)) (now (classes .entry)) base ars [] [] φ) ⌝ }
 {
     let bound = Bindings {
-        values: [0; 16],
+        values: [0; figures::SCOPE],
         count: 0,
     };
     let r = judge(file, 0, arities, starts, symbols, classes, base, bound);

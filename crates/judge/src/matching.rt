@@ -17,18 +17,18 @@ use crate::reading::Coded;
 
 // A class number or a node number for each variable, and how many are bound.
 pub struct Bindings {
-    pub values: [u32; 16],
+    pub values: [u32; figures::SCOPE],
     pub count: usize,
 }
 
 // Whether a guard is an entry's fact, and the values with those of the new variables.
 pub struct Matched {
-    pub values: [u32; 16],
+    pub values: [u32; figures::SCOPE],
     pub yes: bool,
 }
 
 // The class number that a code stands for.
-pub fn class_of(base: u32, values: &[u32; 16], code: u32) -> usize
+pub fn class_of(base: u32, values: &[u32; figures::SCOPE], code: u32) -> usize
     ensures { λ r. ⌜ r ≡ value base (now (values .entry)) code ⌝ }
 {
     let t = reading::wide(code);
@@ -40,11 +40,11 @@ pub fn class_of(base: u32, values: &[u32; 16], code: u32) -> usize
 
 // Whether each term has the class of the entry's argument. The arguments begin at p.
 pub fn agree(
-    codes: &[u32; 8],
+    codes: &[u32; figures::ARITY],
     count: usize,
     classes: &[u32],
     p: usize,
-    values: &[u32; 16],
+    values: &[u32; figures::SCOPE],
     base: u32,
 ) -> bool
     requires { ⌜ (count ≤ mostFactArity) × (p + count ≤ length (now classes)) ⌝ }
@@ -62,11 +62,11 @@ pub fn agree(
 
 // The same of the terms that are no new variables, of which n are bound.
 fn known_agree(
-    codes: &[u32; 8],
+    codes: &[u32; figures::ARITY],
     count: usize,
     classes: &[u32],
     p: usize,
-    values: &[u32; 16],
+    values: &[u32; figures::SCOPE],
     n: usize,
     base: u32,
 ) -> bool
@@ -86,7 +86,14 @@ fn known_agree(
 }
 
 // The entry's arguments to the new variables, from the last term to the first: the first occurrence stays.
-fn bind(values: &mut [u32; 16], n: usize, codes: &[u32; 8], count: usize, classes: &[u32], p: usize)
+fn bind(
+    values: &mut [u32; figures::SCOPE],
+    n: usize,
+    codes: &[u32; figures::ARITY],
+    count: usize,
+    classes: &[u32],
+    p: usize,
+)
     requires { ⌜ (count ≤ mostFactArity) × (p + count ≤ length (now classes)) ⌝ }
     ensures { λ r. ⌜ now (values .exit) ≡ finish (λ j. getD (now (codes .entry)) j 0) (λ j. getD (now (classes .entry)) (p + j) 0) n count (now (values .entry)) ⌝ }
 {
@@ -101,7 +108,7 @@ fn bind(values: &mut [u32; 16], n: usize, codes: &[u32; 8], count: usize, classe
 }
 
 // A number to a variable, unless it is one of the n that are bound.
-fn put(values: &mut [u32; 16], n: usize, t: usize, v: u32)
+fn put(values: &mut [u32; figures::SCOPE], n: usize, t: usize, v: u32)
     ensures { λ r. ⌜ now (values .exit) ≡ put n t v (now (values .entry)) ⌝ }
 {
     if (n <= t) & (t < figures::SCOPE) {
@@ -110,7 +117,7 @@ fn put(values: &mut [u32; 16], n: usize, t: usize, v: u32)
 }
 
 // The value of a variable.
-pub fn slot(values: &[u32; 16], t: usize) -> usize
+pub fn slot(values: &[u32; figures::SCOPE], t: usize) -> usize
     ensures { λ r. ⌜ (t < mostScope → r ≡ getD (now (values .entry)) t 0) ⌝ }
 {
     if t < figures::SCOPE {
@@ -134,7 +141,7 @@ pub fn match_guard(
     let codes = fact.codes;
     let count = fact.count;
     let n = bound.count;
-    let p = protocol::figures::MOST_FACT_ARITY * e;
+    let p = figures::ARITY * e;
     let mut values = bound.values;
     if !known_agree(&codes, count, classes, p, &values, n, base) {
         return Matched {

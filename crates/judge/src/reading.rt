@@ -15,7 +15,7 @@ pub struct Num {
 
 // The codes of terms: a variable's number, or a public name's behind those of all variables.
 pub struct Codes {
-    pub codes: [u32; 8],
+    pub codes: [u32; figures::ARITY],
     pub next: usize,
 }
 
@@ -24,7 +24,7 @@ pub struct Coded {
     pub symbol: usize,
     pub count: usize,
     pub time: usize,
-    pub codes: [u32; 8],
+    pub codes: [u32; figures::ARITY],
     pub next: usize,
 }
 
@@ -80,7 +80,7 @@ fn terms(file: &[u8], at: usize, k: usize) -> Codes
     requires { ⌜ k ≤ mostFactArity ⌝ }
     ensures { λ r. ⌜ TermsAre (now (file .entry)) at k r ⌝ }
 {
-    let mut codes: [u32; 8] = [0; 8];
+    let mut codes: [u32; figures::ARITY] = [0; figures::ARITY];
     let mut i = at;
     let mut j = 0;
     while j < k {
@@ -117,7 +117,7 @@ fn arity(arities: &[u8], symbol: usize) -> usize
         return 0;
     }
     let k = byte(arities[symbol]);
-    if protocol::figures::MOST_FACT_ARITY < k {
+    if figures::ARITY < k {
         return 0;
     }
     k
