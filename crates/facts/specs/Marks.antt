@@ -69,7 +69,7 @@ pub mark-small : (n : ℕ) → n % markLimit < markLimit
 mark-small n = omega arith
 
 -- ── marks are below their limit ──
-from-below : (h : ℕ) → h < markLimit → (bs : List ℕ) → markFrom h bs < markLimit
+pub from-below : (h : ℕ) → h < markLimit → (bs : List ℕ) → markFrom h bs < markLimit
 unfolding markFrom
 from-below h l [] = l
 from-below h l (b ∷ bs) = from-below ((h * markBase + b) % markLimit) (mark-small (h * markBase + b)) bs

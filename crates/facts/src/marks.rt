@@ -16,7 +16,7 @@ const BASE: u32 = 257;
 pub const LIMIT: u32 = 65521;
 
 // The mark of some bytes, from a number on.
-fn mark_bytes(file: &[u8], from: u32) -> u32
+pub fn mark_bytes(file: &[u8], from: u32) -> u32
     requires { ⌜ from < markLimit ⌝ }
     ensures { λ r. ⌜ r ≡ markFrom from (now (file .entry)) ⌝ }
 {

@@ -10,11 +10,6 @@ use crate::formulas;
 use number::Seen;
 use prepared::sections;
 
-// "variable out of scope or of wrong sort, or new one not in its guard"
-pub const VARIABLE_WRONG: usize = 5;
-
-pub const PROPERTY_ITEM: usize = 2;
-
 // A property to be judged, or the number and the item of a refusal.
 pub enum PropertyRuling {
     Good,
@@ -31,8 +26,8 @@ pub fn rule_property(p: &[u8], f: &[u8]) -> PropertyRuling
             if fits {
                 return PropertyRuling::Good;
             }
-            PropertyRuling::Refused(VARIABLE_WRONG, rewriting::NO_ITEM)
+            PropertyRuling::Refused(rewriting::VARIABLE_WRONG, rewriting::NO_ITEM)
         }
-        Seen::Fault => PropertyRuling::Refused(rewriting::LAYOUT, PROPERTY_ITEM),
+        Seen::Fault => PropertyRuling::Refused(rewriting::LAYOUT, rewriting::PROPERTY_ITEM),
     }
 }

@@ -9,7 +9,6 @@ ghost use Rattle.message.specs.Canon.{canon};
 ghost use Rattle.protocol.specs.Protocol.{Protocol};
 ghost use Rattle.steps.specs.Nodes.{Node};
 ghost use Rattle.facts.specs.Calls.{Room, OneOf, factAt, argumentAt};
-ghost use Rattle.facts.specs.Marks.{markFrom};
 ghost use Rattle.trace.specs.Tables.{stride, mostActions, placeCount};
 ghost use Rattle.trace.specs.Entries.{ListedAll};
 ghost use Rattle.trace.specs.Numbers.{FormIn, formNumber, argumentNumber, Counted, ActionOf, NumberedTo};
@@ -17,6 +16,7 @@ use crate::entries;
 use facts::nodes::FactId;
 use facts::symbols;
 use facts::writing::Wanted;
+use facts::marks;
 use prepared::sections;
 use steps::values::Name;
 
@@ -28,20 +28,8 @@ pub const STRIDE: usize = protocol::figures::MOST_FACT_ARITY;
 
 pub const PLACES: usize = STRIDE * entries::MOST_ACTIONS;
 
-const MARK_BASE: u32 = 257;
-
-// The mark of some bytes.
-fn mark_bytes(file: &[u8]) -> u32
-    ensures { λ r. ⌜ r ≡ markFrom 0 (now (file .entry)) ⌝ }
-{
-    let mut h: u32 = 0;
-    let mut i: usize = 0;
-    while i < file.len() {
-        h = (h * MARK_BASE + file[i] as u32) % facts::marks::LIMIT;
-        i += 1;
-    }
-    h
-}
+// The mark of a form is that of its bytes alone.
+const NO_MARK: u32 = 0;
 
 // The number of a canonical form.
 fn form_number(form: &[u8], p: &[u8]) -> u32
@@ -49,9 +37,9 @@ fn form_number(form: &[u8], p: &[u8]) -> u32
     ensures { λ r. ⌜ Promises (FormIn (now (form .entry)) (now (p .entry))) (λ (t : Term). r ≡ formNumber t) ⌝ }
 {
     match steps::values::name_at(form, &p[..sections::ARITIES], 0) {
-        Name::FreshName(_) => mark_bytes(form),
+        Name::FreshName(_) => marks::mark_bytes(form, NO_MARK),
         Name::PublicName(name) => BASE + name.0,
-        Name::Other => mark_bytes(form),
+        Name::Other => marks::mark_bytes(form, NO_MARK),
     }
 }
 

@@ -45,7 +45,7 @@ each-member P [] h = tt
 each-member P (x ∷ xs) h = (h x (List·Memᴰ·head refl), each-member P xs (λ y m. h y (List·Memᴰ·tail m)))
 
 -- "each arity (0 to 8)"
-arities-few : (os : List Own) → All OwnWithin os → (y : ℕ) → getD (factArities os) y 0 ≤ 8
+pub arities-few : (os : List Own) → All OwnWithin os → (y : ℕ) → getD (factArities os) y 0 ≤ 8
 arities-few os w y =
     all-at (λ (a : ℕ). a ≤ 8) 0 (omega arith) (factArities os)
     (omega arith, (omega arith, (omega arith, (omega arith, map-all OwnWithin (λ (a : ℕ). a ≤ 8) (λ o. o .arity) (λ o q. omega (arith, q .small)) os w)))) y

@@ -12,11 +12,11 @@ use Rattle.octets.specs.Head.{Bytes, behind, stands-join}
 use Rattle.number.specs.Groups.{groups, numberLimit}
 use Rattle.number.specs.Reading.{Read, readNumber}
 use Rattle.number.specs.Layout.{listed, Exact}
-use Rattle.number.specs.Layout.Laws.{then-exact, counted-exact}
+use Rattle.number.specs.Layout.Laws.{number-exact, then-exact, counted-exact}
 use Rattle.rewriting.specs.Graph.{Edge}
 use Rattle.protocol.specs.Protocol.{Protocol}
 use Rattle.steps.specs.Nodes.{Node, Reading, read, broken, encodeNodes, onward, plainly, allOf, nodeList}
-use Rattle.steps.specs.Nodes.Exact.{cut-read, cut-plain, number-exact, nodes-back, nodes-form}
+use Rattle.steps.specs.Nodes.Exact.{cut-read, cut-plain, nodes-back, nodes-form}
 use Rattle.graph.specs.Graph.{Graph, graph-of, place-of, edge-of, mostEdges, encodePlace, encodeEdge, encodeGraph}
 use Rattle.graph.specs.Graph.{PlaceWithin, EdgeWithin, EdgesWithin, GraphWithin, place, edge, edgeList, withEdges, parts, graph}
 

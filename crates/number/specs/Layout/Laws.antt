@@ -8,9 +8,9 @@ use lib.ListN.{length, drop, length-append}
 use Rattle.lists.specs.Choice.{pick, cut, clash}
 use Rattle.octets.specs.Head.{Bytes, Stands, stands-join, behind}
 use Rattle.number.specs.Groups.{groups, numberLimit}
-use Rattle.number.specs.Reading.{Read, got, fault, andThen, below, many, counted}
+use Rattle.number.specs.Reading.{Read, got, fault, andThen, readNumber, below, many, counted}
 use Rattle.number.specs.Reading.Laws.{cut-got, then-got}
-use Rattle.number.specs.Reading.Numbers.{below-back, below-inside}
+use Rattle.number.specs.Reading.Numbers.{read-back, read-form, below-back, below-inside}
 use Rattle.number.specs.Layout.{flat, listed, Exact}
 use Rattle.lists.specs.All.{All}
 
@@ -19,6 +19,22 @@ pub below-exact : (file : List ℕ) → Bytes file → (n : ℕ) → Exact file 
 below-exact file bytes n = record {
   back = λ v at rest good there. below-back file n at v rest (good .0) (good .1) there;
   form = λ v at e h. let i = below-inside file n at bytes v e h in ((i .small, i .range), i .stands);
+}
+
+-- a number that a file can hold
+pub number-exact : (file : List ℕ) → Bytes file → Exact file (readNumber file) (λ v. v < numberLimit) groups
+number-exact file bytes = record {
+  back = λ v at rest small there. read-back file at v rest small there;
+  form = λ v at e h. read-form file bytes at v e h;
+}
+
+-- the same condition in other words
+pub exact-as :
+    {A : Type 0} (file : List ℕ) (p : ℕ → Read A) (Good Fine : A → Type 0) (code : A → List ℕ) → Exact file p Good code
+    → ((x : A) → Fine x → Good x) → ((x : A) → Good x → Fine x) → Exact file p Fine code
+exact-as file p Good Fine code exact there back = record {
+  back = λ x at rest fine h. exact .back x at rest (there x fine) h;
+  form = λ x at e h. let f = exact .form x at e h in (back x (f .0), f .1);
 }
 
 -- ── several ──

@@ -16,7 +16,7 @@ use Rattle.number.specs.Reading.{Read, got, andThen, readNumber, below, many, c
 use Rattle.number.specs.Reading.Laws.{cut-got, then-got}
 use Rattle.number.specs.Reading.Numbers.{read-back, read-form}
 use Rattle.number.specs.Layout.{flat, listed, Exact}
-use Rattle.number.specs.Layout.Laws.{below-exact, test-exact, many-exact, counted-exact, then-exact}
+use Rattle.number.specs.Layout.Laws.{number-exact, exact-as, below-exact, test-exact, many-exact, counted-exact, then-exact}
 use Rattle.property.specs.Figures.{mostNew, mostScope, termTags}
 use Rattle.property.specs.Formula.{Sort, msg, tmp, Term, var, public, Pattern, pattern-of, Atom, equal, action}
 use Rattle.property.specs.Formula.Limits.{TermWithin, PatternWithin, AtomWithin, HeadWithin}
@@ -28,21 +28,6 @@ use Rattle.property.specs.Layout.{factAt, timedAt, headAt, actionAt, ato
 -- a number that a file can hold
 abbrev pub Number : ℕ → Type 0
 Number v = v < numberLimit
-
-pub number-exact : (file : List ℕ) → Bytes file → Exact file (readNumber file) Number groups
-number-exact file bytes = record {
-  back = λ v at rest small there. read-back file at v rest small there;
-  form = λ v at e h. read-form file bytes at v e h;
-}
-
--- the same condition in other words
-exact-as :
-    {A : Type 0} (file : List ℕ) (p : ℕ → Read A) (Good Fine : A → Type 0) (code : A → List ℕ) → Exact file p Good code
-    → ((x : A) → Fine x → Good x) → ((x : A) → Good x → Fine x) → Exact file p Fine code
-exact-as file p Good Fine code exact there back = record {
-  back = λ x at rest fine h. exact .back x at rest (there x fine) h;
-  form = λ x at e h. let f = exact .form x at e h in (back x (f .0), f .1);
-}
 
 -- one thing after another, and what is made of the two
 module _ {A B C : Type 0} (file : List ℕ) (p : ℕ → Read A) (Good : A → Type 0) (code : A → List ℕ) (exact : Exact file p Good code)

@@ -18,7 +18,7 @@ use Rattle.number.specs.Reading.{Read, got, below, many, counted}
 use Rattle.number.specs.Reading.Laws.{cut-got, then-got}
 use Rattle.number.specs.Layout.{flat, listed, Exact}
 use Rattle.lists.specs.All.{All}
-use Rattle.number.specs.Layout.Laws.{below-exact, test-exact, many-exact, counted-exact, then-exact}
+use Rattle.number.specs.Layout.Laws.{exact-as, below-exact, test-exact, many-exact, counted-exact, then-exact}
 use Rattle.term.specs.Term.{encode, symbols}
 use Rattle.term.specs.Arity.{tagArities}
 use Rattle.term.specs.Reader.{term}
@@ -29,15 +29,6 @@ use Rattle.protocol.specs.Protocol.Limits.{TermWithin, FactWithin, Facts
 
 pick-true : {A : Type 0} {b : Bool} (x y : A) → b ≡ true → pick b x y ≡ x
 pick-true x y h = ap (λ (t : Bool). pick t x y) h
-
--- the same condition in other words
-exact-as :
-    {A : Type 0} (file : List ℕ) (p : ℕ → Read A) (Good Fine : A → Type 0) (code : A → List ℕ) → Exact file p Good code
-    → ((x : A) → Fine x → Good x) → ((x : A) → Good x → Fine x) → Exact file p Fine code
-exact-as file p Good Fine code exact there back = record {
-  back = λ x at rest fine h. exact .back x at rest (there x fine) h;
-  form = λ x at e h. let f = exact .form x at e h in (back x (f .0), f .1);
-}
 
 small-limit : 256 < numberLimit
 unfolding numberLimit

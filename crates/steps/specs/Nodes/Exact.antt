@@ -13,10 +13,9 @@ use Rattle.octets.specs.Head.{Bytes, Stands}
 use Rattle.number.specs.Groups.{groups, numberLimit}
 use Rattle.number.specs.Reading.{Read, got, fault, andThen, readNumber, below, many, counted}
 use Rattle.number.specs.Reading.Laws.{cut-got, then-got}
-use Rattle.number.specs.Reading.Numbers.{read-back, read-form}
 use Rattle.number.specs.Layout.{flat, Exact}
 use Rattle.lists.specs.All.{All}
-use Rattle.number.specs.Layout.Laws.{many-exact, then-exact, counted-exact}
+use Rattle.number.specs.Layout.Laws.{number-exact, many-exact, then-exact, counted-exact}
 use Rattle.term.specs.Term.{Term, encode}
 use Rattle.term.specs.Arity.{tagArities}
 use Rattle.term.specs.Reader.{term}
@@ -40,12 +39,6 @@ module _ {A B : Type 0} where
       → ((x : A) (d : ℕ) → r ≡ got x d → f x d ≡ read y e → C) → C
   cut-plain (got x d) f h k = k x d refl h
   cut-plain fault f h k = clash (cc)
-
-pub number-exact : (file : List ℕ) → Bytes file → Exact file (readNumber file) (λ v. v < numberLimit) groups
-number-exact file bytes = record {
-  back = λ v at rest small there. read-back file at v rest small there;
-  form = λ v at e h. read-form file bytes at v e h;
-}
 
 most-small : mostNodes < numberLimit
 unfolding numberLimit

@@ -14,7 +14,7 @@ use Rattle.protocol.specs.Protocol.{Protocol}
 use Rattle.steps.specs.Nodes.{Node}
 use Rattle.facts.specs.Writing.{factRoom}
 use Rattle.facts.specs.Calls.{Room}
-use Rattle.facts.specs.Marks.{markFrom, markBase, markLimit, mark-small}
+use Rattle.facts.specs.Marks.{from-below}
 use Rattle.trace.specs.Tables.{base, stride}
 use Rattle.trace.specs.Chains.{Classed}
 use Rattle.trace.specs.Numbers.{formNumber, argumentNumber, NumberedTo}
@@ -22,12 +22,6 @@ use Rattle.trace.specs.Classes.{actionAt, termAt, keyAt, IsPlace, Ready}
 use Rattle.trace.specs.Entries.{ListedAll}
 use Rattle.trace.specs.Classes.{ClassesAre}
 use Rattle.trace.specs.Classes.Places.{ready-few}
-
--- ── for crate facts: marks of bytes are below their limit ──
-from-below : (h : ℕ) → h < markLimit → (bs : List ℕ) → markFrom h bs < markLimit
-unfolding markFrom
-from-below h l [] = l
-from-below h l (b ∷ bs) = from-below ((h * markBase + b) % markLimit) (mark-small (h * markBase + b)) bs
 
 -- ── a number from base on is a public name's ──
 form-public : (t : Term) → base ≤ formNumber t → (n : ℕ) × (t ≡ leaf public n)

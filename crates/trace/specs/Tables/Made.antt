@@ -18,29 +18,12 @@ use Rattle.steps.specs.Nodes.{Node, noNode, NodeWithin}
 use Rattle.steps.specs.Facts.Formed.{FactFormed, facts-formed}
 use Rattle.steps.specs.Values.Parts.{noTerm}
 use Rattle.facts.specs.Calls.{factAt}
+use Rattle.facts.specs.Writing.Nodes.{arities-few}
 use Rattle.trace.specs.Joined.{joined-at, before-inside, before-most}
 use Rattle.trace.specs.Tables.{mostActions, Starts, ar, stride, actions, actionsIn, entryOf, placeOf, ArgumentIs, Tables}
 use Rattle.trace.specs.Entries.{AllEntered}
 use Rattle.trace.specs.Entries.Laws.{actions-few}
 use Rattle.trace.specs.Classes.{ClassesAre, actionAt, keyAt, IsPlace}
-
--- ── for crate facts: "each arity (0 to 8)" ──
-arities-few : (os : List Own) → All OwnWithin os → (y : ℕ) → getD (factArities os) y 0 ≤ mostFactArity
-arities-few os w y =
-    all-at (λ (a : ℕ). a ≤ mostFactArity) 0 (omega arith) (factArities os) (
-      omega arith,
-      (
-        omega arith,
-        (
-          omega arith,
-          (
-            omega arith,
-            map-all OwnWithin (λ (a : ℕ). a ≤ mostFactArity) (λ o. o .arity) (λ o q. omega (arith, q .small))
-                os w,
-          ),
-        ),
-      ),
-    ) y
 
 -- ── the place of an argument ──
 module _ {p s nodes : List ℕ} {P : Protocol} {xs : List Node} (r : RightNodes p s nodes (length xs) P xs) where
