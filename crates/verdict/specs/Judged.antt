@@ -1,0 +1,37 @@
+-- What the verdict's code asks and promises.
+use Prim.Native.Nat.{ℕ}
+use mathlib.Core.List.{List}
+use mathlib.Core.Path.{_≡_}
+use Rattle.lists.specs.Lists.{countBy}
+use Rattle.protocol.specs.Protocol.{Protocol, factArities}
+use Rattle.steps.specs.Nodes.{Node}
+use Rattle.steps.specs.Causes.Good.{RightNodes}
+use Rattle.property.specs.Formula.{Formula}
+use Rattle.property.specs.Layout.{property}
+use Rattle.property.specs.Causes.{propertyRuling}
+use Rattle.property.specs.Causes.Code.{rulingOf, plainly, good-passing}
+use Rattle.property.specs.Causes.Laws.{Passing}
+use Rattle.property.specs.declared.ruling.PropertyRuling.{PropertyRuling}
+use Rattle.property.specs.declared.ruling.PropertyRuling.the-variants as pr
+use Rattle.trace.specs.Active.{isActive}
+use Rattle.verdict.specs.declared.Verdict.{Verdict}
+use Rattle.verdict.specs.Truth.{truth}
+
+-- a property of right nodes: the nodes, and a file that is read as a formula, and that one is fit
+pub record Posed (p file s nodes : List ℕ) (n : ℕ) (P : Protocol) (xs : List Node) (φ : Formula) : Type 0 where
+  pub right : RightNodes p s nodes n P xs
+  pub passing : Passing (property file (factArities (P .symbols))) φ
+
+-- the truth of the property over their trace, and the number of nodes with an action
+pub record Judged (r : Verdict) (P : Protocol) (xs : List Node) (φ : Formula) : Type 0 where
+  pub truth-is : r .truth ≡ truth P xs φ
+  pub active-is : r .active ≡ countBy (isActive P) xs
+
+-- ── for callers ──
+-- a property that is ruled good
+pub good-posed :
+    {p file s nodes : List ℕ} {n : ℕ} {P : Protocol} {xs : List Node} → RightNodes p s nodes n P xs → (o : PropertyRuling)
+    → rulingOf o ≡ plainly (propertyRuling (property file (factArities (P .symbols)))) → o ≡ pr.Good
+    → (φ : Formula) × Posed p file s nodes n P xs φ
+good-posed {file = file} {P = P} r o h g =
+    let (φ, q) = good-passing (property file (factArities (P .symbols))) o h g in (φ, record { right = r; passing = q })
