@@ -16,6 +16,8 @@ use Rattle.property.specs.declared.ruling.PropertyRuling.the-variants as pr
 use Rattle.trace.specs.Active.{isActive}
 use Rattle.verdict.specs.declared.Verdict.{Verdict}
 use Rattle.verdict.specs.Truth.{truth}
+-- the tables of crate trace are those of crate judge
+pub mod Joined
 
 -- a property of right nodes: the nodes, and a file that is read as a formula, and that one is fit
 pub record Posed (p file s nodes : List ℕ) (n : ℕ) (P : Protocol) (xs : List Node) (φ : Formula) : Type 0 where

@@ -23,6 +23,7 @@ use Rattle.property.specs.Pairs.{Pairs, nothing, more, pairs-map}
 use Rattle.property.specs.Formula.{Formula}
 use Rattle.property.specs.Fit.{IsFit}
 use Rattle.property.specs.Meaning.Alike.{LikeFact, LikeTrace}
+use Rattle.property.specs.Judge.{judge}
 use Rattle.property.specs.Judge.Natural.{Natural, judge-like}
 use Rattle.property.specs.Truth.{arities, realMessages, plainFact, plainTrace, Truth, actionsOfNodes}
 use Rattle.property.specs.Truth.Laws.{truth-decided}
@@ -74,9 +75,14 @@ module _ (P : Protocol) (fit : Within P) where
         pairs-map (map (plainFact (P .functions))) (λ x. map termFact (factsOf P actionList x)) (λ fs x q. q)
         (pairs-each (IsNode P fit) (messagesOf P fit actionList) NodeTerms node-terms xs (all-both (NodeWithin P) (NodeRight P) xs within right))
 
+    -- the judge answers the same over messages
+    pub truth-judged :
+        (φ : Formula) → judge (realMessages (P .functions)) (plainTrace (P .functions) (actionsOfNodes P fit xs within right)) [] φ ≡ truth P xs φ
+    unfolding truth
+    truth-judged φ = judge-like tests-agree nodes-terms φ nothing
+
     -- document 01's truth
     pub truth-holds : (φ : Formula) → IsFit [] φ → Reflects (Truth (P .functions) (actionsOfNodes P fit xs within right) φ) (truth P xs φ)
-    unfolding truth
     truth-holds φ fits =
-        subst (Reflects (Truth (P .functions) (actionsOfNodes P fit xs within right) φ)) (judge-like tests-agree nodes-terms φ nothing)
+        subst (Reflects (Truth (P .functions) (actionsOfNodes P fit xs within right) φ)) (truth-judged φ)
         (truth-decided (P .functions) (actionsOfNodes P fit xs within right) φ fits)
