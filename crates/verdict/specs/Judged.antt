@@ -1,11 +1,12 @@
 -- What the verdict's code asks and promises.
 use Prim.Native.Nat.{ℕ}
 use mathlib.Core.List.{List}
-use mathlib.Core.Path.{_≡_}
+use mathlib.Core.Path.{_≡_, sym, subst}
 use Rattle.lists.specs.Lists.{countBy}
 use Rattle.protocol.specs.Protocol.{Protocol, factArities}
 use Rattle.steps.specs.Nodes.{Node}
 use Rattle.steps.specs.Causes.Good.{RightNodes}
+use Rattle.property.specs.Reflects.{Reflects}
 use Rattle.property.specs.Formula.{Formula}
 use Rattle.property.specs.Layout.{property}
 use Rattle.property.specs.Causes.{propertyRuling}
@@ -13,9 +14,11 @@ use Rattle.property.specs.Causes.Code.{rulingOf, plainly, good-passing}
 use Rattle.property.specs.Causes.Laws.{Passing}
 use Rattle.property.specs.declared.ruling.PropertyRuling.{PropertyRuling}
 use Rattle.property.specs.declared.ruling.PropertyRuling.the-variants as pr
+use Rattle.property.specs.Truth.{Truth, actionsOfNodes}
 use Rattle.trace.specs.Active.{isActive}
 use Rattle.verdict.specs.declared.Verdict.{Verdict}
 use Rattle.verdict.specs.Truth.{truth}
+use Rattle.verdict.specs.Truth.Laws.{truth-holds}
 -- the tables of crate trace are those of crate judge
 pub mod Joined
 
@@ -28,6 +31,15 @@ pub record Posed (p file s nodes : List ℕ) (n : ℕ) (P : Protocol) (xs : List
 pub record Judged (r : Verdict) (P : Protocol) (xs : List Node) (φ : Formula) : Type 0 where
   pub truth-is : r .truth ≡ truth P xs φ
   pub active-is : r .active ≡ countBy (isActive P) xs
+
+-- so it says whether the property holds of the trace, over all messages and whole numbers
+pub judged-holds :
+    {p file s nodes : List ℕ} {n : ℕ} {r : Verdict} {P : Protocol} {xs : List Node} {φ : Formula} (q : Posed p file s nodes n P xs φ) → Judged r P xs φ
+    → Reflects
+    (Truth (P .functions) (actionsOfNodes P (q .right .stand .prepared .body .within) xs (q .right .stand .within) (q .right .right)) φ) (r .truth)
+judged-holds {P = P} {xs} {φ} q j =
+    subst (Reflects _) (sym (j .truth-is))
+    (truth-holds P (q .right .stand .prepared .body .within) xs (q .right .stand .within) (q .right .right) φ (q .passing .fits))
 
 -- ── for callers ──
 -- a property that is ruled good

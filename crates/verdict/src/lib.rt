@@ -1,11 +1,7 @@
 // The verdict on a property over the trace of right nodes: its truth, and how many nodes have an action.
-ghost use mathlib.Core.List.{List};
 ghost use Rattle.lists.specs.Asks.{Asks₃, Promises₃};
-ghost use Rattle.protocol.specs.Protocol.{Protocol};
-ghost use Rattle.steps.specs.Nodes.{Node};
 ghost use Rattle.facts.specs.Writing.{factRoom};
 ghost use Rattle.facts.specs.Calls.{Room};
-ghost use Rattle.property.specs.Formula.{Formula};
 ghost use Rattle.verdict.specs.Judged.{Posed, Judged};
 use prepared::sections;
 use trace::active;

@@ -1,9 +1,9 @@
 -- The tables that crate trace makes are a trace in numbers of crate judge: node by node, fact by fact and argument by argument the messages of
 -- the nodes' actions. So the answer over numbers is the truth.
-use Prim.Native.Nat.{ℕ, zero, suc, _+_, _*_, _-_, _≤_, _<_}
+use Prim.Native.Nat.{ℕ, zero, suc, _+_, _-_, _≤_, _<_}
 use mathlib.Core.List.{List, [], _∷_, map}
 use mathlib.Core.Bool.{Bool}
-use mathlib.Core.Path.{_≡_, refl, ap, ap₂, sym, _∙_, subst, subst₂}
+use mathlib.Core.Path.{_≡_, refl, ap, sym, _∙_, subst}
 use native.Mathlib.Omega.{arith}
 use lib.ListN.{length, getD, take}
 use lib.Seq.{getD-take, length-take-le}
@@ -31,7 +31,7 @@ use Rattle.property.specs.Meaning.Alike.{LikeFact, LikeTrace}
 use Rattle.property.specs.Judge.Numbers.{Numbering, judge-numbers}
 use Rattle.property.specs.Truth.{realMessages, plainFact, plainTrace, actionsOfNodes}
 use Rattle.trace.specs.Joined.{before-more}
-use Rattle.trace.specs.Tables.{base, ar, mostActions, placeCount, actions, actionsBefore, Starts, Tables}
+use Rattle.trace.specs.Tables.{base, ar, mostActions, placeCount, actions, actionsBefore, Tables}
 use Rattle.trace.specs.Tables.Made.{starts-few}
 use Rattle.trace.specs.Tables.Trace as trace
 use Rattle.trace.specs.Tables.Trace.{Numbered, numbered-name, numbered-exact, fact-like}
@@ -44,8 +44,20 @@ use Rattle.verdict.specs.Truth.Laws.{truth-judged}
 -- ── for crate protocol: "each arity (0 to 8)" ──
 arities-small : (os : List Own) → All OwnWithin os → (y : ℕ) → getD (factArities os) y 0 ≤ mostFactArity
 arities-small os w =
-    all-at (λ (a : ℕ). a ≤ mostFactArity) 0 (omega arith) (factArities os)
-    (omega arith, (omega arith, (omega arith, (omega arith, map-all OwnWithin (λ (a : ℕ). a ≤ mostFactArity) (λ o. o .arity) (λ o q. omega (arith, q .small)) os w))))
+    all-at (λ (a : ℕ). a ≤ mostFactArity) 0 (omega arith) (factArities os) (
+      omega arith,
+      (
+        omega arith,
+        (
+          omega arith,
+          (
+            omega arith,
+            map-all OwnWithin (λ (a : ℕ). a ≤ mostFactArity) (λ o. o .arity) (λ o q. omega (arith, q .small))
+                os w,
+          ),
+        ),
+      ),
+    )
 
 -- the table of arities that a prepared protocol has is one for the judge
 pub body-arities : {p : List ℕ} {P : Protocol} → Body p P → Arities (aritiesOf p) (factArities (P .symbols))
@@ -232,5 +244,5 @@ module _ {p s nodes starts symbols classes : List ℕ} {n : ℕ} {P : Protocol} 
   pub lent-shape : mostActions ≤ length symbols → placeCount ≤ length classes → Shape lent symbols classes
   lent-shape = tables-shape r lent-tables lent-long
 
-  pub lent-truth : (φ : Formula) → truthOf lent symbols classes base (factArities (P .symbols)) [] [] φ ≡ truth P xs φ
-  lent-truth = truth-numbers r lent-tables lent-long
+  pub lent-truth : (φ : Formula) {b : Bool} → b ≡ truthOf lent symbols classes base (factArities (P .symbols)) [] [] φ → b ≡ truth P xs φ
+  lent-truth φ h = h ∙ truth-numbers r lent-tables lent-long φ
