@@ -11,8 +11,10 @@ use Rattle.protocol.specs.Figures.{mostFactArity}
 use Rattle.number.specs.Reading.{readNumber, readIn, below, many, counted}
 use Rattle.property.specs.Formula.{msg, tmp, var, pattern-of, Formula, every, absurdity}
 use Rattle.property.specs.Layout.{termAt, sortAt, factAt, timedAt, headAt, scopedAt, formulaAt, property}
-use Rattle.judge.specs.Tables.{Shape, Arities}
-use Rattle.judge.specs.Judging.{Property, truthOf}
+use Rattle.property.specs.Judge.{judge}
+use Rattle.property.specs.Judge.Numbers.{numbers}
+use Rattle.judge.specs.Tables.{traceOf, Shape, Arities}
+use Rattle.judge.specs.Judging.{Property}
 
 -- "property 0C 02 00 03 04 00 00 01 0C 01 03 03 00 00 02 00"
 abbrev pub file : List ℕ
@@ -36,7 +38,13 @@ abbrev pub secret : Formula
 secret = every (msg ∷ tmp ∷ []) (pattern-of 4 (var 0 ∷ [])) 1 (every (tmp ∷ []) (pattern-of 3 (var 0 ∷ [])) 2 absurdity)
 
 pub arities : Arities ars ars
-arities = record { few = omega arith; small = all-at (λ (k : ℕ). k ≤ mostFactArity) 0 (omega arith) ars (omega arith, (omega arith, (omega arith, (omega arith, (omega arith, tt))))); same = λ i l. refl }
+arities =
+    let one : 1 ≤ mostFactArity = omega arith in
+    record {
+      few = omega arith;
+      small = all-at (λ (k : ℕ). k ≤ mostFactArity) 0 (omega arith) ars (one, (one, (one, (one, (one, tt)))));
+      same = λ i l. refl;
+    }
 
 pub shape : Shape starts symbols classes
 shape = record {
@@ -60,5 +68,8 @@ unfolding property formulaAt scopedAt headAt timedAt factAt termAt sortAt counte
 is-property = record { arities = arities; end = 16; reads = refl; fits = refl }
 
 -- whatever the call answers
-pub attacked : {r : Bool} → Promises₂ (Property file ars) (λ (l : List ℕ) (φ : Formula). r ≡ truthOf starts symbols classes 16 l [] [] φ) → r ≡ false
+pub attacked :
+    {r : Bool}
+    → Promises₂ (Property file ars) (λ (l : List ℕ) (φ : Formula). r ≡ judge (numbers 16) (traceOf l symbols classes starts) [] φ)
+    → r ≡ false
 attacked p = p ars secret is-property ∙ refl

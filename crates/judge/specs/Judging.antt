@@ -102,7 +102,7 @@ pub record Bodied (file table : List ℕ) (h : Guard) (n : ℕ) (x : Guarded) (�
   pub body : Fits file table (h .fact .next) (n + h .fresh) (written-of (x .ars) (x .scope ++ x .sorts) φ k)
 
 -- ── what is promised: the definition's answer over class numbers ──
-module _ (symbols classes : List ℕ) (base : ℕ) (b : List ℕ) where
+module _ (base : ℕ) (b : List ℕ) where
   -- what the entry binds the variables to, and whether it is the guard's fact
   abbrev pub bindsTo : Guarded → Entry ℕ → List (Value ℕ ℕ)
   bindsTo x e = extended (numbers base) (bound (x .scope) b) (x .sorts) (x .guard .pattern) e
@@ -110,26 +110,29 @@ module _ (symbols classes : List ℕ) (base : ℕ) (b : List ℕ) where
   abbrev pub meets : Guarded → Entry ℕ → Bool
   meets x e = matches (numbers base) (bindsTo x e) (x .guard .pattern) (x .guard .time) e
 
-  -- the guard against entry e of a node
-  pub record Matching (node e : ℕ) (r : Matched) (x : Guarded) : Type 0 where
-    pub matched : r .yes ≡ meets x (entryOf (x .ars) symbols classes node e)
-    pub binds : r .yes ≡ true → bound (x .scope ++ x .sorts) (r .values) ≡ bindsTo x (entryOf (x .ars) symbols classes node e)
+-- the guard against entry e of a node
+pub record Matching (symbols classes : List ℕ) (base : ℕ) (b : List ℕ) (node e : ℕ) (r : Matched) (x : Guarded) : Type 0 where
+  pub matched : r .yes ≡ meets base b x (entryOf (x .ars) symbols classes node e)
+  pub binds : r .yes ≡ true → bound (x .scope ++ x .sorts) (r .values) ≡ bindsTo base b x (entryOf (x .ars) symbols classes node e)
 
 -- of an atom, whatever the trace is under the arities
 pub record AtomSaid (tr : List ℕ → Trace ℕ) (base : ℕ) (b : List ℕ) (r : Judged) (x : Stated) : Type 0 where
   pub truth : r .truth ≡ test (numbers base) (tr (x .ars)) (bound (x .scope) b) (x .atom)
   pub next : r .next ≡ x .end
 
-module _ (starts symbols classes : List ℕ) (base : ℕ) where
+module _ (starts symbols classes : List ℕ) where
   abbrev pub traced : List ℕ → Trace ℕ
   traced ars = traceOf ars symbols classes starts
 
+module _ (starts symbols classes : List ℕ) (base : ℕ) where
   abbrev pub truthOf : List ℕ → List Sort → List ℕ → Formula → Bool
-  truthOf ars scope b φ = judge (numbers base) (traced ars) (bound scope b) φ
+  truthOf ars scope b φ = judge (numbers base) (traced starts symbols classes ars) (bound scope b) φ
 
   -- whether the fact occurs at its time
   pub record Occurs (b : List ℕ) (r : Bool) (x : Guarded) : Type 0 where
-    pub found : r ≡ anyBy (matches (numbers base) (bound (x .scope ++ x .sorts) b) (x .guard .pattern) (x .guard .time)) (entriesFrom 1 (traced (x .ars)))
+    pub found :
+        r ≡ anyBy (matches (numbers base) (bound (x .scope ++ x .sorts) b) (x .guard .pattern) (x .guard .time))
+        (entriesFrom 1 (traced starts symbols classes (x .ars)))
 
   pub record Says (b : List ℕ) (r : Judged) (w : Written) : Type 0 where
     pub truth : r .truth ≡ truthOf (w .ars) (w .scope) b (w .formula)

@@ -10,6 +10,8 @@ pub mod Reading
 pub mod Folding
 -- what judge and walk ask and promise
 pub mod Judging
+-- what callers owe
+pub mod Owed
 -- what the answer means of the messages that the tables number
 pub mod Meaning
 -- document 01's printed property, by computation

@@ -1,21 +1,17 @@
 -- The trace in numbers: for each node the number of action entries before it, for each entry its symbol, for each argument its class number.
-use Prim.Native.Nat.{ℕ, zero, suc, _+_, _-_, _*_, _≤_, _<_}
-use mathlib.Core.List.{List, [], _∷_}
+use Prim.Native.Nat.{ℕ, suc, _+_, _-_, _*_, _≤_, _<_}
+use mathlib.Core.List.{List}
 use mathlib.Core.Path.{_≡_}
 use lib.ListN.{length, getD, drop}
 use lib.Dec.{leb}
 use Rattle.lists.specs.Choice.{pick}
+use Rattle.lists.specs.Lists.{row}
 use Rattle.octets.specs.Limits.{longest}
 use Rattle.protocol.specs.Figures.{symbolCount, mostFactArity}
 use Rattle.property.specs.Meaning.{Fact, Entry, Trace}
 use Rattle.property.specs.Judge.{entriesFrom}
 -- the entries in order
 pub mod Entries
-
--- m 0, m 1, .., k of them
-abbrev pub row : (ℕ → ℕ) → ℕ → List ℕ
-row m zero = []
-row m (suc k) = m 0 ∷ row (λ j. m (suc j)) k
 
 module _ (classes : List ℕ) (e : ℕ) where
   -- argument j of entry e stands at 8 e + j: a fact has eight arguments at most
@@ -27,19 +23,13 @@ module _ (ars symbols classes : List ℕ) where
   abbrev pub factOf : ℕ → Fact ℕ
   factOf e = record { symbol = getD symbols e 0; messages = row (classAt classes e) (getD ars (getD symbols e 0) 0) }
 
-  -- n facts from entry e on
-  abbrev pub factsFrom : ℕ → ℕ → List (Fact ℕ)
-  factsFrom zero e = []
-  factsFrom (suc n) e = factOf e ∷ factsFrom n (suc e)
+  -- node k, from 0: its entries end where those of the next begin
+  abbrev pub factsAt : List ℕ → ℕ → List (Fact ℕ)
+  factsAt starts k = row (λ i. factOf (getD starts k 0 + i)) (getD starts (k + 1) 0 - getD starts k 0)
 
-  -- the nodes behind entry s: each has the entries up to the next one's start
-  abbrev pub nodesFrom : ℕ → List ℕ → Trace ℕ
-  nodesFrom s [] = []
-  nodesFrom s (t ∷ ss) = factsFrom (t - s) s ∷ nodesFrom t ss
-
+  -- behind the last node's start stands the count of all entries
   abbrev pub traceOf : List ℕ → Trace ℕ
-  traceOf [] = []
-  traceOf (s ∷ ss) = nodesFrom s ss
+  traceOf starts = row (factsAt starts) (length starts - 1)
 
   -- entry e, of the node of that number from 0; document 01 numbers nodes from 1
   abbrev pub entryOf : ℕ → ℕ → Entry ℕ

@@ -9,8 +9,10 @@ ghost use Rattle.protocol.specs.Figures.{mostFactArity};
 ghost use Rattle.property.specs.Formula.{Formula};
 ghost use Rattle.property.specs.Meaning.{Trace};
 ghost use Rattle.property.specs.Layout.{equalAt, timesAt, atomAt};
-ghost use Rattle.judge.specs.Tables.{Shape};
-ghost use Rattle.judge.specs.Judging.{Fits, Property, AtomIs, Bodied, Fitting, AtomSaid, Says, Walked, Occurs, traced, truthOf};
+ghost use Rattle.property.specs.Judge.{judge};
+ghost use Rattle.property.specs.Judge.Numbers.{numbers};
+ghost use Rattle.judge.specs.Tables.{Shape, traceOf};
+ghost use Rattle.judge.specs.Judging.{Fits, Property, AtomIs, Bodied, Fitting, AtomSaid, Says, Walked, Occurs, traced};
 ghost use Rattle.judge.specs.Folding.{join};
 use crate::entries;
 use crate::figures;
@@ -99,12 +101,12 @@ fn atom(
     bound: Bindings,
 ) -> Judged
     requires { ⌜ Shape (now starts) (now symbols) (now classes) ⌝ }
-    ensures { λ r. ⌜ Promises (AtomIs (now (arities .entry)) (λ ars. atomAt (now (file .entry)) ars (tag .value) (tag .next)) (bound .count)) (AtomSaid (traced (now (starts .entry)) (now (symbols .entry)) (now (classes .entry)) base) base (bound .values) r) ⌝ }
+    ensures { λ r. ⌜ Promises (AtomIs (now (arities .entry)) (λ ars. atomAt (now (file .entry)) ars (tag .value) (tag .next)) (bound .count)) (AtomSaid (traced (now (starts .entry)) (now (symbols .entry)) (now (classes .entry))) base (bound .values) r) ⌝ }
 {
-    if tag.value < figures::BEFORE {
+    if tag.value < property::figures::BEFORE {
         return equal(file, tag.next, base, bound);
     }
-    if tag.value < figures::ACTION {
+    if tag.value < property::figures::ACTION {
         return times(file, tag.next, tag.value < figures::SAME_TIME, bound);
     }
     let fact = reading::read_fact(file, tag.next, arities);
@@ -130,7 +132,7 @@ fn sign(asserted: bool, x: bool) -> bool
 }
 
 // Whether the formula at a place is true, and the place behind it. Both sides of and, or are judged.
-pub fn judge(
+fn judge(
     file: &[u8],
     at: usize,
     arities: &[u8],
@@ -144,13 +146,13 @@ pub fn judge(
     ensures { λ r. ⌜ Promises (Fits (now (file .entry)) (now (arities .entry)) at (bound .count)) (Says (now (starts .entry)) (now (symbols .entry)) (now (classes .entry)) base (bound .values) r) ⌝ }
 {
     let tag = reading::read(file, at);
-    if tag.value == figures::FALSE {
+    if tag.value == property::figures::FALSE {
         return Judged {
             truth: false,
             next: tag.next,
         };
     }
-    if tag.value < figures::AND {
+    if tag.value < property::figures::AND {
         let a = atom(file, tag, arities, starts, symbols, classes, base, bound);
         let truth = sign(tag.value % figures::SIGNS == figures::ASSERTS, a.truth);
         return Judged {
@@ -158,19 +160,11 @@ pub fn judge(
             next: a.next,
         };
     }
-    if tag.value < figures::EXISTS {
-        let x = judge(
-            file,
-            tag.next,
-            arities,
-            starts,
-            symbols,
-            classes,
-            base,
-            bound,
-        );
+    if tag.value < property::figures::EXISTS {
+        let i = tag.next;
+        let x = judge(file, i, arities, starts, symbols, classes, base, bound);
         let y = judge(file, x.next, arities, starts, symbols, classes, base, bound);
-        let truth = join(tag.value == figures::AND, x.truth, y.truth);
+        let truth = join(tag.value == property::figures::AND, x.truth, y.truth);
         return Judged {
             truth: truth,
             next: y.next,
@@ -180,7 +174,8 @@ pub fn judge(
     walk(file, guard, arities, starts, symbols, classes, base, bound)
 }
 
-// The quantifier of a guard: the guard is compared with every entry of every node, in order, and the body judged once for each match.
+// The quantifier of a guard: the guard is compared with every entry of every node, in order, and the body judged once for each match. Where
+// no entry matches, the body is passed over for the place behind it.
 fn walk(
     file: &[u8],
     guard: Guard,
@@ -197,8 +192,8 @@ fn walk(
     let fact = guard.fact;
     let inner = bound.count + guard.fresh;
     let count = entries::total(starts);
-    let next = skipping::skip(file, fact.next, arities);
     let mut truth = guard.every;
+    let mut next = 0;
     let mut node = 0;
     let mut e = entries::next_of(symbols, fact.symbol, 0, count);
     while e < count {
@@ -212,8 +207,12 @@ fn walk(
             };
             let r = judge(file, fact.next, arities, starts, symbols, classes, base, b);
             truth = join(guard.every, truth, r.truth);
+            next = r.next;
         }
         e = entries::next_of(symbols, fact.symbol, e + 1, count);
+    }
+    if next == 0 {
+        next = skipping::skip(file, fact.next, arities);
     }
     Judged {
         truth: truth,
@@ -231,7 +230,7 @@ pub fn holds(
     base: u32,
 ) -> bool
     requires { ⌜ Asks₂ (Property (now file) (now arities)) × Shape (now starts) (now symbols) (now classes) ⌝ }
-    ensures { λ r. ⌜ Promises₂ (Property (now (file .entry)) (now (arities .entry))) (λ (ars : List ℕ) (φ : Formula). r ≡ truthOf (now (starts .entry)) (now (symbols .entry)) (now (classes .entry)) base ars [] [] φ) ⌝ }
+    ensures { λ r. ⌜ Promises₂ (Property (now (file .entry)) (now (arities .entry))) (λ (ars : List ℕ) (φ : Formula). r ≡ judge (numbers base) (traceOf ars (now (symbols .entry)) (now (classes .entry)) (now (starts .entry))) [] φ) ⌝ }
 {
     let bound = Bindings {
         values: [0; figures::SCOPE],

@@ -1,6 +1,6 @@
 // The judge of a property over a trace in numbers.
 
-pub mod figures; // the tags of formulas, how many variables
+pub mod figures; // tags, how many variables and arguments
 pub mod reading; // numbers, terms and guards of a property file
 pub mod entries; // the entries of the tables
 pub mod matching; // a guard against an entry

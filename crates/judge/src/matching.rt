@@ -54,7 +54,8 @@ pub fn agree(
     let mut j = 0;
     while j < count {
         let v = class_of(base, values, codes[j]);
-        same = same & (v == reading::wide(classes[p + j]));
+        let w = reading::wide(classes[p + j]);
+        same = same & (v == w);
         j += 1;
     }
     same
@@ -142,19 +143,23 @@ pub fn match_guard(
     let count = fact.count;
     let n = bound.count;
     let p = figures::ARITY * e;
+    let number = node + 1;
     let mut values = bound.values;
-    if !known_agree(&codes, count, classes, p, &values, n, base) {
+    let known = slot(&values, fact.time);
+    let timed = (n <= fact.time) | (known == number);
+    let same = known_agree(&codes, count, classes, p, &values, n, base);
+    if !(timed & same) {
         return Matched {
-            yes: false,
             values: values,
+            yes: false,
         };
     }
     bind(&mut values, n, &codes, count, classes, p);
-    put(&mut values, n, fact.time, (node + 1) as u32);
-    let t = slot(&values, fact.time);
-    let same = agree(&codes, count, classes, p, &values, base);
+    put(&mut values, n, fact.time, number as u32);
+    let time = slot(&values, fact.time);
+    let all = agree(&codes, count, classes, p, &values, base);
     Matched {
-        yes: (t == node + 1) & same,
         values: values,
+        yes: (time == number) & all,
     }
 }

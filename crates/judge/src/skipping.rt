@@ -10,12 +10,12 @@ use crate::reading;
 fn skip_atom(file: &[u8], at: usize, tag: usize, arities: &[u8]) -> usize
     ensures { λ r. ⌜ AtomEnds (now (file .entry)) (now (arities .entry)) tag at r ⌝ }
 {
-    if tag < figures::BEFORE {
+    if tag < property::figures::BEFORE {
         let t = reading::term(file, at);
         let u = reading::term(file, t.next);
         return u.next;
     }
-    if tag < figures::ACTION {
+    if tag < property::figures::ACTION {
         let i = reading::read(file, at);
         let j = reading::read(file, i.next);
         return j.next;
@@ -30,13 +30,13 @@ pub fn skip(file: &[u8], at: usize, arities: &[u8]) -> usize
     ensures { λ r. ⌜ Promises (Formed (now (file .entry)) (now (arities .entry)) at) (λ (w : Written). r ≡ w .end) ⌝ }
 {
     let tag = reading::read(file, at);
-    if tag.value == figures::FALSE {
+    if tag.value == property::figures::FALSE {
         return tag.next;
     }
-    if tag.value < figures::AND {
+    if tag.value < property::figures::AND {
         return skip_atom(file, tag.next, tag.value, arities);
     }
-    if tag.value < figures::EXISTS {
+    if tag.value < property::figures::EXISTS {
         let m = skip(file, tag.next, arities);
         return skip(file, m, arities);
     }

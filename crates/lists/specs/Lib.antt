@@ -13,3 +13,9 @@ pub mod Some
 pub mod Below
 -- what a contract asks and promises of the trees at a place
 pub mod Asks
+-- answers that decide a statement
+pub mod Reflects
+-- two lists related place by place
+pub mod Pairs
+-- lists one behind the other
+pub mod Joined

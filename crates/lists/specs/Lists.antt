@@ -60,6 +60,11 @@ module _ {A : Type 0} where
   before zero l = []
   before (suc k) l = take k l
 
+-- m 0, m 1, .., k of them.
+abbrev pub row : {A : Type 0} → (ℕ → A) → ℕ → List A
+row m zero = []
+row m (suc k) = m 0 ∷ row (λ j. m (suc j)) k
+
 -- A pass over a list that keeps a state.
 module _ {S A : Type 0} where
   -- The state that the elements leave.

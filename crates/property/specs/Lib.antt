@@ -4,9 +4,6 @@
 pub mod Figures
 -- formulas, and the limits of a property file
 pub mod Formula
--- for crate lists: answers that decide a statement; two lists place by place
-pub mod Reflects
-pub mod Pairs
 -- cause 5: scopes, sorts, guards; the test decides it
 pub mod Fit
 -- a property file: its bytes, its reading, exact in both directions

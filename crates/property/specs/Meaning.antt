@@ -6,9 +6,9 @@ use mathlib.Core.Logic.{_⊎_}
 use mathlib.Core.List.{List, [], _∷_, _++_, map}
 use Prim.Native.Nat.{ℕ, zero, suc, _<_}
 use Rattle.lists.specs.Lists.{_∈_, nth}
+use Rattle.lists.specs.Reflects.{Reflects}
+use Rattle.lists.specs.Pairs.{Pairs}
 use Rattle.steps.specs.Facts.Messages.{orNone}
-use Rattle.property.specs.Reflects.{Reflects}
-use Rattle.property.specs.Pairs.{Pairs}
 use Rattle.property.specs.Formula.{Sort, msg, tmp, Term, var, public, Pattern, Atom, equal, before, together, action, Formula}
 use Rattle.property.specs.Formula.{absurdity, is, isnt, both, either, exists, every}
 -- values that are alike; equal messages change nothing

@@ -6,7 +6,7 @@ use native.Mathlib.Omega.{arith}
 use lib.Dec.{eqb, ltb→lt, lt→ltb}
 use lib.IntN.{ℤ, pos, negsuc}
 use lib.Signed.{_<ℤ_, ltZ-yes}
-use Rattle.property.specs.Reflects.{Reflects, wrong, reflects-iff, reflects-eq}
+use Rattle.lists.specs.Reflects.{Reflects, wrong, reflects-iff, reflects-eq}
 use Rattle.property.specs.Meaning.{Times}
 
 abbrev pub naturals : Times

@@ -5,6 +5,7 @@ use mathlib.Core.List.{List, [], map}
 use mathlib.Core.Option.{Option}
 use Rattle.lists.specs.All.{All}
 use Rattle.lists.specs.All.Laws.{all-both}
+use Rattle.lists.specs.Reflects.{reflects-exactly}
 use Rattle.term.specs.Arity.{arity, tagArities}
 use Rattle.message.specs.Promise.{Message, SameMessage, publicName, messages}
 use Rattle.protocol.specs.Figures.{actionList}
@@ -13,7 +14,6 @@ use Rattle.protocol.specs.Protocol.Limits.{Within}
 use Rattle.steps.specs.Nodes.{Node, NodeWithin}
 use Rattle.steps.specs.Values.{NodeRight}
 use Rattle.steps.specs.Facts.Messages.{MessageFact, each, IsNode, messagesOf}
-use Rattle.property.specs.Reflects.{reflects-exactly}
 use Rattle.property.specs.Formula.{Formula}
 use Rattle.property.specs.Meaning.{Messages, Fact, Trace, Holds}
 use Rattle.property.specs.Times.{integers}

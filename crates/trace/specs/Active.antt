@@ -10,9 +10,9 @@ use borrow.Author.Tests.{lt-ltb, le-ltb}
 use lib.Seq.{take-suc, take-length}
 use Rattle.lists.specs.Lists.{bit, countBy}
 use Rattle.lists.specs.Lists.Laws.{count-append}
+use Rattle.lists.specs.Joined.{before-more}
 use Rattle.protocol.specs.Protocol.{Protocol}
 use Rattle.steps.specs.Nodes.{Node, noNode}
-use Rattle.trace.specs.Joined.{before-more}
 use Rattle.trace.specs.Tables.{actions, actionsBefore, Starts}
 
 abbrev pub isActive : Protocol → Node → Bool

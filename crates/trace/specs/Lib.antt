@@ -14,5 +14,3 @@ pub mod Numbers
 pub mod Chains
 -- the class of each argument
 pub mod Classes
--- for crate lists: lists one behind the other
-pub mod Joined

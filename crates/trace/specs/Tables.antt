@@ -5,6 +5,7 @@ use mathlib.Core.Logic.{_↔_}
 use mathlib.Core.Option.{Option}
 use mathlib.Core.Path.{_≡_}
 use lib.ListN.{length, getD}
+use Rattle.lists.specs.Joined.{joined, before}
 use Rattle.term.specs.Arity.{arity, tagArities}
 use Rattle.message.specs.Promise.{Message, SameMessage, publicName}
 use Rattle.protocol.specs.Figures.{actionList, mostFacts, mostFactArity}
@@ -12,7 +13,6 @@ use Rattle.protocol.specs.Protocol.{Fact, Protocol}
 use Rattle.steps.specs.Nodes.{Node, noNode, mostNodes}
 use Rattle.steps.specs.Facts.{factsOf}
 use Rattle.facts.specs.Calls.{factAt, argumentAt}
-use Rattle.trace.specs.Joined.{joined, before}
 -- the tables that the code makes
 pub mod Made
 -- the trace that is read off them

@@ -13,10 +13,10 @@ ghost use Rattle.trace.specs.Tables.{stride, mostActions, placeCount};
 ghost use Rattle.trace.specs.Entries.{ListedAll};
 ghost use Rattle.trace.specs.Numbers.{FormIn, formNumber, argumentNumber, Counted, ActionOf, NumberedTo};
 use crate::entries;
+use facts::marks;
 use facts::nodes::FactId;
 use facts::symbols;
 use facts::writing::Wanted;
-use facts::marks;
 use prepared::sections;
 use steps::values::Name;
 

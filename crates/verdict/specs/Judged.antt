@@ -3,10 +3,10 @@ use Prim.Native.Nat.{ℕ}
 use mathlib.Core.List.{List}
 use mathlib.Core.Path.{_≡_, sym, subst}
 use Rattle.lists.specs.Lists.{countBy}
+use Rattle.lists.specs.Reflects.{Reflects}
 use Rattle.protocol.specs.Protocol.{Protocol, factArities}
 use Rattle.steps.specs.Nodes.{Node}
 use Rattle.steps.specs.Causes.Good.{RightNodes}
-use Rattle.property.specs.Reflects.{Reflects}
 use Rattle.property.specs.Formula.{Formula}
 use Rattle.property.specs.Layout.{property}
 use Rattle.property.specs.Causes.{propertyRuling}

@@ -4,11 +4,11 @@ use mathlib.Core.List.{List}
 use mathlib.Core.Bool.{true}
 use mathlib.Core.Logic.{_↔_}
 use mathlib.Core.Path.{_≡_, refl, sym, _∙_}
+use Rattle.lists.specs.Reflects.{reflects-exactly}
 use Rattle.term.specs.Term.{public, Term, leaf, encode}
 use Rattle.message.specs.Canon.{canon}
 use Rattle.steps.specs.Facts.{sameTerm}
 use Rattle.steps.specs.Facts.Laws.{equal-bytes}
-use Rattle.property.specs.Reflects.{reflects-exactly}
 use Rattle.property.specs.Meaning.{Messages}
 
 -- ── by the canonical forms ──

@@ -10,14 +10,13 @@ use lib.Dec.{ltb, eqb, leb}
 use borrow.Author.Tests.{leb-true, lt-ltb, le-ltb, ltb-true, eqb-true, eqb-false, ne-eqb}
 use Rattle.lists.specs.Choice.{pick}
 use Rattle.lists.specs.Tests.{and-split, and-both, le-leb, true-false}
-use Rattle.lists.specs.Lists.{anyBy}
+use Rattle.lists.specs.Lists.{anyBy, row}
 use Rattle.property.specs.Figures.{mostScope}
 use Rattle.property.specs.Formula.{Sort, msg, tmp, Term, var, public}
 use Rattle.property.specs.Fit.{isVar, inScope, termFits}
 use Rattle.property.specs.Meaning.{messageAt, timeAt, termUnder}
 use Rattle.property.specs.Judge.{first}
 use Rattle.property.specs.Judge.Numbers.{numbers}
-use Rattle.judge.specs.Tables.{row}
 use Rattle.judge.specs.Bindings.{ofSort, boundFrom, bound, code, value, isNew, put, finish}
 
 -- ── scopes ──
@@ -28,7 +27,9 @@ scope-short (x ∷ s) (suc y) t e = omega (arith, scope-short s y t e)
 
 pub scope-append : (s r : List Sort) (y : ℕ) (t : Sort) → inScope (s ++ r) (length s + y) t ≡ inScope r y t
 scope-append [] r y t = let z : 0 + y ≡ y = omega arith in ap (λ (m : ℕ). inScope r m t) z
-scope-append (x ∷ s) r y t = let z : suc (length s) + y ≡ suc (length s + y) = omega arith in ap (λ (m : ℕ). inScope (x ∷ (s ++ r)) m t) z ∙ scope-append s r y t
+scope-append (x ∷ s) r y t =
+    let z : suc (length s) + y ≡ suc (length s + y) = omega arith in
+    ap (λ (m : ℕ). inScope (x ∷ (s ++ r)) m t) z ∙ scope-append s r y t
 
 pub scope-one : (s : List Sort) (y : ℕ) → inScope s y msg ≡ true → inScope s y tmp ≡ true → ⊥
 scope-one [] y e d = false≢true e
@@ -52,31 +53,49 @@ pub bound-same :
 bound-same x [] b c h = refl
 bound-same x (t ∷ s) b c h = ap₂ (λ v l. ofSort t v ∷ l) (h x (omega arith)) (bound-same (suc x) s b c (λ y l. h y (omega arith)))
 
-pub message-bound : (d x : ℕ) (s : List Sort) (b : List ℕ) (y : ℕ) → inScope s y msg ≡ true → messageAt d (boundFrom x s b) y ≡ getD b (x + y) 0
+here : (b : List ℕ) (x : ℕ) → getD b x 0 ≡ getD b (x + 0) 0
+here b x = let z : x ≡ x + 0 = omega arith in ap (λ (m : ℕ). getD b m 0) z
+
+next : (b : List ℕ) (x y : ℕ) → getD b (suc x + y) 0 ≡ getD b (x + suc y) 0
+next b x y = let z : suc x + y ≡ x + suc y = omega arith in ap (λ (m : ℕ). getD b m 0) z
+
+message-bound :
+    (d x : ℕ) (s : List Sort) (b : List ℕ) (y : ℕ) → inScope s y msg ≡ true → messageAt d (boundFrom x s b) y ≡ getD b (x + y) 0
 message-bound d x [] b y e = absurd (false≢true e)
-message-bound d x (msg ∷ s) b zero e = let z : x ≡ x + 0 = omega arith in ap (λ (m : ℕ). getD b m 0) z
+message-bound d x (msg ∷ s) b zero e = here b x
 message-bound d x (tmp ∷ s) b zero e = absurd (false≢true e)
-message-bound d x (msg ∷ s) b (suc y) e = let z : suc x + y ≡ x + suc y = omega arith in message-bound d (suc x) s b y e ∙ ap (λ (m : ℕ). getD b m 0) z
-message-bound d x (tmp ∷ s) b (suc y) e = let z : suc x + y ≡ x + suc y = omega arith in message-bound d (suc x) s b y e ∙ ap (λ (m : ℕ). getD b m 0) z
+message-bound d x (msg ∷ s) b (suc y) e = message-bound d (suc x) s b y e ∙ next b x y
+message-bound d x (tmp ∷ s) b (suc y) e = message-bound d (suc x) s b y e ∙ next b x y
 
-pub time-bound : (d x : ℕ) (s : List Sort) (b : List ℕ) (y : ℕ) → inScope s y tmp ≡ true → timeAt d (boundFrom x s b) y ≡ getD b (x + y) 0
+time-bound : (d x : ℕ) (s : List Sort) (b : List ℕ) (y : ℕ) → inScope s y tmp ≡ true → timeAt d (boundFrom x s b) y ≡ getD b (x + y) 0
 time-bound d x [] b y e = absurd (false≢true e)
-time-bound d x (tmp ∷ s) b zero e = let z : x ≡ x + 0 = omega arith in ap (λ (m : ℕ). getD b m 0) z
+time-bound d x (tmp ∷ s) b zero e = here b x
 time-bound d x (msg ∷ s) b zero e = absurd (false≢true e)
-time-bound d x (msg ∷ s) b (suc y) e = let z : suc x + y ≡ x + suc y = omega arith in time-bound d (suc x) s b y e ∙ ap (λ (m : ℕ). getD b m 0) z
-time-bound d x (tmp ∷ s) b (suc y) e = let z : suc x + y ≡ x + suc y = omega arith in time-bound d (suc x) s b y e ∙ ap (λ (m : ℕ). getD b m 0) z
+time-bound d x (msg ∷ s) b (suc y) e = time-bound d (suc x) s b y e ∙ next b x y
+time-bound d x (tmp ∷ s) b (suc y) e = time-bound d (suc x) s b y e ∙ next b x y
 
--- a time variable's node and a term's class, as code finds them
+-- ── as code finds them ──
+pub value-slot : (base : ℕ) (b : List ℕ) (t : ℕ) → t < mostScope → getD b t 0 ≡ value base b t
+value-slot base b t l = ap (λ (z : Bool). pick z (getD b t 0) (base + (t - mostScope))) (sym (lt-ltb t mostScope l))
+
+pub value-name : (base : ℕ) (b : List ℕ) (t : ℕ) → mostScope ≤ t → base + (t - mostScope) ≡ value base b t
+value-name base b t l = ap (λ (z : Bool). pick z (getD b t 0) (base + (t - mostScope))) (sym (le-ltb t mostScope l))
+
+-- a time variable's node, and a term's class
 pub time-value : (s : List Sort) (b : List ℕ) (y : ℕ) → inScope s y tmp ≡ true → getD b y 0 ≡ timeAt 0 (bound s b) y
 time-value s b y e = let z : y ≡ 0 + y = omega arith in ap (λ (m : ℕ). getD b m 0) z ∙ sym (time-bound 0 0 s b y e)
 
-pub term-value : (base : ℕ) (s : List Sort) (b : List ℕ) (t : Term) → length s ≤ mostScope → termFits s t ≡ true → value base b (code t) ≡ termUnder (numbers base) (bound s b) t
+pub term-value :
+    (base : ℕ) (s : List Sort) (b : List ℕ) (t : Term) → length s ≤ mostScope → termFits s t ≡ true
+    → value base b (code t) ≡ termUnder (numbers base) (bound s b) t
 term-value base s b (var y) l e =
     let z : y ≡ 0 + y = omega arith in
-    ap (λ (c : Bool). pick c (getD b y 0) (base + (y - mostScope))) (lt-ltb y mostScope (omega (arith, scope-short s y msg e))) ∙ ap (λ (m : ℕ). getD b m 0) z ∙ sym (message-bound (base + 0) 0 s b y e)
+    sym (value-slot base b y (omega (arith, scope-short s y msg e)))
+    ∙ ap (λ (m : ℕ). getD b m 0) z
+    ∙ sym (message-bound (base + 0) 0 s b y e)
 term-value base s b (public n) l e =
     let z : mostScope + n - mostScope ≡ n = omega arith in
-    ap (λ (c : Bool). pick c (getD b (mostScope + n) 0) (base + (mostScope + n - mostScope))) (le-ltb (mostScope + n) mostScope (omega arith)) ∙ ap (λ (m : ℕ). base + m) z
+    sym (value-name base b (mostScope + n) (omega arith)) ∙ ap (λ (m : ℕ). base + m) z
 
 -- ── storing ──
 new-from : (n t : ℕ) → isNew n t ≡ true → n ≤ t
@@ -122,7 +141,9 @@ pub finish-low : (t m : ℕ → ℕ) (n k : ℕ) (c : List ℕ) (x : ℕ) → x 
 finish-low t m n zero c x l = refl
 finish-low t m n (suc k) c x l = finish-low t m n k (put n (t k) (m k) c) x l ∙ put-low n (t k) (m k) c x l
 
-finish-at : (t m : ℕ → ℕ) (n k : ℕ) (c : List ℕ) (x : ℕ) → n ≤ x → x < mostScope → x < length c → getD (finish t m n k c) x 0 ≡ firstUp t m x k (getD c x 0)
+finish-at :
+    (t m : ℕ → ℕ) (n k : ℕ) (c : List ℕ) (x : ℕ) → n ≤ x → x < mostScope → x < length c
+    → getD (finish t m n k c) x 0 ≡ firstUp t m x k (getD c x 0)
 unfolding firstUp
 finish-at t m n zero c x l s i = refl
 finish-at t m n (suc k) c x l s i =
@@ -136,29 +157,46 @@ up-shift t m x (suc k) d = up-shift t m x k (pick (eqb x (t (suc k))) (m (suc k)
 up-same : (t u m : ℕ → ℕ) (x k d : ℕ) → ((j : ℕ) → j < k → t j ≡ u j) → firstUp t m x k d ≡ firstUp u m x k d
 unfolding firstUp
 up-same t u m x zero d h = refl
-up-same t u m x (suc k) d h = up-same t u m x k (pick (eqb x (t k)) (m k) d) (λ j l. h j (omega arith)) ∙ ap (λ (z : ℕ). firstUp u m x k (pick (eqb x z) (m k) d)) (h k (omega arith))
+up-same t u m x (suc k) d h =
+    up-same t u m x k (pick (eqb x (t k)) (m k) d) (λ j l. h j (omega arith))
+    ∙ ap (λ (z : ℕ). firstUp u m x k (pick (eqb x z) (m k) d)) (h k (omega arith))
 
-up-first : (base : ℕ) (ts : List Term) (m : ℕ → ℕ) (x d : ℕ) → x < mostScope → anyBy (isVar x) ts ≡ true → firstUp (λ j. getD (map code ts) j 0) m x (length ts) d ≡ first (numbers base) x ts (row m (length ts))
+abbrev codesOf : List Term → ℕ → ℕ
+codesOf ts j = getD (map code ts) j 0
+
+abbrev after : (ℕ → ℕ) → ℕ → ℕ
+after m j = m (suc j)
+
+up-first :
+    (base : ℕ) (ts : List Term) (m : ℕ → ℕ) (x d : ℕ) → x < mostScope → anyBy (isVar x) ts ≡ true
+    → firstUp (codesOf ts) m x (length ts) d ≡ first (numbers base) x ts (row m (length ts))
 unfolding firstUp
 up-first base [] m x d l e = absurd (false≢true e)
 up-first base (var y ∷ ts) m x d l e =
-    up-shift (λ j. getD (map code (var y ∷ ts)) j 0) m x (length ts) d ∙ go (eqb x y) (λ r. up-first base ts (λ j. m (suc j)) x d l r) e
+    up-shift (codesOf (var y ∷ ts)) m x (length ts) d ∙ go (eqb x y) (λ r. up-first base ts (after m) x d l r) e
   where
-    go : (z : Bool) → (anyBy (isVar x) ts ≡ true → firstUp (λ j. getD (map code ts) j 0) (λ j. m (suc j)) x (length ts) d ≡ first (numbers base) x ts (row (λ j. m (suc j)) (length ts))) → (z || anyBy (isVar x) ts) ≡ true →
-        pick z (m 0) (firstUp (λ j. getD (map code ts) j 0) (λ j. m (suc j)) x (length ts) d) ≡ elim z [ true ↦ m 0 | false ↦ first (numbers base) x ts (row (λ j. m (suc j)) (length ts)) ]
+    go :
+        (z : Bool)
+        → (anyBy (isVar x) ts ≡ true → firstUp (codesOf ts) (after m) x (length ts) d ≡ first (numbers base) x ts (row (after m) (length ts)))
+        → (z || anyBy (isVar x) ts) ≡ true
+        → pick z (m 0) (firstUp (codesOf ts) (after m) x (length ts) d)
+        ≡ elim z [ true ↦ m 0 | false ↦ first (numbers base) x ts (row (after m) (length ts)) ]
     go true r e = refl
     go false r e = r e
 up-first base (public n ∷ ts) m x d l e =
-    up-shift (λ j. getD (map code (public n ∷ ts)) j 0) m x (length ts) d
-    ∙ ap (λ (z : Bool). pick z (m 0) (firstUp (λ j. getD (map code ts) j 0) (λ j. m (suc j)) x (length ts) d)) (ne-eqb x (mostScope + n) (λ q. omega (arith, q)))
-    ∙ up-first base ts (λ j. m (suc j)) x d l e
+    up-shift (codesOf (public n ∷ ts)) m x (length ts) d
+    ∙ ap (λ (z : Bool). pick z (m 0) (firstUp (codesOf ts) (after m) x (length ts) d)) (ne-eqb x (mostScope + n) (λ q. omega (arith, q)))
+    ∙ up-first base ts (after m) x d l e
 
 -- a new variable's slot, once the entry is bound
 pub finish-first :
-    (base : ℕ) (ts : List Term) (t m : ℕ → ℕ) (n : ℕ) (c : List ℕ) (x : ℕ) → ((j : ℕ) → j < length ts → t j ≡ getD (map code ts) j 0) → n ≤ x → x < length c → x < mostScope → anyBy (isVar x) ts ≡ true →
-    getD (finish t m n (length ts) c) x 0 ≡ first (numbers base) x ts (row m (length ts))
+    (base : ℕ) (ts : List Term) (t m : ℕ → ℕ) (n : ℕ) (c : List ℕ) (x : ℕ) → ((j : ℕ) → j < length ts → t j ≡ getD (map code ts) j 0)
+    → n ≤ x → x < length c → x < mostScope → anyBy (isVar x) ts ≡ true
+    → getD (finish t m n (length ts) c) x 0 ≡ first (numbers base) x ts (row m (length ts))
 finish-first base ts t m n c x h l i short e =
-    finish-at t m n (length ts) c x l short i ∙ up-same t (λ j. getD (map code ts) j 0) m x (length ts) (getD c x 0) h ∙ up-first base ts m x (getD c x 0) short e
+    finish-at t m n (length ts) c x l short i
+    ∙ up-same t (codesOf ts) m x (length ts) (getD c x 0) h
+    ∙ up-first base ts m x (getD c x 0) short e
 
 -- ── as the code has it ──
 pub put-new : (n t v : ℕ) (c : List ℕ) → isNew n t ≡ true → set c t v ≡ put n t v c
@@ -169,12 +207,6 @@ put-old n t v c z = ap (λ (y : Bool). pick y (set c t v) c) (sym z)
 
 pub new-inside : (n t : ℕ) → isNew n t ≡ true → t < mostScope
 new-inside n t z = ltb-true t mostScope (and-split (leb n t) (ltb t mostScope) z .1)
-
-pub value-slot : (base : ℕ) (b : List ℕ) (t : ℕ) → t < mostScope → getD b t 0 ≡ value base b t
-value-slot base b t l = ap (λ (z : Bool). pick z (getD b t 0) (base + (t - mostScope))) (sym (lt-ltb t mostScope l))
-
-pub value-name : (base : ℕ) (b : List ℕ) (t : ℕ) → mostScope ≤ t → base + (t - mostScope) ≡ value base b t
-value-name base b t l = ap (λ (z : Bool). pick z (getD b t 0) (base + (t - mostScope))) (sym (le-ltb t mostScope l))
 
 pub finish-step : (t m : ℕ → ℕ) (n j : ℕ) (c : List ℕ) → 0 < j → finish t m n (j - 1) (put n (t (j - 1)) (m (j - 1)) c) ≡ finish t m n j c
 finish-step t m n zero c l = absurd (omega arith)

@@ -7,15 +7,14 @@ use native.Mathlib.Omega.{arith}
 use native.Mathlib.Numerals.{add-one}
 use lib.ListN.{length, getD}
 use lib.Dec.{eqb}
-use Rattle.lists.specs.Lists.{allBy}
-use Rattle.lists.specs.Tests.{by-bool, and-false}
+use Rattle.lists.specs.Lists.{allBy, row}
+use Rattle.lists.specs.Tests.{by-bool, and-false, and-split}
 use Rattle.property.specs.Figures.{mostScope}
 use Rattle.property.specs.Formula.{Sort, Term}
 use Rattle.property.specs.Fit.{termFits}
 use Rattle.property.specs.Meaning.{termUnder}
 use Rattle.property.specs.Judge.{sameAll}
 use Rattle.property.specs.Judge.Numbers.{numbers}
-use Rattle.judge.specs.Tables.{row}
 use Rattle.judge.specs.Bindings.{bound, code, value, allUp}
 use Rattle.judge.specs.Bindings.Slots.{term-value}
 
@@ -31,19 +30,16 @@ pub all-same : (t u : ℕ → Bool) (k : ℕ) → ((j : ℕ) → j < k → t j �
 all-same t u zero h = refl
 all-same t u (suc k) h = ap₂ _&&_ (all-same t u k (λ j l. h j (omega arith))) (h k (omega arith))
 
+-- the classes of terms, one by one, are the entry's
 pub all-terms :
-    (base : ℕ) (s : List Sort) (c : List ℕ) (ts : List Term) (m : ℕ → ℕ) → length s ≤ mostScope → allBy (termFits s) ts ≡ true →
-    allUp (λ j. eqb (value base c (getD (map code ts) j 0)) (m j)) (length ts) ≡ sameAll (numbers base) (map (termUnder (numbers base) (bound s c)) ts) (row m (length ts))
+    (base : ℕ) (s : List Sort) (c : List ℕ) (ts : List Term) (m : ℕ → ℕ) → length s ≤ mostScope → allBy (termFits s) ts ≡ true
+    → allUp (λ j. eqb (value base c (getD (map code ts) j 0)) (m j)) (length ts)
+    ≡ sameAll (numbers base) (map (termUnder (numbers base) (bound s c)) ts) (row m (length ts))
 all-terms base s c [] m l e = refl
 all-terms base s c (t ∷ ts) m l e =
+    let p = and-split (termFits s t) (allBy (termFits s) ts) e in
     all-shift (λ j. eqb (value base c (getD (map code (t ∷ ts)) j 0)) (m j)) (length ts)
-    ∙ go (termFits s t) refl e (λ r. all-terms base s c ts (λ j. m (suc j)) l r)
-  where
-    go : (z : Bool) → termFits s t ≡ z → (z && allBy (termFits s) ts) ≡ true →
-        (allBy (termFits s) ts ≡ true → allUp (λ j. eqb (value base c (getD (map code ts) j 0)) (m (suc j))) (length ts) ≡ sameAll (numbers base) (map (termUnder (numbers base) (bound s c)) ts) (row (λ j. m (suc j)) (length ts))) →
-        (eqb (value base c (code t)) (m 0) && allUp (λ j. eqb (value base c (getD (map code ts) j 0)) (m (suc j))) (length ts)) ≡ (eqb (termUnder (numbers base) (bound s c) t) (m 0) && sameAll (numbers base) (map (termUnder (numbers base) (bound s c)) ts) (row (λ j. m (suc j)) (length ts)))
-    go true h e r = ap₂ _&&_ (ap (λ (v : ℕ). eqb v (m 0)) (term-value base s c t l h)) (r e)
-    go false h e r = absurd (false≢true e)
+    ∙ ap₂ _&&_ (ap (λ (v : ℕ). eqb v (m 0)) (term-value base s c t l (p .0))) (all-terms base s c ts (λ j. m (suc j)) l (p .1))
 
 pub all-step : (t : ℕ → Bool) (j : ℕ) → (allUp t j && t j) ≡ allUp t (j + 1)
 all-step t j = rw add-one

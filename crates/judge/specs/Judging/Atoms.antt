@@ -1,7 +1,7 @@
 -- An atom by its tag: the place behind it, and its truth.
 use Prim.Native.Nat.{ℕ, _+_, _≤_, _<_}
 use mathlib.Core.List.{List, [], _++_, append-nil}
-use mathlib.Core.Bool.{Bool, true, false, not, _&&_, _||_}
+use mathlib.Core.Bool.{Bool, true, false, not, _&&_, _||_, or-false}
 use mathlib.Core.Path.{_≡_, refl, sym, ap, ap₂, _∙_}
 use native.Mathlib.Omega.{arith}
 use lib.ListN.{length, getD}
@@ -29,7 +29,8 @@ use Rattle.judge.specs.Judging.{Stated, AtomIs, Guarded, Fitting, AtomSa
 module _ (file ars : List ℕ) where
   atom-equal : (tag at : ℕ) → tag < beforeTag → atomAt file ars tag at ≡ equalAt file at
   atom-equal tag at l =
-      ap (λ (z : Bool). pick z (equalAt file at) (pick (ltb tag actionTag) (timesAt file (ltb tag sameTimeTag) at) (actionAt file ars at))) (lt-ltb tag beforeTag l)
+      ap (λ (z : Bool). pick z (equalAt file at) (pick (ltb tag actionTag) (timesAt file (ltb tag sameTimeTag) at) (actionAt file ars at)))
+      (lt-ltb tag beforeTag l)
 
   atom-times : (tag at : ℕ) → beforeTag ≤ tag → tag < actionTag → atomAt file ars tag at ≡ timesAt file (ltb tag sameTimeTag) at
   atom-times tag at l m =
@@ -51,7 +52,9 @@ module _ (file table : List ℕ) {tag at : ℕ} where
         b .says q c (ap (termAt file) (a .says p d hp .1) ∙ hq) .1 ∙ z));
   }
 
-  pub ends-times : {i j : Num} → beforeTag ≤ tag → tag < actionTag → NumberIs file at i → NumberIs file (i .next) j → AtomEnds file table tag at (j .next)
+  pub ends-times :
+      {i j : Num} → beforeTag ≤ tag → tag < actionTag → NumberIs file at i → NumberIs file (i .next) j
+      → AtomEnds file table tag at (j .next)
   unfolding timesAt
   ends-times l m a b = record {
     ends = λ ars _ x e h. cut-got (readNumber file at) _ (sym (atom-times file ars tag at l m) ∙ h) (λ p d hp h. cut-got (readNumber file d) _ h (λ q c hq h.
@@ -97,11 +100,7 @@ module _ (file table : List ℕ) (tr : List ℕ → Trace ℕ) (base n : ℕ) (b
       → timesTest order (getD b i 0) (getD b j 0) ≡ test (numbers base) (tr (s .ars)) (bound (s .scope) b) (timesOf order i j)
   times-test true s i j e =
       let ok = and-split (inScope (s .scope) i tmp) (inScope (s .scope) j tmp) e in
-      or-last (ltb (getD b i 0) (getD b j 0)) ∙ ap₂ ltb (time-value (s .scope) b i (ok .0)) (time-value (s .scope) b j (ok .1))
-    where
-      or-last : (z : Bool) → (z || false) ≡ z
-      or-last true = refl
-      or-last false = refl
+      or-false (ltb (getD b i 0) (getD b j 0)) ∙ ap₂ ltb (time-value (s .scope) b i (ok .0)) (time-value (s .scope) b j (ok .1))
   times-test false s i j e =
       let ok = and-split (inScope (s .scope) i tmp) (inScope (s .scope) j tmp) e in
       ap₂ eqb (time-value (s .scope) b i (ok .0)) (time-value (s .scope) b j (ok .1))
@@ -146,7 +145,7 @@ module _ (file table starts symbols classes : List ℕ) (base n : ℕ) (b : List
   pub said-action :
       {c : Coded} {found : Bool} → FactIs file table at c → ((x : Guarded) → Fitting n c x → Occurs starts symbols classes base b found x)
       → (s : Stated) → AtomIs table (λ ars. actionAt file ars at) n s
-      → AtomSaid (traced starts symbols classes base) base b (record { truth = found; next = c .next }) s
+      → AtomSaid (traced starts symbols classes) base b (record { truth = found; next = c .next }) s
   unfolding actionAt
   said-action {c} l o s a =
       cut-got (timedAt file (s .ars) at) _ (a .reads) (λ g d hg h.
@@ -163,8 +162,8 @@ module _ (file table starts symbols classes : List ℕ) (base n : ℕ) (b : List
       } in
       record {
         truth = o (plain (s .ars) (s .scope) g) f .found
-            ∙ ap (λ (y : List Sort). test (numbers base) (traced starts symbols classes base (s .ars)) (bound y b) (action (g .pattern) (g .time))) nil
-            ∙ ap (test (numbers base) (traced starts symbols classes base (s .ars)) (bound (s .scope) b)) w;
+            ∙ ap (λ (y : List Sort). test (numbers base) (traced starts symbols classes (s .ars)) (bound y b) (action (g .pattern) (g .time))) nil
+            ∙ ap (test (numbers base) (traced starts symbols classes (s .ars)) (bound (s .scope) b)) w;
         next = v .1 ∙ z;
       })
 

@@ -47,7 +47,9 @@ module _ (file ars : List ℕ) where
   false-there {t = t} (r-pair {tag = u} h l x y e) n z = let q : u ≡ t = cc in absurd (omega (arith, l))
   false-there {t = t} (r-quant {tag = u} h l g x e) n z = let q : u ≡ t = cc in absurd (omega (arith, l))
 
-  pub atom-there : {at k t i : ℕ} {φ : Formula} → Reads file ars at φ k → readNumber file at ≡ got t i → ¬ (t ≡ falseTag) → t < andTag → AtomThere file ars t i φ k
+  pub atom-there :
+      {at k t i : ℕ} {φ : Formula} → Reads file ars at φ k → readNumber file at ≡ got t i → ¬ (t ≡ falseTag) → t < andTag
+      → AtomThere file ars t i φ k
   atom-there {t = t} (r-false h) n z s = let q : falseTag ≡ t = cc in absurd (z (sym q))
   atom-there {k = k} {t = t} {i = i} (r-atom {i = i′} {tag = u} {a = a} h l g e) n z s =
       let q : u ≡ t = cc in
@@ -56,7 +58,9 @@ module _ (file ars : List ℕ) where
   atom-there {t = t} (r-pair {tag = u} h l x y e) n z s = let q : u ≡ t = cc in absurd (omega (arith, l))
   atom-there {t = t} (r-quant {tag = u} h l g x e) n z s = let q : u ≡ t = cc in absurd (omega (arith, l))
 
-  pub pair-there : {at k t i : ℕ} {φ : Formula} → Reads file ars at φ k → readNumber file at ≡ got t i → andTag ≤ t → t < existsTag → PairThere file ars t i φ k
+  pub pair-there :
+      {at k t i : ℕ} {φ : Formula} → Reads file ars at φ k → readNumber file at ≡ got t i → andTag ≤ t → t < existsTag
+      → PairThere file ars t i φ k
   pair-there {t = t} (r-false h) n z s = let q : falseTag ≡ t = cc in absurd (omega arith)
   pair-there {t = t} (r-atom {tag = u} h l g e) n z s = let q : u ≡ t = cc in absurd (omega (arith, l))
   pair-there {t = t} {i = i} (r-pair {i = i′} {m = m} {tag = u} {x = x} {y = y} h l a b e) n z s =
@@ -162,8 +166,10 @@ module _ {file table : List ℕ} {at n t i : ℕ} (w : Written) (f : Fits file t
   pub fit-pair : andTag ≤ t → t < existsTag → FitPair file table t i n w
   fit-pair z s =
       let a = pair-there file (w .ars) (f .formed .reads) tag z s in
-      let p = and-split (fit (w .scope) (a .x)) (fit (w .scope) (a .y)) (sym (paired-fits (eqb t andTag) (a .x) (a .y) (w .scope)) ∙ ap (fit (w .scope)) (a .whole) ∙ f .fits) in
-      let q = paired-within (eqb t andTag) (a .x) (a .y) (w .ars) (length (w .scope)) (subst (ScopesWithin (w .ars) (length (w .scope))) (sym (a .whole)) (f .within)) in
+      let p = and-split (fit (w .scope) (a .x)) (fit (w .scope) (a .y))
+      (sym (paired-fits (eqb t andTag) (a .x) (a .y) (w .scope)) ∙ ap (fit (w .scope)) (a .whole) ∙ f .fits) in
+      let q = paired-within (eqb t andTag) (a .x) (a .y) (w .ars) (length (w .scope))
+      (subst (ScopesWithin (w .ars) (length (w .scope))) (sym (a .whole)) (f .within)) in
       record {
         x = a .x;
         y = a .y;
@@ -181,7 +187,8 @@ module _ {file table : List ℕ} {at n t i : ℕ} (w : Written) (f : Fits file t
       let p = and-split (guardFits (w .scope) h) (newGuarded (w .scope) h && fit (w .scope ++ h .sorts) (a .x))
       (sym (quantified-fits (eqb t everyTag) h (a .x) (w .scope)) ∙ ap (fit (w .scope)) (a .whole) ∙ f .fits) in
       let g = and-split (newGuarded (w .scope) h) (fit (w .scope ++ h .sorts) (a .x)) (p .1) in
-      let q = quantified-within (eqb t everyTag) h (a .x) (w .ars) (length (w .scope)) (subst (ScopesWithin (w .ars) (length (w .scope))) (sym (a .whole)) (f .within)) in
+      let q = quantified-within (eqb t everyTag) h (a .x) (w .ars) (length (w .scope))
+      (subst (ScopesWithin (w .ars) (length (w .scope))) (sym (a .whole)) (f .within)) in
       let l : length (w .scope ++ h .sorts) ≡ length (w .scope) + length (h .sorts) = length-append (w .scope) (h .sorts) in
       record {
         head = h;

@@ -10,8 +10,8 @@ use lib.Seq.{getD-take}
 use lib.Dec.{ltb, leb, eqb}
 use borrow.Author.Tests.{leb-false, eq-eqb, ne-eqb, eqb-true}
 use Rattle.lists.specs.Choice.{pick}
-use Rattle.lists.specs.Tests.{and-split, and-false}
-use Rattle.lists.specs.Lists.{anyBy, allBy}
+use Rattle.lists.specs.Tests.{by-bool, and-split, and-false, or-split}
+use Rattle.lists.specs.Lists.{anyBy, allBy, row}
 use Rattle.property.specs.Figures.{mostScope}
 use Rattle.property.specs.Formula.{Sort, msg, tmp}
 use Rattle.property.specs.Fit.{isVar, inScope, termFits, guarded}
@@ -20,7 +20,7 @@ use Rattle.property.specs.Layout.{Timed}
 use Rattle.property.specs.Judge.{first, found, matches, sameAll}
 use Rattle.judge.specs.declared.reading.Coded.{Coded}
 use Rattle.property.specs.Judge.Numbers.{numbers}
-use Rattle.judge.specs.Tables.{row, classAt, entryOf}
+use Rattle.judge.specs.Tables.{classAt, entryOf}
 use Rattle.judge.specs.Bindings.{boundFrom, bound, code, value, isNew, put, finish, allUp}
 use Rattle.judge.specs.Bindings.Slots.{scope-short, scope-append, scope-one, bound-append, bound-length, bound-same, time-value}
 use Rattle.judge.specs.Bindings.Slots.{put-low, put-at, finish-length, finish-low, finish-first}
@@ -91,7 +91,9 @@ module _ (symbols classes : List ℕ) (base : ℕ) (c : Coded) (node e : ℕ) wh
     off : (p q r : Bool) → q ≡ false → (p && (q && r)) ≡ false
     off p q r z = ap (λ (y : Bool). p && (y && r)) z ∙ and-false p
 
-    pub other-misses : (v : List (Value ℕ ℕ)) → ¬ (getD symbols e 0 ≡ c .symbol) → matches (numbers base) v (x .guard .pattern) (x .guard .time) here ≡ false
+    pub other-misses :
+        (v : List (Value ℕ ℕ)) → ¬ (getD symbols e 0 ≡ c .symbol)
+        → matches (numbers base) v (x .guard .pattern) (x .guard .time) here ≡ false
     other-misses v d =
         off (eqb (timeAt 0 v (x .guard .time)) (suc node)) (eqb (x .guard .pattern .symbol) (getD symbols e 0))
         (sameAll (numbers base) (map (termUnder (numbers base) v) (x .guard .pattern .terms)) (here .fact .messages))
@@ -105,7 +107,8 @@ module _ (symbols classes : List ℕ) (base : ℕ) (c : Coded) (node e : ℕ) wh
 
       -- under any values, the test is the definition's
       pub match-under :
-          (v : List ℕ) → (eqb (getD v (c .time) 0) (suc node) && agrees classes c e base v) ≡ matches (numbers base) (bound all v) (x .guard .pattern) (x .guard .time) here
+          (v : List ℕ) → (eqb (getD v (c .time) 0) (suc node) && agrees classes c e base v)
+          ≡ matches (numbers base) (bound all v) (x .guard .pattern) (x .guard .time) here
       match-under v =
           ap₂ _&&_
           (ap (λ (m : ℕ). eqb m (suc node)) (ap (λ (m : ℕ). getD v m 0) (ok .carries .times) ∙ time-value all v (x .guard .time) time-fits))
@@ -128,7 +131,8 @@ module _ (symbols classes : List ℕ) (base : ℕ) (c : Coded) (node e : ℕ) wh
 
         fresh :
             (y : ℕ) → n ≤ y → y < mostScope → ¬ (y ≡ x .guard .time) → anyBy (isVar y) (x .guard .pattern .terms) ≡ true
-            → getD (made classes c e node n b) y 0 ≡ first (numbers base) y (x .guard .pattern .terms) (row (classAt classes e) (length (x .guard .pattern .terms)))
+            → getD (made classes c e node n b) y 0 ≡ first (numbers base) y (x .guard .pattern .terms)
+            (row (classAt classes e) (length (x .guard .pattern .terms)))
         fresh y l i d a =
             put-at n (c .time) (suc node) (taken classes c e n b) y l i (omega (arith, filled))
             ∙ ap (λ (z : Bool). pick z (suc node) (getD (taken classes c e n b) y 0)) (ne-eqb y (c .time) (λ q. d (q ∙ ok .carries .times)))
@@ -143,7 +147,7 @@ module _ (symbols classes : List ℕ) (base : ℕ) (c : Coded) (node e : ℕ) wh
             ∙ ap (λ (z : Bool). pick z (suc node) (getD (taken classes c e n b) (c .time) 0)) (eq-eqb (c .time) (c .time) refl)
 
         -- what is bound is the definition's
-        pub bound-made : bound all (made classes c e node n b) ≡ bindsTo symbols classes base b x here
+        pub bound-made : bound all (made classes c e node n b) ≡ bindsTo base b x here
         bound-made =
             let z : 0 + length (x .scope) ≡ length (x .scope) = omega arith in
             bound-append 0 (x .scope) (x .sorts) (made classes c e node n b)
@@ -156,7 +160,8 @@ module _ (symbols classes : List ℕ) (base : ℕ) (c : Coded) (node e : ℕ) wh
             (λ l. stamped (omega (arith, ok .size)))
             ∙ ap (λ (m : ℕ). found (numbers base) m (x .sorts) (x .guard .pattern) here) (sym (bound-length 0 (x .scope) b)))
 
-        pub match-made : (eqb (getD (made classes c e node n b) (c .time) 0) (suc node) && agrees classes c e base (made classes c e node n b)) ≡ meets symbols classes base b x here
+        pub match-made :
+            (eqb (getD (made classes c e node n b) (c .time) 0) (suc node) && agrees classes c e base (made classes c e node n b)) ≡ meets base b x here
         match-made = match-under (made classes c e node n b) ∙ ap (λ v. matches (numbers base) v (x .guard .pattern) (x .guard .time) here) bound-made
 
         -- what is known does not change where the new variables are bound
@@ -169,25 +174,45 @@ module _ (symbols classes : List ℕ) (base : ℕ) (c : Coded) (node e : ℕ) wh
                 ∙ sym (ap (λ (q : Bool). pick q (getD b t 0) (base + (t - mostScope))) z)
             go false h z = ap (λ (v : ℕ). pick (ltb t mostScope) v (base + (t - mostScope))) (low t (leb-false n t h))
 
-        pub known-fails : knownAgree classes c e base n b ≡ false → meets symbols classes base b x here ≡ false
+        pub known-fails : knownAgree classes c e base n b ≡ false → meets base b x here ≡ false
         known-fails h =
             sym match-made
             ∙ ap (λ (z : Bool). eqb (getD (made classes c e node n b) (c .time) 0) (suc node) && z)
             (all-fails _ _ (c .count) (λ j l q. known (codeAt c j) (classAt classes e j) (isNew n (codeAt c j)) refl q) h)
             ∙ and-false (eqb (getD (made classes c e node n b) (c .time) 0) (suc node))
           where
-            known : (t m : ℕ) (z : Bool) → isNew n t ≡ z → (z || eqb (value base b t) m) ≡ false → eqb (value base (made classes c e node n b) t) m ≡ false
+            known :
+                (t m : ℕ) (z : Bool) → isNew n t ≡ z → (z || eqb (value base b t) m) ≡ false
+                → eqb (value base (made classes c e node n b) t) m ≡ false
             known t m true k q = absurd (false≢true (sym q))
             known t m false k q = ap (λ (v : ℕ). eqb v m) (known-stays t k) ∙ q
+
+        -- a time that is known, and another
+        pub time-fails : (t : ℕ) → t ≡ getD b (c .time) 0 → (leb n (c .time) || eqb t (suc node)) ≡ false → meets base b x here ≡ false
+        time-fails t q h =
+            let p = or-split (leb n (c .time)) (eqb t (suc node)) h in
+            sym match-made
+            ∙ ap (λ (z : Bool). z && agrees classes c e base (made classes c e node n b))
+            (ap (λ (m : ℕ). eqb m (suc node)) (low (c .time) (leb-false n (c .time) (p .0)) ∙ sym q) ∙ p .1)
 
 -- ── what the returns of the code say ──
 module _ (classes : List ℕ) (base : ℕ) (c : Coded) (node e : ℕ) (n : ℕ) (b : List ℕ) (long : length b ≡ mostScope) where
   pub matching-known :
-      {known : Bool} (v : List ℕ) → known ≡ knownAgree classes c e base n b → known ≡ false
-      → (symbols : List ℕ) → getD symbols e 0 ≡ c .symbol → (x : Guarded) → Fitting n c x
-      → Matching symbols classes base b node e (record { yes = false; values = v }) x
-  matching-known v k z symbols same x ok =
-      record { matched = sym (known-fails symbols classes base c node e x ok same b long (sym k ∙ z)); binds = λ q. absurd (false≢true q) }
+      {t : ℕ} {known : Bool} (v : List ℕ) → (c .time < mostScope → t ≡ getD b (c .time) 0) → known ≡ knownAgree classes c e base n b
+      → ((leb n (c .time) || eqb t (node + 1)) && known) ≡ false → (symbols : List ℕ) → getD symbols e 0 ≡ c .symbol → (x : Guarded) → Fitting n c x
+      → Matching symbols classes base b node e (record { values = v; yes = false }) x
+  matching-known {t} {known} v tq k z symbols same x ok =
+      record {
+        matched = sym (by-bool known
+            (λ y. time-fails symbols classes base c node e x ok same b long t (tq (time-short symbols classes base c node e x ok))
+            (ap (λ (m : ℕ). leb n (c .time) || eqb t m) (sym (add-one node)) ∙ last (leb n (c .time) || eqb t (node + 1)) y z))
+            (λ y. known-fails symbols classes base c node e x ok same b long (sym k ∙ y)));
+        binds = λ q. absurd (false≢true q);
+      }
+    where
+      last : (a : Bool) {d : Bool} → d ≡ true → (a && d) ≡ false → a ≡ false
+      last true y z = absurd (false≢true (sym z ∙ y))
+      last false y z = refl
 
   pub matching-made :
       {t : ℕ} {same : Bool} (d v : List ℕ) → d ≡ taken classes c e n b
@@ -197,7 +222,9 @@ module _ (classes : List ℕ) (base : ℕ) (c : Coded) (node e : ℕ) (n : ℕ) 
   matching-made {t} {same} d v dq vq tq sq symbols sym-is x ok =
       let m : v ≡ made classes c e node n b = vq ∙ ap₂ (λ (i : ℕ) (l : List ℕ). put n (c .time) i l) (add-one node) dq in
       record {
-        matched = ap₂ _&&_ (ap₂ eqb (tq (time-short symbols classes base c node e x ok) ∙ ap (λ (l : List ℕ). getD l (c .time) 0) m) (add-one node)) (sq ∙ ap (agrees classes c e base) m)
+        matched = ap₂ _&&_
+            (ap₂ eqb (tq (time-short symbols classes base c node e x ok) ∙ ap (λ (l : List ℕ). getD l (c .time) 0) m) (add-one node))
+            (sq ∙ ap (agrees classes c e base) m)
             ∙ match-made symbols classes base c node e x ok sym-is b long;
         binds = λ q. ap (bound (x .scope ++ x .sorts)) m ∙ bound-made symbols classes base c node e x ok sym-is b long;
       }

@@ -72,7 +72,9 @@ module _ (file table : List ℕ) {at : ℕ} {r : Num} (num : NumberIs file at r)
         (record { arities = f .arities; reads = subst (λ (i : ℕ). Reads file (w .ars) i (p .y) (w .end)) (sym e) (p .right) })
 
   module _ {g : Guard} (z : existsTag ≤ r .value) (head : HeadIs file table (r .next) g) where
-    formed-behind : (w : Written) → Formed file table at w → (x : Formula) × Formed file table (g .fact .next) (written-of (w .ars) (w .scope) x (w .end)) × (r .next ≤ g .fact .next)
+    formed-behind :
+        (w : Written) → Formed file table at w
+        → (x : Formula) × Formed file table (g .fact .next) (written-of (w .ars) (w .scope) x (w .end)) × (r .next ≤ g .fact .next)
     formed-behind w f =
         let p = quant-there file (w .ars) (f .reads) (tag w f) z in
         let e : g .fact .next ≡ p .behind = head .says (w .ars) (f .arities) (p .head) (p .behind) (p .here) .1 .1 in (
@@ -94,10 +96,12 @@ module _ (starts symbols classes : List ℕ) (base : ℕ) (file table : List ℕ
   abbrev Told : ℕ → Judged → Type 0
   Told i r = (w : Written) → Fits file table i n w → Says starts symbols classes base b r w
 
+  abbrev tested : List ℕ → List Sort → Atom → Bool
+  tested ars scope a = test (numbers base) (traced starts symbols classes ars) (bound scope b) a
+
   signed-says :
       (q : Bool) (a : Atom) (ars : List ℕ) (scope : List Sort)
-      → truthOf starts symbols classes base ars scope b (signed q a)
-      ≡ pick q (test (numbers base) (traced starts symbols classes base ars) (bound scope b) a) (not (test (numbers base) (traced starts symbols classes base ars) (bound scope b) a))
+      → truthOf starts symbols classes base ars scope b (signed q a) ≡ pick q (tested ars scope a) (not (tested ars scope a))
   signed-says true a ars scope = refl
   signed-says false a ars scope = refl
 
@@ -122,7 +126,7 @@ module _ (starts symbols classes : List ℕ) (base : ℕ) (file table : List ℕ
 
     pub says-atom :
         {a : Judged} {truth : Bool} → ¬ (r .value ≡ falseTag) → r .value < andTag
-        → ((s : Stated) → AtomIs table (λ ars. atomAt file ars (r .value) (r .next)) n s → AtomSaid (traced starts symbols classes base) base b a s)
+        → ((s : Stated) → AtomIs table (λ ars. atomAt file ars (r .value) (r .next)) n s → AtomSaid (traced starts symbols classes) base b a s)
         → truth ≡ pick (asserts (r .value)) (a .truth) (not (a .truth)) → Told at (record { truth = truth; next = a .next })
     says-atom z s a q w f =
         let p = fit-atom w f (told w f) z s in
@@ -184,7 +188,8 @@ module _ (starts symbols classes : List ℕ) (base : ℕ) (file table : List ℕ
             record {
               fitting = record { size = f .size; few = p .few; carries = c .1 .0; fits = p .fits; guards = p .guards };
               fresh = c .0;
-              body = subst₂ (λ (i m : ℕ). Fits file table i (n + m) (written-of (w .ars) (w .scope ++ p .head .sorts) (p .x) (w .end))) (sym (c .1 .1)) (sym (c .0)) (p .body);
+              body = subst₂ (λ (i m : ℕ). Fits file table i (n + m) (written-of (w .ars) (w .scope ++ p .head .sorts) (p .x) (w .end)))
+                  (sym (c .1 .1)) (sym (c .0)) (p .body);
             },
             ap (truthOf starts symbols classes base (w .ars) (w .scope) b) (p .whole),
             omega (arith, c .1 .1, p .later),
@@ -202,7 +207,8 @@ module _ (starts symbols classes : List ℕ) (base : ℕ) (file table : List ℕ
           let v = l (p .0) (p .1) (w .end) (p .2) in
           record {
             truth = v .truth
-                ∙ ap (λ (e : Bool). truthOf starts symbols classes base (p .0 .ars) (p .0 .scope) b (quantified e (head-of (p .0 .sorts) (p .0 .guard)) (p .1))) q
+                ∙ ap (λ (e : Bool). truthOf starts symbols classes base (p .0 .ars) (p .0 .scope) b
+                (quantified e (head-of (p .0 .sorts) (p .0 .guard)) (p .1))) q
                 ∙ p .3;
             next = v .next;
           }
@@ -212,14 +218,17 @@ module _ {file table : List ℕ} {h : Guard} {n : ℕ} where
   pub body-formed : Asks₃ (Bodied file table h n) → Asks (Formed file table (h .fact .next))
   body-formed (x, φ, k, w) = (written-of (x .ars) (x .scope ++ x .sorts) φ k, w .body .formed)
 
-  pub body-fits : Asks₃ (Bodied file table h n) → {inner : ℕ} → inner ≡ n + h .fresh → Asks (Fits file table (h .fact .next) inner) × (n + h .fresh ≤ mostScope)
-  body-fits (x, φ, k, w) {inner} q = (
-    (written-of (x .ars) (x .scope ++ x .sorts) φ k, subst (λ (i : ℕ). Fits file table (h .fact .next) i (written-of (x .ars) (x .scope ++ x .sorts) φ k)) (sym q) (w .body)),
-    w .body .few,
-  )
+  pub body-fits :
+      Asks₃ (Bodied file table h n) → {inner : ℕ} → inner ≡ n + h .fresh
+      → Asks (Fits file table (h .fact .next) inner) × (n + h .fresh ≤ mostScope)
+  body-fits (x, φ, k, w) {inner} q =
+      let v : Written = written-of (x .ars) (x .scope ++ x .sorts) φ k in
+      ((v, subst (λ (i : ℕ). Fits file table (h .fact .next) i v) (sym q) (w .body)), w .body .few)
 
   pub body-ends :
-      {next : ℕ} → ((w : Written) → Formed file table (h .fact .next) w → next ≡ w .end) → (x : Guarded) (φ : Formula) (k : ℕ) → Bodied file table h n x φ k
+      {next :
+      ℕ} → ((w : Written) → Formed file table (h .fact .next) w
+      → next ≡ w .end) → (x : Guarded) (φ : Formula) (k : ℕ) → Bodied file table h n x φ k
       → next ≡ k
   body-ends l x φ k w = l (written-of (x .ars) (x .scope ++ x .sorts) φ k) (w .body .formed)
 
@@ -240,5 +249,5 @@ module _ {file table : List ℕ} (bytes : Bytes file) where
   pub property-says :
       (starts symbols classes : List ℕ) (base : ℕ) (b : List ℕ) (r : Judged)
       → ((w : Written) → Fits file table 0 0 w → Says starts symbols classes base b r w) → (ars : List ℕ) (φ : Formula) → Property file table ars φ
-      → r .truth ≡ judge (numbers base) (traced starts symbols classes base ars) [] φ
+      → r .truth ≡ judge (numbers base) (traced starts symbols classes ars) [] φ
   property-says starts symbols classes base b r l ars φ p = l (written-of ars [] φ (p .end)) (whole ars φ p) .truth

@@ -2,7 +2,8 @@
 use Prim.Native.Nat.{ℕ, _+_, _≤_, _<_}
 use mathlib.Core.List.{List, _++_}
 use mathlib.Core.Bool.{Bool, true, false, _&&_, _||_, or-assoc, or-false}
-use mathlib.Core.Path.{_≡_, sym, ap, ap₂, _∙_, subst}
+use mathlib.Core.Logic.{_⊎_, inl, inr, ⊎-elim}
+use mathlib.Core.Path.{_≡_, refl, sym, ap, ap₂, _∙_, subst}
 use native.Mathlib.Omega.{arith}
 use native.Mathlib.Numerals.{add-one}
 use lib.ListN.{getD}
@@ -45,14 +46,14 @@ module _ (starts symbols classes : List ℕ) where
       pub stands : Standing (c .symbol) node e
       pub so-far :
           (n : ℕ) (x : Guarded) → Fitting n c x
-          → (found || left b x e) ≡ anyBy (hits b x) (entriesFrom 1 (traced starts symbols classes base (x .ars)))
+          → (found || left b x e) ≡ anyBy (hits b x) (entriesFrom 1 (traced starts symbols classes (x .ars)))
 
     -- the truth of a quantifier so far
     abbrev meet : List ℕ → Guarded → Entry ℕ → Bool
-    meet b x en = meets symbols classes base b x en
+    meet b x en = meets base b x en
 
     abbrev pass : List ℕ → Guarded → Formula → Entry ℕ → Bool
-    pass b x φ en = judge (numbers base) (traced starts symbols classes base (x .ars)) (bindsTo symbols classes base b x en) φ
+    pass b x φ en = judge (numbers base) (traced starts symbols classes (x .ars)) (bindsTo base b x en) φ
 
     abbrev onward : Bool → List ℕ → Guarded → Formula → ℕ → Bool
     onward every b x φ e = over (meet b x) every (pass b x φ) (rest (x .ars) symbols classes starts e)
@@ -60,11 +61,13 @@ module _ (starts symbols classes : List ℕ) where
     abbrev wanted : Bool → List ℕ → Guarded → Formula → Bool
     wanted every b x φ = truthOf starts symbols classes base (x .ars) (x .scope) b (quantified every (head-of (x .sorts) (x .guard)) φ)
 
-    pub record Walking (file table : List ℕ) (h : Guard) (n : ℕ) (b : List ℕ) (truth : Bool) (node e : ℕ) : Type 0 where
+    -- and the place behind the body, once it was judged
+    pub record Walking (file table : List ℕ) (h : Guard) (n : ℕ) (b : List ℕ) (truth : Bool) (next node e : ℕ) : Type 0 where
       pub stands : Standing (h .fact .symbol) node e
       pub so-far :
           (x : Guarded) (φ : Formula) (k : ℕ) → Bodied file table h n x φ k
           → join (h .every) truth (onward (h .every) b x φ e) ≡ wanted (h .every) b x φ
+      pub ended : (next ≡ 0) ⊎ ((x : Guarded) (φ : Formula) (k : ℕ) → Bodied file table h n x φ k → next ≡ k)
 
 -- ── step by step ──
 module _ {starts symbols classes : List ℕ} (shape : Shape starts symbols classes) where
@@ -132,39 +135,49 @@ module _ {starts symbols classes : List ℕ} (shape : Shape starts symbols class
     abbrev ahead : Guarded → Formula → ℕ → Bool
     ahead x φ e = onward starts symbols classes base (h .every) b x φ e
 
-    abbrev Walks : Bool → ℕ → ℕ → Type 0
-    Walks truth node e = Walking starts symbols classes base file table h n b truth node e
+    abbrev Walks : Bool → ℕ → ℕ → ℕ → Type 0
+    Walks truth next node e = Walking starts symbols classes base file table h n b truth next node e
+
+    abbrev every-entry : Guarded → List (Entry ℕ)
+    every-entry x = entriesFrom 1 (traced starts symbols classes (x .ars))
 
     wanted-over : (x : Guarded) (φ : Formula) → ahead x φ 0 ≡ wanted starts symbols classes base (h .every) b x φ
     wanted-over x φ = ap (fold x φ) (sym (rest-begins (x .ars) shape)) ∙ go (h .every)
       where
         go :
-            (q : Bool)
-            → over (meet starts symbols classes base b x) q (pass starts symbols classes base b x φ) (entriesFrom 1 (traced starts symbols classes base (x .ars)))
+            (q : Bool) → over (meet starts symbols classes base b x) q (pass starts symbols classes base b x φ) (every-entry x)
             ≡ wanted starts symbols classes base q b x φ
-        go true = over-all (meet starts symbols classes base b x) (pass starts symbols classes base b x φ) (entriesFrom 1 (traced starts symbols classes base (x .ars)))
-        go false = over-any (meet starts symbols classes base b x) (pass starts symbols classes base b x φ) (entriesFrom 1 (traced starts symbols classes base (x .ars)))
+        go true = over-all (meet starts symbols classes base b x) (pass starts symbols classes base b x φ) (every-entry x)
+        go false = over-any (meet starts symbols classes base b x) (pass starts symbols classes base b x φ) (every-entry x)
 
     ahead-next :
-        (x : Guarded) (φ : Formula) → Fitting n (h .fact) x → {e r : ℕ} → Next symbols (h .fact .symbol) e (total starts) r → ahead x φ e ≡ ahead x φ r
+        (x : Guarded) (φ : Formula) → Fitting n (h .fact) x → {e r : ℕ} → Next symbols (h .fact .symbol) e (total starts) r
+        → ahead x φ e ≡ ahead x φ r
     ahead-next x φ ok p =
         rest-next (x .ars) shape (fold x φ) p
         (λ i node es d. over-miss (meet starts symbols classes base b x) (h .every) (pass starts symbols classes base b x φ)
         (entryOf (x .ars) symbols classes node i) es
-        (other-misses symbols classes base (h .fact) node i x ok (bindsTo symbols classes base b x (entryOf (x .ars) symbols classes node i)) d))
+        (other-misses symbols classes base (h .fact) node i x ok (bindsTo base b x (entryOf (x .ars) symbols classes node i)) d))
 
-    pub walking-begins : {e : ℕ} → Next symbols (h .fact .symbol) 0 (total starts) e → Walks (h .every) 0 e
+    pub walking-begins : {e : ℕ} → Next symbols (h .fact .symbol) 0 (total starts) e → Walks (h .every) 0 0 e
     walking-begins {e} p =
         record {
           stands = standing-begins p;
           so-far = λ x φ k w. join-begin (h .every) (ahead x φ e) ∙ sym (ahead-next x φ (w .fitting) p) ∙ wanted-over x φ;
+          ended = inl refl;
         }
 
+    -- the place behind the body, once it was judged or passed over
+    pub walking-behind :
+        {truth : Bool} {next node e : ℕ} → Walks truth next node e → ¬ (next ≡ 0) → (x : Guarded) (φ : Formula) (k : ℕ) → Bodied file table h n x φ k
+        → next ≡ k
+    walking-behind v z = ⊎-elim (λ q. absurd (z q)) (λ l. l) (v .ended)
+
     pub walking-ends :
-        {truth : Bool} {node e next : ℕ} → ¬ (e < total starts) → Walks truth node e
-        → ((x : Guarded) (φ : Formula) (k : ℕ) → Bodied file table h n x φ k → next ≡ k) → (x : Guarded) (φ : Formula) (k : ℕ)
-        → Bodied file table h n x φ k → Walked starts symbols classes base (h .every) b (record { truth = truth; next = next }) x φ k
-    walking-ends {truth} {node} {e} l v ends x φ k w =
+        {truth : Bool} {next node e end : ℕ} → ¬ (e < total starts) → Walks truth next node e
+        → ((x : Guarded) (φ : Formula) (k : ℕ) → Bodied file table h n x φ k → end ≡ k) → (x : Guarded) (φ : Formula) (k : ℕ)
+        → Bodied file table h n x φ k → Walked starts symbols classes base (h .every) b (record { truth = truth; next = end }) x φ k
+    walking-ends {truth} {e = e} l v ends x φ k w =
         record {
           truth = sym (join-unit (h .every) truth)
               ∙ ap (λ (r : List (Entry ℕ)). join (h .every) truth (fold x φ r)) (sym (rest-ends (x .ars) shape (omega (arith, v .stands .within))))
@@ -172,12 +185,12 @@ module _ {starts symbols classes : List ℕ} (shape : Shape starts symbols class
           next = ends x φ k w;
         }
 
-    module _ {truth : Bool} {node′ node e r : ℕ} (m : Matched) (o : Of starts node e) (p : Next symbols (h .fact .symbol) (e + 1) (total starts) r)
-        (says : (x : Guarded) → Fitting n (h .fact) x → Matching symbols classes base b node e m x) (v : Walks truth node′ e) where
+    module _ {truth : Bool} {next node′ node e r : ℕ} (m : Matched) (o : Of starts node e) (p : Next symbols (h .fact .symbol) (e + 1) (total starts) r)
+        (says : (x : Guarded) → Fitting n (h .fact) x → Matching symbols classes base b node e m x) (v : Walks truth next node′ e) where
       abbrev here : Guarded → Entry ℕ
       here x = entryOf (x .ars) symbols classes node e
 
-      pub walking-miss : m .yes ≡ false → Walks truth node r
+      pub walking-miss : m .yes ≡ false → Walks truth next node r
       walking-miss z =
           record {
             stands = standing-next o p;
@@ -187,26 +200,34 @@ module _ {starts symbols classes : List ℕ} (shape : Shape starts symbols class
                 (rest (x .ars) symbols classes starts (e + 1)) (sym (says x (w .fitting) .matched) ∙ z))
                 ∙ sym (ap (fold x φ) (rest-at (x .ars) shape o)))
                 ∙ v .so-far x φ k w;
+            ended = v .ended;
           }
 
       pub walking-match :
           {inner : ℕ} {a : Judged} → m .yes ≡ true → inner ≡ n + h .fresh
           → ((w : Written) → Fits file table (h .fact .next) inner w → Says starts symbols classes base (m .values) a w)
-          → Walks (join (h .every) truth (a .truth)) node r
+          → Walks (join (h .every) truth (a .truth)) (a .next) node r
       walking-match {inner} {a} z q judged =
           record {
             stands = standing-next o p;
             so-far = λ x φ k w.
                 sym (join-assoc (h .every) truth (a .truth) (ahead x φ r))
-                ∙ ap (join (h .every) truth) (ap₂ (join (h .every)) (told x φ k w) (sym (ahead-next x φ (w .fitting) p))
+                ∙ ap (join (h .every) truth) (ap₂ (join (h .every)) (holds x φ k w) (sym (ahead-next x φ (w .fitting) p))
                 ∙ sym (over-hit (meet starts symbols classes base b x) (h .every) (pass starts symbols classes base b x φ) (here x)
                 (rest (x .ars) symbols classes starts (e + 1)) (sym (says x (w .fitting) .matched) ∙ z))
                 ∙ sym (ap (fold x φ) (rest-at (x .ars) shape o)))
                 ∙ v .so-far x φ k w;
+            ended = inr (λ x φ k w. told x φ k w .next);
           }
         where
-          told : (x : Guarded) (φ : Formula) (k : ℕ) → Bodied file table h n x φ k → a .truth ≡ pass starts symbols classes base b x φ (here x)
+          told :
+              (x : Guarded) (φ : Formula) (k : ℕ) → Bodied file table h n x φ k
+              → Says starts symbols classes base (m .values) a (written-of (x .ars) (x .scope ++ x .sorts) φ k)
           told x φ k w =
               judged (written-of (x .ars) (x .scope ++ x .sorts) φ k)
-              (subst (λ (i : ℕ). Fits file table (h .fact .next) i (written-of (x .ars) (x .scope ++ x .sorts) φ k)) (sym q) (w .body)) .truth
-              ∙ ap (λ u. judge (numbers base) (traced starts symbols classes base (x .ars)) u φ) (says x (w .fitting) .binds z)
+              (subst (λ (i : ℕ). Fits file table (h .fact .next) i (written-of (x .ars) (x .scope ++ x .sorts) φ k)) (sym q) (w .body))
+
+          holds : (x : Guarded) (φ : Formula) (k : ℕ) → Bodied file table h n x φ k → a .truth ≡ pass starts symbols classes base b x φ (here x)
+          holds x φ k w =
+              told x φ k w .truth
+              ∙ ap (λ u. judge (numbers base) (traced starts symbols classes (x .ars)) u φ) (says x (w .fitting) .binds z)

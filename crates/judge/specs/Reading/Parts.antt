@@ -123,7 +123,8 @@ module _ (file table : List ℕ) where
             let r = c .says u m (ap (readNumber file) (w .1 ∙ oj) ∙ hu) in
             let gp : timed-of (pattern-of s xs) u ≡ g = cc in
             let me : m ≡ e = cc in (
-              subst (λ (z : Timed). Carries ars z (record { symbol = y .value; count = arityIn table (y .value); time = t .value; codes = ts .codes; next = t .next })) gp
+              subst (λ (z : Timed). Carries ars z
+                  (record { symbol = y .value; count = arityIn table (y .value); time = t .value; codes = ts .codes; next = t .next })) gp
                   (record {
                     symbols = p .0 ∙ vs;
                     counts = sym (many-length (termAt file) (arityIn table (y .value)) (y .next) o xs ht′);

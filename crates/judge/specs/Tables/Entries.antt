@@ -2,15 +2,17 @@
 use Prim.Native.Nat.{ℕ, zero, suc, _+_, _-_, _≤_, _<_}
 use mathlib.Core.List.{List, [], _∷_, _++_, map}
 use mathlib.Core.Bool.{Bool}
-use mathlib.Core.Path.{_≡_, refl, sym, ap, ap₂, _∙_}
+use mathlib.Core.Path.{_≡_, refl, sym, ap, ap₂, _∙_, subst}
 use native.Mathlib.Omega.{arith}
 use native.Mathlib.Numerals.{add-one}
 use lib.ListN.{length, getD, drop}
 use lib.Seq.{drop-append-add, drop-nil}
 use Rattle.lists.specs.Choice.{by-size}
-use Rattle.property.specs.Meaning.{Entry}
+use Rattle.lists.specs.Lists.{row}
+use Rattle.lists.specs.Lists.Laws.{row-same}
+use Rattle.property.specs.Meaning.{Fact, Entry, Trace}
 use Rattle.property.specs.Judge.{entriesFrom}
-use Rattle.judge.specs.Tables.{factOf, factsFrom, nodesFrom, traceOf, entryOf, rest, total, Shape, Past, Of, Next}
+use Rattle.judge.specs.Tables.{factOf, factsAt, traceOf, entryOf, rest, total, Shape, Past, Of, Next}
 
 -- the places from s on ascend
 abbrev Ascends : ℕ → List ℕ → Type 0
@@ -37,16 +39,57 @@ later-than s ss zero a l = omega arith
 later-than s [] (suc i) a l = absurd (omega arith)
 later-than s (t ∷ ss) (suc i) a l = omega (arith, a .0, later-than t ss i (a .1) (omega arith))
 
+at-most-last : (s : ℕ) (ss : List ℕ) (i : ℕ) → Ascends s ss → i < length (s ∷ ss) → getD (s ∷ ss) i 0 ≤ lastOf s ss
+at-most-last s [] zero a l = omega arith
+at-most-last s [] (suc i) a l = absurd (omega arith)
+at-most-last s (t ∷ ss) zero a l = omega (arith, a .0, at-most-last t ss 0 (a .1) (omega arith))
+at-most-last s (t ∷ ss) (suc i) a l = at-most-last t ss i (a .1) (omega arith)
+
 module _ (ars symbols classes : List ℕ) where
+  -- ── the trace by recursion over the starts ──
+  -- n facts from entry e on
+  abbrev factsFrom : ℕ → ℕ → List (Fact ℕ)
+  factsFrom zero e = []
+  factsFrom (suc n) e = factOf ars symbols classes e ∷ factsFrom n (suc e)
+
+  -- the nodes from the one that begins at s on
+  abbrev nodesFrom : ℕ → List ℕ → Trace ℕ
+  nodesFrom s [] = []
+  nodesFrom s (t ∷ ss) = factsFrom (t - s) s ∷ nodesFrom t ss
+
+  facts-row : (n s : ℕ) → row (λ i. factOf ars symbols classes (s + i)) n ≡ factsFrom n s
+  facts-row zero s = refl
+  facts-row (suc n) s =
+      let z : s + 0 ≡ s = omega arith in
+      ap₂ (λ (e : ℕ) (l : List (Fact ℕ)). factOf ars symbols classes e ∷ l) z
+      (row-same (λ j. factOf ars symbols classes (s + suc j)) (λ j. factOf ars symbols classes (suc s + j)) n
+      (λ j _. let y : s + suc j ≡ suc s + j = omega arith in ap (factOf ars symbols classes) y)
+      ∙ facts-row n (suc s))
+
+  nodes-row : (s : ℕ) (ss : List ℕ) → row (factsAt ars symbols classes (s ∷ ss)) (length ss) ≡ nodesFrom s ss
+  nodes-row s [] = refl
+  nodes-row s (t ∷ ss) =
+      ap₂ (λ (x : List (Fact ℕ)) (l : Trace ℕ). x ∷ l) (facts-row (t - s) s)
+      (row-same (λ k. factsAt ars symbols classes (s ∷ t ∷ ss) (suc k)) (factsAt ars symbols classes (t ∷ ss)) (length ss)
+      (λ k _. let z : suc k + 1 ≡ suc (k + 1) = omega arith in
+      ap (λ (m : ℕ). row (λ i. factOf ars symbols classes (getD (t ∷ ss) k 0 + i)) (getD (s ∷ t ∷ ss) m 0 - getD (t ∷ ss) k 0)) z)
+      ∙ nodes-row t ss)
+
+  trace-from : (s : ℕ) (ss : List ℕ) → traceOf ars symbols classes (s ∷ ss) ≡ nodesFrom s ss
+  trace-from s ss =
+      let z : length (s ∷ ss) - 1 ≡ length ss = omega arith in
+      ap (row (factsAt ars symbols classes (s ∷ ss))) z ∙ nodes-row s ss
+
+  -- ── the entries ──
   abbrev entry : ℕ → ℕ → Entry ℕ
   entry k e = record { node = k; fact = factOf ars symbols classes e }
 
   abbrev entriesOf : ℕ → ℕ → List ℕ → List (Entry ℕ)
-  entriesOf k s ss = entriesFrom k (nodesFrom ars symbols classes s ss)
+  entriesOf k s ss = entriesFrom k (nodesFrom s ss)
 
   -- n entries of node k from s on, and others behind them
   abbrev front : ℕ → ℕ → ℕ → List (Entry ℕ)
-  front k n s = map (λ f. record { node = k; fact = f }) (factsFrom ars symbols classes n s)
+  front k n s = map (λ f. record { node = k; fact = f }) (factsFrom n s)
 
   front-length : (k n s : ℕ) → length (front k n s) ≡ n
   front-length k zero s = refl
@@ -81,14 +124,13 @@ module _ (ars symbols classes : List ℕ) where
 
   entries-end : (k s : ℕ) (ss : List ℕ) → Ascends s ss → drop (lastOf s ss - s) (entriesOf k s ss) ≡ []
   entries-end k s [] a = drop-nil (s - s)
-  entries-end k s (t ∷ ss) a = behind k s t (lastOf t ss) ss (a .0) (omega (arith, last-later t ss (a .1))) ∙ entries-end (suc k) t ss (a .1)
-    where
-      last-later : (s : ℕ) (ss : List ℕ) → Ascends s ss → s ≤ lastOf s ss
-      last-later s [] a = omega arith
-      last-later s (t ∷ ss) a = omega (arith, a .0, last-later t ss (a .1))
+  entries-end k s (t ∷ ss) a =
+      behind k s t (lastOf t ss) ss (a .0) (at-most-last t ss 0 (a .1) (omega arith)) ∙ entries-end (suc k) t ss (a .1)
 
 -- each entry has a node
-has-node : (s : ℕ) (ss : List ℕ) (e : ℕ) → s ≤ e → e < lastOf s ss → (node : ℕ) × (node < length ss) × (getD (s ∷ ss) node 0 ≤ e) × (e < getD ss node 0)
+has-node :
+    (s : ℕ) (ss : List ℕ) (e : ℕ) → s ≤ e → e < lastOf s ss
+    → (node : ℕ) × (node < length ss) × (getD (s ∷ ss) node 0 ≤ e) × (e < getD ss node 0)
 has-node s [] e l m = absurd (omega arith)
 has-node s (t ∷ ss) e l m =
     by-size e t (λ h. (0, omega arith, l, h)) (λ h. let r = has-node t ss e h m in (suc (r .0), omega (arith, r .1), r .2, r .3))
@@ -99,21 +141,26 @@ module _ (ars : List ℕ) {starts symbols classes : List ℕ} (shape : Shape sta
   unfolding rest
   rest-begins = refl
 
-  pub rest-at : {node e : ℕ} → Of starts node e → rest ars symbols classes starts e ≡ entryOf ars symbols classes node e ∷ rest ars symbols classes starts (e + 1)
+  abbrev Follows : ℕ → ℕ → Trace ℕ → Type 0
+  Follows node e tr = drop e (entriesFrom 1 tr) ≡ entryOf ars symbols classes node e ∷ drop (e + 1) (entriesFrom 1 tr)
+
+  pub rest-at :
+      {node e : ℕ} → Of starts node e
+      → rest ars symbols classes starts e ≡ entryOf ars symbols classes node e ∷ rest ars symbols classes starts (e + 1)
   unfolding rest
   rest-at {node} {e} o = go starts shape o
     where
-      go :
-          (starts : List ℕ) → Shape starts symbols classes → Of starts node e
-          → drop e (entriesFrom 1 (traceOf ars symbols classes starts)) ≡ entryOf ars symbols classes node e ∷ drop (e + 1) (entriesFrom 1 (traceOf ars symbols classes starts))
+      go : (starts : List ℕ) → Shape starts symbols classes → Of starts node e → Follows node e (traceOf ars symbols classes starts)
       go [] h o = absurd (omega (arith, h .some))
       go (zero ∷ ss) h o =
           let x : e - 0 ≡ e = omega arith in
           let y : suc e - 0 ≡ e + 1 = omega arith in
           let z : 1 + node ≡ suc node = omega arith in
-          sym (ap (λ (i : ℕ). drop i (entriesOf ars symbols classes 1 0 ss)) x)
-          ∙ entries-at ars symbols classes 1 0 ss node e (ascends-all 0 ss (h .ascends)) (omega (arith, o .inside)) (o .begun) (rw add-one at (o .before))
-          ∙ ap₂ (λ (k i : ℕ). entry ars symbols classes k e ∷ drop i (entriesOf ars symbols classes 1 0 ss)) z y
+          subst (Follows node e) (sym (trace-from ars symbols classes 0 ss))
+          (sym (ap (λ (i : ℕ). drop i (entriesOf ars symbols classes 1 0 ss)) x)
+          ∙ entries-at ars symbols classes 1 0 ss node e (ascends-all 0 ss (h .ascends)) (omega (arith, o .inside)) (o .begun)
+          (rw add-one at (o .before))
+          ∙ ap₂ (λ (k i : ℕ). entry ars symbols classes k e ∷ drop i (entriesOf ars symbols classes 1 0 ss)) z y)
       go (suc s ∷ ss) h o = absurd (omega (arith, h .first))
 
   pub rest-ends : {e : ℕ} → e ≡ total starts → rest ars symbols classes starts e ≡ []
@@ -124,7 +171,9 @@ module _ (ars : List ℕ) {starts symbols classes : List ℕ} (shape : Shape sta
       go [] h q = absurd (omega (arith, h .some))
       go (zero ∷ ss) h q =
           let x : lastOf 0 ss - 0 ≡ e = omega (arith, q, last-total 0 ss) in
-          sym (ap (λ (i : ℕ). drop i (entriesOf ars symbols classes 1 0 ss)) x) ∙ entries-end ars symbols classes 1 0 ss (ascends-all 0 ss (h .ascends))
+          ap (λ (tr : Trace ℕ). drop e (entriesFrom 1 tr)) (trace-from ars symbols classes 0 ss)
+          ∙ sym (ap (λ (i : ℕ). drop i (entriesOf ars symbols classes 1 0 ss)) x)
+          ∙ entries-end ars symbols classes 1 0 ss (ascends-all 0 ss (h .ascends))
       go (suc s ∷ ss) h q = absurd (omega (arith, h .first))
 
   -- some node has entry e
@@ -184,7 +233,9 @@ module _ {symbols : List ℕ} {symbol from count : ℕ} where
   pub scanning-begins : from ≤ count → Scanning symbols symbol from count from
   scanning-begins l = record { later = omega arith; within = l; others = λ i a b. absurd (omega arith) }
 
-  pub scanning-next : {e : ℕ} → e < count → Scanning symbols symbol from count e → ¬ (getD symbols e 0 ≡ symbol) → Scanning symbols symbol from count (e + 1)
+  pub scanning-next :
+      {e : ℕ} → e < count → Scanning symbols symbol from count e → ¬ (getD symbols e 0 ≡ symbol)
+      → Scanning symbols symbol from count (e + 1)
   scanning-next {e} l w d = record {
     later = omega (arith, w .later);
     within = omega arith;

@@ -1,5 +1,5 @@
 -- What holds of the functions that count and search a list.
-use mathlib.Core.Path.{_≡_, refl, sym, _∙_, ap}
+use mathlib.Core.Path.{_≡_, refl, sym, _∙_, ap, ap₂}
 use mathlib.Core.Logic.{⊎-elim}
 use mathlib.Core.Bool.{Bool, true, false, not, _&&_, _||_, or-assoc, or-false}
 use mathlib.Core.List.{List, [], _∷_, _++_, map, List·Memᴰ·head, List·Memᴰ·tail, List·Memᴰ·not-nil, List·Memᴰ·cases-cons}
@@ -7,7 +7,7 @@ use mathlib.Core.Option.{Option, none, some, Option·none-ne-some, Option·some-
 use Prim.Native.Nat.{ℕ, zero, suc, _+_, _≤_, _<_}
 use native.Mathlib.Omega.{arith}
 use lib.ListN.{getElem?, getD, length}
-use Rattle.lists.specs.Lists.{_∈_, bit, countBy, anyBy, allBy, firstBy, removeBy, keepBy, nth}
+use Rattle.lists.specs.Lists.{_∈_, bit, countBy, anyBy, allBy, firstBy, removeBy, keepBy, nth, row}
 use Rattle.lists.specs.Tests.{by-bool, by-option, true-false, not-true}
 
 -- Counting.
@@ -201,3 +201,12 @@ module _ {A B : Type 0} (g : A → B) where
   pub map-nth : (xs : List A) (k : ℕ) (y : B) → nth (map g xs) k ≡ some y → (x : A) × (nth xs k ≡ some x) × (g x ≡ y)
   map-nth xs zero y h = absurd (Option·none-ne-some y h)
   map-nth xs (suc i) y h = mapped-at xs i y h
+
+-- Rows.
+pub row-same : {A : Type 0} (f g : ℕ → A) (k : ℕ) → ((i : ℕ) → i < k → f i ≡ g i) → row f k ≡ row g k
+row-same f g zero h = refl
+row-same f g (suc k) h = ap₂ (λ x l. x ∷ l) (h 0 (omega arith)) (row-same (λ j. f (suc j)) (λ j. g (suc j)) k (λ i l. h (suc i) (omega arith)))
+
+pub row-map : {A B : Type 0} (f : A → B) (m : ℕ → A) (k : ℕ) → map f (row m k) ≡ row (λ i. f (m i)) k
+row-map f m zero = refl
+row-map f m (suc k) = ap (λ l. f (m 0) ∷ l) (row-map f (λ j. m (suc j)) k)

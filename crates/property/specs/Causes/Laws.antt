@@ -7,6 +7,7 @@ use mathlib.Core.Path.{_≡_, refl, subst}
 use native.Mathlib.Omega.{arith}
 use lib.ListN.{length}
 use Rattle.lists.specs.Choice.{clash}
+use Rattle.lists.specs.Reflects.{reflects-back}
 use Rattle.octets.specs.Head.{Bytes}
 use Rattle.rewriting.specs.Table.{passed, Ruled}
 use Rattle.rewriting.specs.Table.Laws.{ruled, ruled-and-then, passed-good}
@@ -15,7 +16,6 @@ use Rattle.property.specs.Formula.{Formula}
 use Rattle.property.specs.Formula.Limits.{FormulaWithin}
 use Rattle.property.specs.Fit.{IsFit, fit}
 use Rattle.property.specs.Fit.Laws.{fit-decides, fit-stable}
-use Rattle.property.specs.Reflects.{reflects-back}
 use Rattle.property.specs.Reads.{Reads}
 use Rattle.property.specs.Reads.Laws.{property-reads}
 use Rattle.property.specs.Layout.{encodeFormula, property}

@@ -9,10 +9,10 @@ use native.Mathlib.Omega.{arith}
 use lib.ListN.{length}
 use Rattle.lists.specs.Choice.{clash}
 use Rattle.lists.specs.Lists.{_∈_, anyBy}
+use Rattle.lists.specs.Reflects.{reflects-true, reflects-back, reflects-dec, reflects-not}
+use Rattle.lists.specs.Reflects.{Reflects, right, wrong, reflects-iff, reflects-and, reflects-eq, reflects-any, reflects-every}
 use Rattle.property.specs.Formula.{Sort, msg, tmp, Term, var, public, Pattern, Atom, equal, before, together, action, Formula}
 use Rattle.property.specs.Formula.{absurdity, is, isnt, both, either, exists, every}
-use Rattle.property.specs.Reflects.{reflects-true, reflects-back, reflects-dec, reflects-not}
-use Rattle.property.specs.Reflects.{Reflects, right, wrong, reflects-iff, reflects-and, reflects-eq, reflects-any, reflects-every}
 use Rattle.property.specs.Fit.{HasSort, TermFits, PatternFits, AtomFits, InGuard, AllInGuard, IsFit}
 use Rattle.property.specs.Fit.{sortIs, inScope, termFits, patternFits, atomFits, isVar, guarded, fit}
 

@@ -10,9 +10,9 @@ use lib.Seq.{drop-append-seam}
 use lib.Dec.{eqb, ltb}
 use Rattle.lists.specs.Lists.{anyBy}
 use Rattle.lists.specs.Tests.{and-split}
-use Rattle.property.specs.Reflects.{Reflects, right, wrong, reflects-true, transfer, reflects-iff, reflects-dec, reflects-not}
-use Rattle.property.specs.Reflects.{reflects-and, reflects-or, reflects-eq, reflects-lt}
-use Rattle.property.specs.Pairs.{Pairs, nothing, more, pairs-head, pairs-tail, pairs-append, pairs-length, pairs-turned, pairs-joined}
+use Rattle.lists.specs.Reflects.{Reflects, right, wrong, reflects-true, transfer, reflects-iff, reflects-dec, reflects-not}
+use Rattle.lists.specs.Reflects.{reflects-and, reflects-or, reflects-eq, reflects-lt}
+use Rattle.lists.specs.Pairs.{Pairs, nothing, more, pairs-head, pairs-tail, pairs-append, pairs-length, pairs-turned, pairs-joined}
 use Rattle.property.specs.Formula.{Sort, msg, tmp, Term, var, public, Pattern, Atom, equal, before, together, action, Formula}
 use Rattle.property.specs.Formula.{absurdity, is, isnt, both, either, exists, every}
 use Rattle.property.specs.Fit.{isVar, guarded, fit, patternFits}

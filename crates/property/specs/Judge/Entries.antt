@@ -7,7 +7,7 @@ use mathlib.Core.List.{Memᴰ·append-left, Memᴰ·append-right, List·Memᴰ·
 use Prim.Native.Nat.{ℕ, zero, suc, _+_}
 use native.Mathlib.Omega.{arith}
 use Rattle.lists.specs.Lists.{_∈_, anyBy, allBy}
-use Rattle.property.specs.Reflects.{Reflects, reflects-iff, reflects-any, reflects-all}
+use Rattle.lists.specs.Reflects.{Reflects, reflects-iff, reflects-any, reflects-all}
 use Rattle.property.specs.Meaning.{Fact, Entry, Trace, actionsAt}
 use Rattle.property.specs.Judge.{entriesFrom}
 

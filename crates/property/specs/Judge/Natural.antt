@@ -6,7 +6,7 @@ use mathlib.Core.List.{List, [], _∷_, map}
 use Prim.Native.Nat.{ℕ, suc}
 use lib.ListN.{length}
 use lib.Dec.{eqb, ltb}
-use Rattle.property.specs.Pairs.{Pairs, nothing, more, pairs-append, pairs-length, pairs-any, pairs-all}
+use Rattle.lists.specs.Pairs.{Pairs, nothing, more, pairs-append, pairs-length, pairs-any, pairs-all}
 use Rattle.property.specs.Formula.{Sort, msg, tmp, Term, Pattern, Atom, equal, before, together, action, Formula}
 use Rattle.property.specs.Formula.{absurdity, is, isnt, both, either, exists, every}
 use Rattle.property.specs.Fit.{isVar}

@@ -7,8 +7,8 @@ use mathlib.Core.List.{[]}
 use Prim.Native.Nat.{ℕ, _+_}
 use native.Mathlib.Omega.{arith}
 use lib.Dec.{eqb}
-use Rattle.property.specs.Reflects.{Reflects, reflects-eq, alike}
-use Rattle.property.specs.Pairs.{nothing, pairs-as}
+use Rattle.lists.specs.Reflects.{Reflects, reflects-eq, alike}
+use Rattle.lists.specs.Pairs.{nothing, pairs-as}
 use Rattle.property.specs.Formula.{Formula}
 use Rattle.property.specs.Fit.{fit}
 use Rattle.property.specs.Meaning.{Messages, Times, Fact, Trace, Holds}

@@ -2,7 +2,7 @@
 use mathlib.Core.Path.{_≡_}
 use mathlib.Core.List.{List, [], _∷_, map}
 use Prim.Native.Nat.{ℕ, zero, suc}
-use Rattle.property.specs.Pairs.{Pairs, nothing, more}
+use Rattle.lists.specs.Pairs.{Pairs, nothing, more}
 use Rattle.property.specs.Formula.{Term, var, public}
 use Rattle.property.specs.Meaning.{Messages, Value, message, time, Fact, Trace, messageAt, timeAt, termUnder}
 

@@ -4,8 +4,8 @@ use mathlib.Core.Logic.{inl, inr, ⊎-elim}
 use mathlib.Core.List.{List, _++_}
 use Prim.Native.Nat.{ℕ, zero, suc}
 use lib.ListN.{getElem?}
+use Rattle.lists.specs.Pairs.{Pairs, nothing, more, pairs-append, pairs-itself, pairs-turned, pairs-joined, pairs-partner}
 use Rattle.steps.specs.Facts.Messages.{orNone}
-use Rattle.property.specs.Pairs.{Pairs, nothing, more, pairs-append, pairs-itself, pairs-turned, pairs-joined, pairs-partner}
 use Rattle.property.specs.Formula.{Pattern, Term, Atom, equal, before, together, action, Formula}
 use Rattle.property.specs.Formula.{absurdity, is, isnt, both, either, exists, every}
 use Rattle.property.specs.Meaning.{Messages, Times, Value, message, time, Fact, Trace, actionsAt, timeAt, termUnder, Occurs, AtomHolds, Holds}

@@ -6,14 +6,14 @@ use mathlib.Core.Logic.{_↔_}
 use mathlib.Core.Path.{_≡_, refl}
 use lib.ListN.{getElem?}
 use Rattle.lists.specs.All.{All}
+use Rattle.lists.specs.Reflects.{Reflects, reflects-back}
+use Rattle.lists.specs.Pairs.{Pairs, nothing, more, pairs-map}
 use Rattle.message.specs.Promise.{Message, SameMessage, SameMessages, messages}
 use Rattle.protocol.specs.Protocol.{Protocol}
 use Rattle.protocol.specs.Protocol.Limits.{Within}
 use Rattle.steps.specs.Nodes.{Node, NodeWithin}
 use Rattle.steps.specs.Values.{NodeRight}
 use Rattle.steps.specs.Facts.Messages.{MessageFact, SameMessageFact, messageTrace, orNone}
-use Rattle.property.specs.Reflects.{Reflects, reflects-back}
-use Rattle.property.specs.Pairs.{Pairs, nothing, more, pairs-map}
 use Rattle.property.specs.Formula.{Formula}
 use Rattle.property.specs.Fit.{IsFit}
 use Rattle.property.specs.Fit.Laws.{fit-decides}

@@ -8,6 +8,7 @@ use lib.Seq.{getD-set-same, getD-set-other}
 use Rattle.lists.specs.Asks.{Promises₃}
 use Rattle.lists.specs.Choice.{by-order}
 use Rattle.lists.specs.All.Laws.{all-inside, all-map}
+use Rattle.lists.specs.Joined.{joined-at, before-inside, before-more, before-most, before-all, joined-few}
 use Rattle.protocol.specs.Figures.{actionList, mostFacts}
 use Rattle.protocol.specs.Protocol.{Fact, Protocol, noFact}
 use Rattle.steps.specs.Nodes.{Node, noNode, NodeWithin, mostNodes}
@@ -18,7 +19,6 @@ use Rattle.facts.specs.declared.nodes.FactId.{FactId}
 use Rattle.steps.specs.Table.{NodeIn}
 use Rattle.steps.specs.Table.Laws.{node-in}
 use Rattle.facts.specs.Calls.{factAt, NodeOf, ListedFact}
-use Rattle.trace.specs.Joined.{joined-at, before-inside, before-more, before-most, before-all, joined-few}
 use Rattle.trace.specs.Tables.{mostActions, actions, actionsIn, actionsBefore, entryOf}
 use Rattle.trace.specs.Entries.{ActionIs, EntryIs, Entered, ListedAll, NodeEntered, Begun, Entering, AllEntered}
 

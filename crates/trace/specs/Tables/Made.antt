@@ -5,21 +5,19 @@ use mathlib.Core.Logic.{_↔_}
 use mathlib.Core.Path.{_≡_, ap, ap₂, sym, _∙_}
 use native.Mathlib.Omega.{arith}
 use lib.ListN.{length, getD}
-use Rattle.lists.specs.All.{All}
-use Rattle.lists.specs.All.Laws.{all-inside, all-at, map-all}
+use Rattle.lists.specs.All.Laws.{all-inside}
+use Rattle.lists.specs.Joined.{joined-at, before-inside, before-most}
 use Rattle.message.specs.Promise.{Message, SameMessage, publicName}
 use Rattle.message.specs.Canon.{canon}
 use Rattle.message.specs.Theorems.{same-canon, declared}
 use Rattle.protocol.specs.Figures.{actionList, mostFactArity}
-use Rattle.protocol.specs.Protocol.{Fact, Own, Protocol, noFact, factArities}
-use Rattle.protocol.specs.Protocol.Limits.{OwnWithin}
+use Rattle.protocol.specs.Protocol.{Fact, Protocol, noFact}
 use Rattle.steps.specs.Causes.Good.{RightNodes}
 use Rattle.steps.specs.Nodes.{Node, noNode, NodeWithin}
 use Rattle.steps.specs.Facts.Formed.{FactFormed, facts-formed}
 use Rattle.steps.specs.Values.Parts.{noTerm}
 use Rattle.facts.specs.Calls.{factAt}
 use Rattle.facts.specs.Writing.Nodes.{arities-few}
-use Rattle.trace.specs.Joined.{joined-at, before-inside, before-most}
 use Rattle.trace.specs.Tables.{mostActions, Starts, ar, stride, actions, actionsIn, entryOf, placeOf, ArgumentIs, Tables}
 use Rattle.trace.specs.Entries.{AllEntered}
 use Rattle.trace.specs.Entries.Laws.{actions-few}

@@ -1,6 +1,6 @@
 -- The trace that is read off the tables: node by node, fact by fact and argument by argument it is the trace of messages in numbers, and the
 -- numbers tell which messages are the same and which are public names. Of messages only their promise is used.
-use Prim.Native.Nat.{ℕ, zero, suc, _+_, _*_, _-_, _<_}
+use Prim.Native.Nat.{ℕ, suc, _+_, _*_, _-_, _<_}
 use mathlib.Core.List.{List, [], _∷_}
 use mathlib.Core.Logic.{_↔_}
 use mathlib.Core.Path.{_≡_, refl, ap, sym, _∙_, subst}
@@ -8,14 +8,15 @@ use native.Mathlib.Omega.{arith}
 use lib.ListN.{length, getD}
 use lib.Dec.{eqb}
 use borrow.Author.Tests.{eqb-true, eqb-false}
+use Rattle.lists.specs.Pairs.{Pairs, nothing, more}
 use Rattle.lists.specs.All.{All}
 use Rattle.lists.specs.All.Laws.{all-both}
-use Rattle.lists.specs.Lists.{nth}
+use Rattle.lists.specs.Lists.{nth, row}
 use Rattle.lists.specs.Tests.{by-bool, not-true}
+use Rattle.lists.specs.Joined.{before-more}
 use Rattle.message.specs.Promise.{Message, SameMessage, publicName, Promise, messages}
 use Rattle.protocol.specs.Figures.{actionList}
-use Rattle.protocol.specs.Protocol.{Fact, Protocol, noFact}
-use Rattle.prepared.specs.Prepared.{aritiesOf}
+use Rattle.protocol.specs.Protocol.{Fact, Protocol, noFact, factArities}
 use Rattle.steps.specs.Nodes.{Node, noNode, NodeWithin}
 use Rattle.steps.specs.Table.Laws.{node-in}
 use Rattle.steps.specs.Values.{NodeRight}
@@ -23,19 +24,13 @@ use Rattle.steps.specs.Values.Parts.{noTerm}
 use Rattle.steps.specs.Facts.Messages.{each, MessageFact, IsMessage, message, IsMessages, messageFact, IsNode, facts-messages, messagesOf, messageTrace, orNone}
 use Rattle.steps.specs.Causes.Good.{RightNodes}
 use Rattle.facts.specs.Calls.{factAt}
-use Rattle.facts.specs.Calls.Laws.{arity-is}
-use Rattle.trace.specs.Joined.{before-more}
+use Rattle.facts.specs.Calls.Laws.{listed-formed}
 use Rattle.trace.specs.Tables.{base, ar, stride, actions, actionsBefore, ArgumentIs, entryOf, placeOf, Tables}
 
 -- ── the trace in numbers, as it is read off the tables ──
 pub record NumberFact : Type 0 where
   pub symbol : ℕ
   pub numbers : List ℕ
-
--- m 0, m 1, .., k of them
-abbrev pub row : {A : Type 0} → (ℕ → A) → ℕ → List A
-row m zero = []
-row m (suc k) = m 0 ∷ row (λ j. m (suc j)) k
 
 module _ (arities starts symbols classes : List ℕ) where
   -- entry e
@@ -51,10 +46,6 @@ module _ (arities starts symbols classes : List ℕ) where
   numberTrace n = row numberNode n
 
 -- ── two lists, element by element ──
-pub data Pairs {A B : Type 0} (R : A → B → Type 0) : List A → List B → Type 0 where
-  nothing : Pairs R [] []
-  more : {a : A} {b : B} {l : List A} {m : List B} → R a b → Pairs R l m → Pairs R (a ∷ l) (b ∷ m)
-
 module _ {A B C : Type 0} (Q : A → Type 0) (make : (x : A) → Q x → B) (R : B → C → Type 0) (d : A) where
   pairs-row :
       (xs : List A) (h : All Q xs) (m : ℕ → C) → ((i : ℕ) (x : A) (g : Q x) → i < length xs → getD xs i d ≡ x → R (make x g) (m i))
@@ -121,7 +112,7 @@ module _ {starts symbols classes : List ℕ} {P : Protocol} {xs : List Node} (t 
   -- ── the trace ──
   module _ {p s nodes : List ℕ} {n : ℕ} (r : RightNodes p s nodes n P xs) where
     abbrev arities : List ℕ
-    arities = aritiesOf p
+    arities = factArities (P .symbols)
 
     module _ (k : ℕ) (l : k < length xs) where
       abbrev x : Node
@@ -150,8 +141,9 @@ module _ {starts symbols classes : List ℕ} {P : Protocol} {xs : List Node} (t 
 
         many : length (factAt P actionList i x .terms) ≡ getD arities (getD symbols e 0) 0
         many =
-            sym (arity-is {a = record { node = k; list = actionList; number = i }}
-            (record { node = node-in (r .stand) k (omega (arith, r .stand .count)); listed = m }) (getD symbols e 0) symbol-is)
+            listed-formed {a = record { node = k; list = actionList; number = i }}
+            (record { node = node-in (r .stand) k (omega (arith, r .stand .count)); listed = m }) .takes
+            ∙ ap (λ (y : ℕ). getD arities y 0) (sym symbol-is)
 
         -- the same symbol, as many arguments, and each argument's number is that of its message
         pub fact-like :

@@ -7,6 +7,8 @@ use mathlib.Core.Option.{Option}
 use mathlib.Core.Path.{_≡_, refl, subst, subst₂}
 use Rattle.lists.specs.All.{All}
 use Rattle.lists.specs.All.Laws.{all-both}
+use Rattle.lists.specs.Reflects.{Reflects, reflects-exactly, alike}
+use Rattle.lists.specs.Pairs.{Pairs, nothing, more, pairs-map}
 use Rattle.term.specs.Term.{Term}
 use Rattle.message.specs.Promise.{Message, SameMessage}
 use Rattle.message.specs.Theorems.{declared}
@@ -18,8 +20,6 @@ use Rattle.steps.specs.Values.{NodeRight}
 use Rattle.steps.specs.Facts.{factsOf, sameTerm}
 use Rattle.steps.specs.Facts.Laws.{term-decides}
 use Rattle.steps.specs.Facts.Messages.{each, MessageFact, IsMessage, message, IsMessages, messageFact, IsNode, messagesOf, facts-messages}
-use Rattle.property.specs.Reflects.{Reflects, reflects-exactly, alike}
-use Rattle.property.specs.Pairs.{Pairs, nothing, more, pairs-map}
 use Rattle.property.specs.Formula.{Formula}
 use Rattle.property.specs.Fit.{IsFit}
 use Rattle.property.specs.Meaning.Alike.{LikeFact, LikeTrace}

@@ -5,9 +5,6 @@ use Prim.Native.Nat.{_-_}
 use mathlib.Core.Path.{sym, _∙_}
 use Rattle.judge.proofs.entries.next_of.Statement.{statement}
 use Rattle.judge.proofs.entries.next_of.Tie as tie
-use Rattle.judge.proofs.entries.next_of.Reads as reads
-use Rattle.judge.proofs.entries.next_of.Lts as lts
-use Rattle.judge.proofs.reading.wide.Reads as wide-reads
 
 abbrev Inv-loop : tie.InvT-loop
 Inv-loop symbols symbol from count e₀ e =
@@ -17,45 +14,36 @@ abbrev μ-loop : tie.MeasureT-loop
 μ-loop symbols symbol from count e₀ e =
     count - e
 
--- src/entries.rt:23:5
 loop-holds : tie.Need-loop-holds Inv-loop μ-loop
 loop-holds c =
     scanning-begins (c .before .pre .0)
 
--- src/entries.rt:24:26
 mul-wide : tie.Need-mul-wide Inv-loop μ-loop
 mul-wide c = search needs
 
--- src/entries.rt:24:26
 shared-slice-read-wide : tie.Need-shared-slice-read-wide Inv-loop μ-loop
 shared-slice-read-wide c =
     omega (arith, c .before .before .before .before .pre .1)
 
--- src/entries.rt:24:12
 wide-requires : tie.Need-wide-requires Inv-loop μ-loop
 wide-requires c κs =
     tt
 
--- src/entries.rt:25:13
 returns : tie.Need-returns Inv-loop μ-loop
 returns c =
     scanning-found (omega arith) (c .before .before .before .before .loop .inv) (sym (c .before .wide .ensures) ∙ c .if1 .taken)
 
--- src/entries.rt:27:9
 add-e : tie.Need-add-e Inv-loop μ-loop
 add-e c = search needs
 
--- src/entries.rt:23:5
 loop-less : tie.Need-loop-less Inv-loop μ-loop
 loop-less c =
     omega arith
 
--- src/entries.rt:23:5
 loop-again : tie.Need-loop-again Inv-loop μ-loop
 loop-again c =
     scanning-next (omega arith) (c .before .before .before .before .loop .inv) (λ q. c .if1 .left (c .before .wide .ensures ∙ q))
 
--- src/entries.rt:18:1
 returns-2 : tie.Need-returns-2 Inv-loop μ-loop
 returns-2 c =
     scanning-ends (λ z. omega arith) (c .before .loop .inv)

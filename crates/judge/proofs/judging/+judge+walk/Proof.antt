@@ -1,13 +1,13 @@
 use Rattle.judge.specs.Judging.Returns.{body-formed, body-fits, body-ends}
 use Rattle.judge.specs.Judging.Returns.{fits-inside, says-false, says-atom, fits-left, fits-right, says-pair, fits-body, says-quant}
-use Rattle.judge.specs.Judging.Walking.{Walking, walking-begins, walking-ends, walking-miss, walking-match}
+use Rattle.judge.specs.Judging.Walking.{Walking, walking-begins, walking-behind, walking-ends, walking-miss, walking-match}
 use Rattle.judge.specs.Tables.{total, Next}
 use lib.ListN.{length}
 use native.Mathlib.Omega.{arith}
 use Prim.Native.Nat.{ℕ, _<_, _+_, _-_, _*_}
 use mathlib.Core.Logic.{⊎-elim}
 use mathlib.Core.Bool.{Bool}
-use mathlib.Core.Path.{refl, sym, subst, _∙_}
+use mathlib.Core.Path.{refl, sym, subst, subst₂, _∙_}
 use Prim.Native.Nat.{ℕ, _<_}
 use borrow.Fn.Kinds.{In}
 use borrow.Fn.PlainCycle.{Measures, is, falls, and}
@@ -50,7 +50,6 @@ walk-at t = and 5 walk-kinds.ps (is 5 walk-kinds.ps μ-walk t) walk.Pre
 abbrev walk-below : ℕ → In 5 walk-kinds.ps
 walk-below t = and 5 walk-kinds.ps (falls 5 walk-kinds.ps _<_ μ-walk t) walk.Pre
 
--- src/judging.rt:139:9
 judge-read-requires : (t : ℕ) → judge-lts.Need-read-requires (
   read-reads.Asked,
   read-reads.Learnt,
@@ -70,7 +69,6 @@ judge-read-requires : (t : ℕ) → judge-lts.Need-read-requires (
 judge-read-requires t c κs =
     tt
 
--- src/judging.rt:141:9
 judge-returns : (t : ℕ) → judge-lts.Need-returns (
   read-reads.Asked,
   read-reads.Learnt,
@@ -88,9 +86,10 @@ judge-returns : (t : ℕ) → judge-lts.Need-returns (
   walk.Post,
 ) (judge-at t) judge.Post
 judge-returns t c =
-    says-false (c .before .before .before .before .before .before .before .before .args .starts .now) (c .before .before .before .before .before .before .before .before .args .symbols .now) (c .before .before .before .before .before .before .before .before .args .classes .now) (c .before .before .before .before .before .before .before .before .args .base) (c .before .before .before .before .before .before .before .before .args .file .now) (c .before .before .before .before .before .before .before .before .args .arities .now) (c .before .before .before .before .before .before .before .before .args .bound .count) (c .before .before .before .before .before .before .before .before .args .bound .values) (c .before .before .read .ensures) (c .if1 .taken)
+    let c8 = c .before .before .before .before .before .before .before .before in
+    says-false (c8 .args .starts .now) (c8 .args .symbols .now) (c8 .args .classes .now) (c8 .args .base) (c8 .args .file .now) (c8 .args .arities .now)
+    (c8 .args .bound .count) (c8 .args .bound .values) (c .before .before .read .ensures) (c .if1 .taken)
 
--- src/judging.rt:147:13
 judge-atom-requires : (t : ℕ) → judge-lts.Need-atom-requires (
   read-reads.Asked,
   read-reads.Learnt,
@@ -110,7 +109,6 @@ judge-atom-requires : (t : ℕ) → judge-lts.Need-atom-requires (
 judge-atom-requires t c κs =
     c .before .before .before .before .before .before .before .before .before .before .pre .1 .1
 
--- src/judging.rt:148:13
 judge-sign-requires : (t : ℕ) → judge-lts.Need-sign-requires (
   read-reads.Asked,
   read-reads.Learnt,
@@ -130,7 +128,6 @@ judge-sign-requires : (t : ℕ) → judge-lts.Need-sign-requires (
 judge-sign-requires t c κs =
     tt
 
--- src/judging.rt:149:9
 judge-returns-2 : (t : ℕ) → judge-lts.Need-returns-2 (
   read-reads.Asked,
   read-reads.Learnt,
@@ -148,9 +145,14 @@ judge-returns-2 : (t : ℕ) → judge-lts.Need-returns-2 (
   walk.Post,
 ) (judge-at t) judge.Post
 judge-returns-2 t c =
-    says-atom (c .before .before .before .before .before .before .before .before .before .before .before .before .before .args .starts .now) (c .before .before .before .before .before .before .before .before .before .before .before .before .before .args .symbols .now) (c .before .before .before .before .before .before .before .before .before .before .before .before .before .args .classes .now) (c .before .before .before .before .before .before .before .before .before .before .before .before .before .args .base) (c .before .before .before .before .before .before .before .before .before .before .before .before .before .args .file .now) (c .before .before .before .before .before .before .before .before .before .before .before .before .before .args .arities .now) (c .before .before .before .before .before .before .before .before .before .before .before .before .before .args .bound .count) (c .before .before .before .before .before .before .before .before .before .before .before .before .before .args .bound .values) (c .before .before .before .before .before .before .before .read .ensures) (c .before .before .before .before .before .if1 .left) (c .before .before .before .if2 .taken) (c .before .before .atom .ensures) (c .sign .ensures)
+    let c3 = c .before .before .before in
+    let c5 = c3 .before .before in
+    let c7 = c5 .before .before in
+    let c13 = c7 .before .before .before .before .before .before in
+    says-atom (c13 .args .starts .now) (c13 .args .symbols .now) (c13 .args .classes .now) (c13 .args .base) (c13 .args .file .now) (c13 .args .arities .now)
+    (c13 .args .bound .count) (c13 .args .bound .values) (c7 .read .ensures) (c5 .if1 .left) (c3 .if2 .taken) (c .before .before .atom .ensures)
+    (c .sign .ensures)
 
--- src/judging.rt:155:13
 judge-judge-requires : (t : ℕ) → judge-lts.Need-judge-requires (
   read-reads.Asked,
   read-reads.Learnt,
@@ -168,10 +170,19 @@ judge-judge-requires : (t : ℕ) → judge-lts.Need-judge-requires (
   walk.Post,
 ) (judge-at t) judge.Post
 judge-judge-requires t c κs =
-    let p = fits-inside (c .before .before .before .before .before .before .before .before .before .before .before .before .args .starts .now) (c .before .before .before .before .before .before .before .before .before .before .before .before .args .symbols .now) (c .before .before .before .before .before .before .before .before .before .before .before .before .args .classes .now) (c .before .before .before .before .before .before .before .before .before .before .before .before .args .base) (c .before .before .before .before .before .before .before .before .before .before .before .before .args .file .now) (c .before .before .before .before .before .before .before .before .before .before .before .before .args .arities .now) (c .before .before .before .before .before .before .before .before .before .before .before .before .args .bound .count) (c .before .before .before .before .before .before .before .before .before .before .before .before .args .bound .values) (c .before .before .before .before .before .before .read .ensures) (c .before .before .before .before .before .before .before .before .before .before .before .before .pre .1 .0) in
-    (omega (arith, c .before .before .before .before .before .before .before .before .before .before .before .before .pre .0, p .0, p .1), (fits-left (c .before .before .before .before .before .before .before .before .before .before .before .before .args .starts .now) (c .before .before .before .before .before .before .before .before .before .before .before .before .args .symbols .now) (c .before .before .before .before .before .before .before .before .before .before .before .before .args .classes .now) (c .before .before .before .before .before .before .before .before .before .before .before .before .args .base) (c .before .before .before .before .before .before .before .before .before .before .before .before .args .file .now) (c .before .before .before .before .before .before .before .before .before .before .before .before .args .arities .now) (c .before .before .before .before .before .before .before .before .before .before .before .before .args .bound .count) (c .before .before .before .before .before .before .before .before .before .before .before .before .args .bound .values) (c .before .before .before .before .before .before .read .ensures) (c .before .before .if2 .left) (c .if3 .taken) (c .before .before .before .before .before .before .before .before .before .before .before .before .pre .1 .0), c .before .before .before .before .before .before .before .before .before .before .before .before .pre .1 .1))
+    let c6 = c .before .before .before .before .before .before in
+    let c12 = c6 .before .before .before .before .before .before in
+    let p = fits-inside (c12 .args .starts .now) (c12 .args .symbols .now) (c12 .args .classes .now) (c12 .args .base) (c12 .args .file .now)
+    (c12 .args .arities .now) (c12 .args .bound .count) (c12 .args .bound .values) (c6 .read .ensures) (c12 .pre .1 .0) in (
+      omega (arith, c12 .pre .0, p .0, p .1),
+      (
+        fits-left (c12 .args .starts .now) (c12 .args .symbols .now) (c12 .args .classes .now) (c12 .args .base)
+            (c12 .args .file .now) (c12 .args .arities .now) (c12 .args .bound .count) (c12 .args .bound .values) (c6 .read .ensures)
+            (c .before .before .if2 .left) (c .if3 .taken) (c12 .pre .1 .0),
+        c12 .pre .1 .1,
+      ),
+    )
 
--- src/judging.rt:156:13
 judge-judge-requires-2 : (t : ℕ) → judge-lts.Need-judge-requires-2 (
   read-reads.Asked,
   read-reads.Learnt,
@@ -189,11 +200,16 @@ judge-judge-requires-2 : (t : ℕ) → judge-lts.Need-judge-requires-2 (
   walk.Post,
 ) (judge-at t) judge.Post
 judge-judge-requires-2 t c κs =
-    let p = fits-inside (c .before .before .before .before .before .before .before .before .before .before .before .before .before .args .starts .now) (c .before .before .before .before .before .before .before .before .before .before .before .before .before .args .symbols .now) (c .before .before .before .before .before .before .before .before .before .before .before .before .before .args .classes .now) (c .before .before .before .before .before .before .before .before .before .before .before .before .before .args .base) (c .before .before .before .before .before .before .before .before .before .before .before .before .before .args .file .now) (c .before .before .before .before .before .before .before .before .before .before .before .before .before .args .arities .now) (c .before .before .before .before .before .before .before .before .before .before .before .before .before .args .bound .count) (c .before .before .before .before .before .before .before .before .before .before .before .before .before .args .bound .values) (c .before .before .before .before .before .before .before .read .ensures) (c .before .before .before .before .before .before .before .before .before .before .before .before .before .pre .1 .0) in
-    let w = fits-right (c .before .before .before .before .before .before .before .before .before .before .before .before .before .args .starts .now) (c .before .before .before .before .before .before .before .before .before .before .before .before .before .args .symbols .now) (c .before .before .before .before .before .before .before .before .before .before .before .before .before .args .classes .now) (c .before .before .before .before .before .before .before .before .before .before .before .before .before .args .base) (c .before .before .before .before .before .before .before .before .before .before .before .before .before .args .file .now) (c .before .before .before .before .before .before .before .before .before .before .before .before .before .args .arities .now) (c .before .before .before .before .before .before .before .before .before .before .before .before .before .args .bound .count) (c .before .before .before .before .before .before .before .before .before .before .before .before .before .args .bound .values) (c .before .before .before .before .before .before .before .read .ensures) (c .before .before .before .if2 .left) (c .before .if3 .taken) (c .judge .ensures) (c .before .before .before .before .before .before .before .before .before .before .before .before .before .pre .1 .0) in
-    (omega (arith, c .before .before .before .before .before .before .before .before .before .before .before .before .before .pre .0, p .0, p .1, w .1), (w .0, c .before .before .before .before .before .before .before .before .before .before .before .before .before .pre .1 .1))
+    let c3 = c .before .before .before in
+    let c7 = c3 .before .before .before .before in
+    let c13 = c7 .before .before .before .before .before .before in
+    let p = fits-inside (c13 .args .starts .now) (c13 .args .symbols .now) (c13 .args .classes .now) (c13 .args .base) (c13 .args .file .now)
+    (c13 .args .arities .now) (c13 .args .bound .count) (c13 .args .bound .values) (c7 .read .ensures) (c13 .pre .1 .0) in
+    let w = fits-right (c13 .args .starts .now) (c13 .args .symbols .now) (c13 .args .classes .now) (c13 .args .base) (c13 .args .file .now)
+    (c13 .args .arities .now) (c13 .args .bound .count) (c13 .args .bound .values) (c7 .read .ensures) (c3 .if2 .left) (c .before .if3 .taken)
+    (c .judge .ensures) (c13 .pre .1 .0) in
+    (omega (arith, c13 .pre .0, p .0, p .1, w .1), (w .0, c13 .pre .1 .1))
 
--- src/judging.rt:157:13
 judge-join-requires : (t : ℕ) → judge-lts.Need-join-requires (
   read-reads.Asked,
   read-reads.Learnt,
@@ -213,7 +229,6 @@ judge-join-requires : (t : ℕ) → judge-lts.Need-join-requires (
 judge-join-requires t c κs =
     tt
 
--- src/judging.rt:158:9
 judge-returns-3 : (t : ℕ) → judge-lts.Need-returns-3 (
   read-reads.Asked,
   read-reads.Learnt,
@@ -231,9 +246,15 @@ judge-returns-3 : (t : ℕ) → judge-lts.Need-returns-3 (
   walk.Post,
 ) (judge-at t) judge.Post
 judge-returns-3 t c =
-    says-pair (c .before .before .before .before .before .before .before .before .before .before .before .before .before .before .before .before .args .starts .now) (c .before .before .before .before .before .before .before .before .before .before .before .before .before .before .before .before .args .symbols .now) (c .before .before .before .before .before .before .before .before .before .before .before .before .before .before .before .before .args .classes .now) (c .before .before .before .before .before .before .before .before .before .before .before .before .before .before .before .before .args .base) (c .before .before .before .before .before .before .before .before .before .before .before .before .before .before .before .before .args .file .now) (c .before .before .before .before .before .before .before .before .before .before .before .before .before .before .before .before .args .arities .now) (c .before .before .before .before .before .before .before .before .before .before .before .before .before .before .before .before .args .bound .count) (c .before .before .before .before .before .before .before .before .before .before .before .before .before .before .before .before .args .bound .values) (c .before .before .before .before .before .before .before .before .before .before .read .ensures) (c .before .before .before .before .before .before .if2 .left) (c .before .before .before .before .if3 .taken) (c .before .before .before .judge .ensures) (c .before .before .judge2 .ensures) (c .join .ensures)
+    let c3 = c .before .before .before in
+    let c4 = c3 .before in
+    let c6 = c4 .before .before in
+    let c10 = c6 .before .before .before .before in
+    let c16 = c10 .before .before .before .before .before .before in
+    says-pair (c16 .args .starts .now) (c16 .args .symbols .now) (c16 .args .classes .now) (c16 .args .base) (c16 .args .file .now) (c16 .args .arities .now)
+    (c16 .args .bound .count) (c16 .args .bound .values) (c10 .read .ensures) (c6 .if2 .left) (c4 .if3 .taken) (c3 .judge .ensures)
+    (c .before .before .judge2 .ensures) (c .join .ensures)
 
--- src/judging.rt:163:9
 judge-read-guard-requires : (t : ℕ) → judge-lts.Need-read-guard-requires (
   read-reads.Asked,
   read-reads.Learnt,
@@ -253,7 +274,6 @@ judge-read-guard-requires : (t : ℕ) → judge-lts.Need-read-guard-requires (
 judge-read-guard-requires t c κs =
     tt
 
--- src/judging.rt:164:5
 judge-walk-requires : (t : ℕ) → judge-lts.Need-walk-requires (
   read-reads.Asked,
   read-reads.Learnt,
@@ -271,11 +291,15 @@ judge-walk-requires : (t : ℕ) → judge-lts.Need-walk-requires (
   walk.Post,
 ) (judge-at t) judge.Post
 judge-walk-requires t c κs =
-    let p = fits-inside (c .before .before .before .before .before .before .before .before .before .before .before .before .before .before .args .starts .now) (c .before .before .before .before .before .before .before .before .before .before .before .before .before .before .args .symbols .now) (c .before .before .before .before .before .before .before .before .before .before .before .before .before .before .args .classes .now) (c .before .before .before .before .before .before .before .before .before .before .before .before .before .before .args .base) (c .before .before .before .before .before .before .before .before .before .before .before .before .before .before .args .file .now) (c .before .before .before .before .before .before .before .before .before .before .before .before .before .before .args .arities .now) (c .before .before .before .before .before .before .before .before .before .before .before .before .before .before .args .bound .count) (c .before .before .before .before .before .before .before .before .before .before .before .before .before .before .args .bound .values) (c .before .before .before .before .before .before .before .before .read .ensures) (c .before .before .before .before .before .before .before .before .before .before .before .before .before .before .pre .1 .0) in
-    let w = fits-body (c .before .before .before .before .before .before .before .before .before .before .before .before .before .before .args .starts .now) (c .before .before .before .before .before .before .before .before .before .before .before .before .before .before .args .symbols .now) (c .before .before .before .before .before .before .before .before .before .before .before .before .before .before .args .classes .now) (c .before .before .before .before .before .before .before .before .before .before .before .before .before .before .args .base) (c .before .before .before .before .before .before .before .before .before .before .before .before .before .before .args .file .now) (c .before .before .before .before .before .before .before .before .before .before .before .before .before .before .args .arities .now) (c .before .before .before .before .before .before .before .before .before .before .before .before .before .before .args .bound .count) (c .before .before .before .before .before .before .before .before .before .before .before .before .before .before .args .bound .values) (c .before .before .before .before .before .before .before .before .read .ensures) (c .before .before .if3 .left) (c .read-guard .ensures .0) (c .before .before .before .before .before .before .before .before .before .before .before .before .before .before .pre .1 .0) in
-    (omega (arith, c .before .before .before .before .before .before .before .before .before .before .before .before .before .before .pre .0, p .0, p .1, w .1), (w .0, c .before .before .before .before .before .before .before .before .before .before .before .before .before .before .pre .1 .1, c .read-guard .ensures .0 .few))
+    let c8 = c .before .before .before .before .before .before .before .before in
+    let c14 = c8 .before .before .before .before .before .before in
+    let p = fits-inside (c14 .args .starts .now) (c14 .args .symbols .now) (c14 .args .classes .now) (c14 .args .base) (c14 .args .file .now)
+    (c14 .args .arities .now) (c14 .args .bound .count) (c14 .args .bound .values) (c8 .read .ensures) (c14 .pre .1 .0) in
+    let w = fits-body (c14 .args .starts .now) (c14 .args .symbols .now) (c14 .args .classes .now) (c14 .args .base) (c14 .args .file .now)
+    (c14 .args .arities .now) (c14 .args .bound .count) (c14 .args .bound .values) (c8 .read .ensures) (c .before .before .if3 .left)
+    (c .read-guard .ensures .0) (c14 .pre .1 .0) in
+    (omega (arith, c14 .pre .0, p .0, p .1, w .1), (w .0, c14 .pre .1 .1, c .read-guard .ensures .0 .few))
 
--- src/judging.rt:126:1
 judge-returns-4 : (t : ℕ) → judge-lts.Need-returns-4 (
   read-reads.Asked,
   read-reads.Learnt,
@@ -293,22 +317,24 @@ judge-returns-4 : (t : ℕ) → judge-lts.Need-returns-4 (
   walk.Post,
 ) (judge-at t) judge.Post
 judge-returns-4 t c =
-    says-quant (c .before .before .before .before .before .before .before .before .before .before .before .before .before .before .before .args .starts .now) (c .before .before .before .before .before .before .before .before .before .before .before .before .before .before .before .args .symbols .now) (c .before .before .before .before .before .before .before .before .before .before .before .before .before .before .before .args .classes .now) (c .before .before .before .before .before .before .before .before .before .before .before .before .before .before .before .args .base) (c .before .before .before .before .before .before .before .before .before .before .before .before .before .before .before .args .file .now) (c .before .before .before .before .before .before .before .before .before .before .before .before .before .before .before .args .arities .now) (c .before .before .before .before .before .before .before .before .before .before .before .before .before .before .before .args .bound .count) (c .before .before .before .before .before .before .before .before .before .before .before .before .before .before .before .args .bound .values) (c .before .before .before .before .before .before .before .before .before .read .ensures) (c .before .before .before .if3 .left) (c .before .read-guard .ensures .0) (c .before .read-guard .ensures .1) (c .walk .ensures)
+    let c3 = c .before .before .before in
+    let c9 = c3 .before .before .before .before .before .before in
+    let c15 = c9 .before .before .before .before .before .before in
+    says-quant (c15 .args .starts .now) (c15 .args .symbols .now) (c15 .args .classes .now) (c15 .args .base) (c15 .args .file .now) (c15 .args .arities .now)
+    (c15 .args .bound .count) (c15 .args .bound .values) (c9 .read .ensures) (c3 .if3 .left) (c .before .read-guard .ensures .0)
+    (c .before .read-guard .ensures .1) (c .walk .ensures)
 
 abbrev walk-Inv-loop : walk-lts.InvT-loop
-walk-Inv-loop file guard arities starts symbols classes base bound fact inner count next truth₀ node₀ e₀ truth node e =
-    Walking starts symbols classes base file arities guard (bound .count) (bound .values) truth node e
+walk-Inv-loop file guard arities starts symbols classes base bound fact inner count truth₀ next₀ node₀ e₀ truth next node e =
+    Walking starts symbols classes base file arities guard (bound .count) (bound .values) truth next node e
 
 abbrev walk-μ-loop : walk-lts.MeasureT-loop
-walk-μ-loop file guard arities starts symbols classes base bound fact inner count next truth₀ node₀ e₀ truth node e =
+walk-μ-loop file guard arities starts symbols classes base bound fact inner count truth₀ next₀ node₀ e₀ truth next node e =
     count - e
 
--- src/judging.rt:182:17
 walk-add-inner : (t : ℕ) → walk-lts.Need-add-inner (
   total-reads.Asked,
   total-reads.Learnt,
-  skip-reads.Asked,
-  skip-reads.Learnt,
   next-of-reads.Asked,
   next-of-reads.Learnt,
   node-of-reads.Asked,
@@ -319,16 +345,15 @@ walk-add-inner : (t : ℕ) → walk-lts.Need-add-inner (
   judge.Post,
   join-reads.Asked,
   join-reads.Learnt,
+  skip-reads.Asked,
+  skip-reads.Learnt,
 ) (walk-at t) walk.Post walk-Inv-loop walk-μ-loop
 walk-add-inner t c =
     omega (arith, body-fits (c .before .before .before .before .before .before .before .before .pre .1 .0) refl .1)
 
--- src/judging.rt:183:9
 walk-total-requires : (t : ℕ) → walk-lts.Need-total-requires (
   total-reads.Asked,
   total-reads.Learnt,
-  skip-reads.Asked,
-  skip-reads.Learnt,
   next-of-reads.Asked,
   next-of-reads.Learnt,
   node-of-reads.Asked,
@@ -339,36 +364,15 @@ walk-total-requires : (t : ℕ) → walk-lts.Need-total-requires (
   judge.Post,
   join-reads.Asked,
   join-reads.Learnt,
+  skip-reads.Asked,
+  skip-reads.Learnt,
 ) (walk-at t) walk.Post walk-Inv-loop walk-μ-loop
 walk-total-requires t c κs =
     c .before .before .before .before .before .before .before .before .pre .1 .1 .some
 
--- src/judging.rt:184:9
-walk-skip-requires : (t : ℕ) → walk-lts.Need-skip-requires (
-  total-reads.Asked,
-  total-reads.Learnt,
-  skip-reads.Asked,
-  skip-reads.Learnt,
-  next-of-reads.Asked,
-  next-of-reads.Learnt,
-  node-of-reads.Asked,
-  node-of-reads.Learnt,
-  match-guard-reads.Asked,
-  match-guard-reads.Learnt,
-  judge-below t,
-  judge.Post,
-  join-reads.Asked,
-  join-reads.Learnt,
-) (walk-at t) walk.Post walk-Inv-loop walk-μ-loop
-walk-skip-requires t c κs =
-    body-formed (c .before .before .before .before .before .before .before .before .before .pre .1 .0)
-
--- src/judging.rt:187:9
 walk-next-of-requires : (t : ℕ) → walk-lts.Need-next-of-requires (
   total-reads.Asked,
   total-reads.Learnt,
-  skip-reads.Asked,
-  skip-reads.Learnt,
   next-of-reads.Asked,
   next-of-reads.Learnt,
   node-of-reads.Asked,
@@ -379,16 +383,15 @@ walk-next-of-requires : (t : ℕ) → walk-lts.Need-next-of-requires (
   judge.Post,
   join-reads.Asked,
   join-reads.Learnt,
+  skip-reads.Asked,
+  skip-reads.Learnt,
 ) (walk-at t) walk.Post walk-Inv-loop walk-μ-loop
 walk-next-of-requires t c κs =
-    (omega arith, omega (arith, c .before .total .ensures, c .before .before .before .before .before .before .before .before .before .before .pre .1 .1 .known))
+    (omega arith, omega (arith, c .total .ensures, c .before .before .before .before .before .before .before .before .before .pre .1 .1 .known))
 
--- src/judging.rt:188:5
 walk-loop-holds : (t : ℕ) → walk-lts.Need-loop-holds (
   total-reads.Asked,
   total-reads.Learnt,
-  skip-reads.Asked,
-  skip-reads.Learnt,
   next-of-reads.Asked,
   next-of-reads.Learnt,
   node-of-reads.Asked,
@@ -399,16 +402,18 @@ walk-loop-holds : (t : ℕ) → walk-lts.Need-loop-holds (
   judge.Post,
   join-reads.Asked,
   join-reads.Learnt,
+  skip-reads.Asked,
+  skip-reads.Learnt,
 ) (walk-at t) walk.Post walk-Inv-loop walk-μ-loop
 walk-loop-holds t c =
-    walking-begins (c .before .before .before .before .before .before .before .before .before .before .before .pre .1 .1) (c .before .before .before .before .before .before .before .before .before .before .before .args .base) (c .before .before .before .before .before .before .before .before .before .before .before .args .file .now) (c .before .before .before .before .before .before .before .before .before .before .before .args .arities .now) (c .before .before .before .before .before .before .before .before .before .before .before .args .guard) (c .before .before .before .before .before .before .before .before .before .before .before .args .bound .count) (c .before .before .before .before .before .before .before .before .before .before .before .args .bound .values) (subst (λ (k : ℕ). Next (c .before .before .before .before .before .before .before .before .before .before .before .args .symbols .now) (c .before .before .before .before .before .before .before .before .before .before .before .args .guard .fact .symbol) 0 k (c .next-of .result)) (c .before .before .total .ensures) (c .next-of .ensures))
+    let c10 = c .before .before .before .before .before .before .before .before .before .before in
+    walking-begins (c10 .pre .1 .1) (c10 .args .base) (c10 .args .file .now) (c10 .args .arities .now) (c10 .args .guard) (c10 .args .bound .count)
+    (c10 .args .bound .values) (subst (λ (k : ℕ). Next (c10 .args .symbols .now) (c10 .args .guard .fact .symbol) 0 k (c .next-of .result))
+    (c .before .total .ensures) (c .next-of .ensures))
 
--- src/judging.rt:189:9
 walk-node-of-requires : (t : ℕ) → walk-lts.Need-node-of-requires (
   total-reads.Asked,
   total-reads.Learnt,
-  skip-reads.Asked,
-  skip-reads.Learnt,
   next-of-reads.Asked,
   next-of-reads.Learnt,
   node-of-reads.Asked,
@@ -419,16 +424,15 @@ walk-node-of-requires : (t : ℕ) → walk-lts.Need-node-of-requires (
   judge.Post,
   join-reads.Asked,
   join-reads.Learnt,
+  skip-reads.Asked,
+  skip-reads.Learnt,
 ) (walk-at t) walk.Post walk-Inv-loop walk-μ-loop
 walk-node-of-requires t c κs =
-    (c .before .loop .inv .stands .past, omega (arith, c .before .before .before .before .total .ensures))
+    (c .before .loop .inv .stands .past, omega (arith, c .before .before .before .total .ensures))
 
--- src/judging.rt:190:13
 walk-match-guard-requires : (t : ℕ) → walk-lts.Need-match-guard-requires (
   total-reads.Asked,
   total-reads.Learnt,
-  skip-reads.Asked,
-  skip-reads.Learnt,
   next-of-reads.Asked,
   next-of-reads.Learnt,
   node-of-reads.Asked,
@@ -439,16 +443,17 @@ walk-match-guard-requires : (t : ℕ) → walk-lts.Need-match-guard-requires (
   judge.Post,
   join-reads.Asked,
   join-reads.Learnt,
+  skip-reads.Asked,
+  skip-reads.Learnt,
 ) (walk-at t) walk.Post walk-Inv-loop walk-μ-loop
 walk-match-guard-requires t c κs =
-    (c .before .before .before .before .before .before .before .before .before .before .before .before .before .before .pre .1 .2, omega (arith, c .node-of .ensures .inside, c .before .before .before .before .before .before .before .before .before .before .before .before .before .before .pre .1 .1 .few), omega (arith, c .before .before .before .before .before .total .ensures, c .before .before .before .before .before .before .before .before .before .before .before .before .before .before .pre .1 .1 .wide))
+    let c4 = c .before .before .before .before in
+    let c13 = c4 .before .before .before .before .before .before .before .before .before in
+    (c13 .pre .1 .2, omega (arith, c .node-of .ensures .inside, c13 .pre .1 .1 .few), omega (arith, c4 .total .ensures, c13 .pre .1 .1 .wide))
 
--- src/judging.rt:197:17
 walk-judge-requires : (t : ℕ) → walk-lts.Need-judge-requires (
   total-reads.Asked,
   total-reads.Learnt,
-  skip-reads.Asked,
-  skip-reads.Learnt,
   next-of-reads.Asked,
   next-of-reads.Learnt,
   node-of-reads.Asked,
@@ -459,16 +464,16 @@ walk-judge-requires : (t : ℕ) → walk-lts.Need-judge-requires (
   judge.Post,
   join-reads.Asked,
   join-reads.Learnt,
+  skip-reads.Asked,
+  skip-reads.Learnt,
 ) (walk-at t) walk.Post walk-Inv-loop walk-μ-loop
 walk-judge-requires t c κs =
-    (omega (arith, c .before .before .before .before .before .before .before .before .before .before .before .before .before .before .before .before .before .pre .0), (body-fits (c .before .before .before .before .before .before .before .before .before .before .before .before .before .before .before .before .before .pre .1 .0) refl .0, c .before .before .before .before .before .before .before .before .before .before .before .before .before .before .before .before .before .pre .1 .1))
+    let c16 = c .before .before .before .before .before .before .before .before .before .before .before .before .before .before .before .before in
+    (omega (arith, c16 .pre .0), (body-fits (c16 .pre .1 .0) refl .0, c16 .pre .1 .1))
 
--- src/judging.rt:198:13
 walk-join-requires : (t : ℕ) → walk-lts.Need-join-requires (
   total-reads.Asked,
   total-reads.Learnt,
-  skip-reads.Asked,
-  skip-reads.Learnt,
   next-of-reads.Asked,
   next-of-reads.Learnt,
   node-of-reads.Asked,
@@ -479,16 +484,15 @@ walk-join-requires : (t : ℕ) → walk-lts.Need-join-requires (
   judge.Post,
   join-reads.Asked,
   join-reads.Learnt,
+  skip-reads.Asked,
+  skip-reads.Learnt,
 ) (walk-at t) walk.Post walk-Inv-loop walk-μ-loop
 walk-join-requires t c κs =
     tt
 
--- src/judging.rt:200:52
 walk-add-next-of : (t : ℕ) → walk-lts.Need-add-next-of (
   total-reads.Asked,
   total-reads.Learnt,
-  skip-reads.Asked,
-  skip-reads.Learnt,
   next-of-reads.Asked,
   next-of-reads.Learnt,
   node-of-reads.Asked,
@@ -499,16 +503,15 @@ walk-add-next-of : (t : ℕ) → walk-lts.Need-add-next-of (
   judge.Post,
   join-reads.Asked,
   join-reads.Learnt,
+  skip-reads.Asked,
+  skip-reads.Learnt,
 ) (walk-at t) walk.Post walk-Inv-loop walk-μ-loop
 walk-add-next-of t c =
-    omega (arith, c .before .before .before .before .before .before .before .total .ensures)
+    omega (arith, c .before .before .before .before .before .before .total .ensures)
 
--- src/judging.rt:200:9
 walk-next-of-requires-2 : (t : ℕ) → walk-lts.Need-next-of-requires-2 (
   total-reads.Asked,
   total-reads.Learnt,
-  skip-reads.Asked,
-  skip-reads.Learnt,
   next-of-reads.Asked,
   next-of-reads.Learnt,
   node-of-reads.Asked,
@@ -519,16 +522,17 @@ walk-next-of-requires-2 : (t : ℕ) → walk-lts.Need-next-of-requires-2 (
   judge.Post,
   join-reads.Asked,
   join-reads.Learnt,
+  skip-reads.Asked,
+  skip-reads.Learnt,
 ) (walk-at t) walk.Post walk-Inv-loop walk-μ-loop
 walk-next-of-requires-2 t c κs =
-    (omega arith, omega (arith, c .before .before .before .before .before .before .before .total .ensures, c .before .before .before .before .before .before .before .before .before .before .before .before .before .before .before .before .pre .1 .1 .known))
+    let c6 = c .before .before .before .before .before .before in
+    let c15 = c6 .before .before .before .before .before .before .before .before .before in
+    (omega arith, omega (arith, c6 .total .ensures, c15 .pre .1 .1 .known))
 
--- src/judging.rt:188:5
 walk-loop-less : (t : ℕ) → walk-lts.Need-loop-less (
   total-reads.Asked,
   total-reads.Learnt,
-  skip-reads.Asked,
-  skip-reads.Learnt,
   next-of-reads.Asked,
   next-of-reads.Learnt,
   node-of-reads.Asked,
@@ -539,16 +543,15 @@ walk-loop-less : (t : ℕ) → walk-lts.Need-loop-less (
   judge.Post,
   join-reads.Asked,
   join-reads.Learnt,
+  skip-reads.Asked,
+  skip-reads.Learnt,
 ) (walk-at t) walk.Post walk-Inv-loop walk-μ-loop
 walk-loop-less t c =
     omega (arith, c .next-of2 .ensures .later)
 
--- src/judging.rt:188:5
 walk-loop-again : (t : ℕ) → walk-lts.Need-loop-again (
   total-reads.Asked,
   total-reads.Learnt,
-  skip-reads.Asked,
-  skip-reads.Learnt,
   next-of-reads.Asked,
   next-of-reads.Learnt,
   node-of-reads.Asked,
@@ -559,20 +562,54 @@ walk-loop-again : (t : ℕ) → walk-lts.Need-loop-again (
   judge.Post,
   join-reads.Asked,
   join-reads.Learnt,
+  skip-reads.Asked,
+  skip-reads.Learnt,
 ) (walk-at t) walk.Post walk-Inv-loop walk-μ-loop
 walk-loop-again t c =
-    let next : Next (c .before .before .before .before .before .before .before .before .before .before .before .before .before .before .before .before .before .args .symbols .now) (c .before .before .before .before .before .before .before .before .before .before .before .before .before .before .before .before .before .args .guard .fact .symbol) (c .before .before .before .before .before .loop .e + 1) (total (c .before .before .before .before .before .before .before .before .before .before .before .before .before .before .before .before .before .args .starts .now)) (c .next-of2 .result) = subst (λ (k : ℕ). Next (c .before .before .before .before .before .before .before .before .before .before .before .before .before .before .before .before .before .args .symbols .now) (c .before .before .before .before .before .before .before .before .before .before .before .before .before .before .before .before .before .args .guard .fact .symbol) (c .before .before .before .before .before .loop .e + 1) k (c .next-of2 .result)) (c .before .before .before .before .before .before .before .before .total .ensures) (c .next-of2 .ensures) in
+    let c3 = c .before .before .before in
+    let c5 = c3 .before .before in
+    let c7 = c5 .before .before in
+    let c16 = c7 .before .before .before .before .before .before .before .before .before in
+    let later : Next (c16 .args .symbols .now) (c16 .args .guard .fact .symbol) (c5 .loop .e + 1) (total (c16 .args .starts .now)) (c .next-of2 .result) =
+    subst (λ (k : ℕ). Next (c16 .args .symbols .now) (c16 .args .guard .fact .symbol) (c5 .loop .e + 1) k (c .next-of2 .result)) (c7 .total .ensures)
+    (c .next-of2 .ensures) in
     ⊎-elim
-    (λ w. subst (λ (z : Bool). Walking (c .before .before .before .before .before .before .before .before .before .before .before .before .before .before .before .before .before .args .starts .now) (c .before .before .before .before .before .before .before .before .before .before .before .before .before .before .before .before .before .args .symbols .now) (c .before .before .before .before .before .before .before .before .before .before .before .before .before .before .before .before .before .args .classes .now) (c .before .before .before .before .before .before .before .before .before .before .before .before .before .before .before .before .before .args .base) (c .before .before .before .before .before .before .before .before .before .before .before .before .before .before .before .before .before .args .file .now) (c .before .before .before .before .before .before .before .before .before .before .before .before .before .before .before .before .before .args .arities .now) (c .before .before .before .before .before .before .before .before .before .before .before .before .before .before .before .before .before .args .guard) (c .before .before .before .before .before .before .before .before .before .before .before .before .before .before .before .before .before .args .bound .count) (c .before .before .before .before .before .before .before .before .before .before .before .before .before .before .before .before .before .args .bound .values) z (c .before .before .before .node-of .result) (c .next-of2 .result)) (sym (w .4 ∙ w .3 .ensures)) (walking-match (c .before .before .before .before .before .before .before .before .before .before .before .before .before .before .before .before .before .pre .1 .1) (c .before .before .before .before .before .before .before .before .before .before .before .before .before .before .before .before .before .args .base) (c .before .before .before .before .before .before .before .before .before .before .before .before .before .before .before .before .before .args .file .now) (c .before .before .before .before .before .before .before .before .before .before .before .before .before .before .before .before .before .args .arities .now) (c .before .before .before .before .before .before .before .before .before .before .before .before .before .before .before .before .before .args .guard) (c .before .before .before .before .before .before .before .before .before .before .before .before .before .before .before .before .before .args .bound .count) (c .before .before .before .before .before .before .before .before .before .before .before .before .before .before .before .before .before .args .bound .values) (c .before .before .match-guard .result) (c .before .before .before .node-of .ensures) next (c .before .before .match-guard .ensures (c .before .before .before .before .before .before .before .before .before .before .before .before .before .before .before .before .before .args .symbols .now) (c .before .before .before .before .before .loop .inv .stands .here (omega (arith, c .before .before .before .before .before .before .before .before .total .ensures)))) (c .before .before .before .before .before .loop .inv) (w .0 .taken) refl (w .2 .ensures)))
-    (λ w. subst (λ (z : Bool). Walking (c .before .before .before .before .before .before .before .before .before .before .before .before .before .before .before .before .before .args .starts .now) (c .before .before .before .before .before .before .before .before .before .before .before .before .before .before .before .before .before .args .symbols .now) (c .before .before .before .before .before .before .before .before .before .before .before .before .before .before .before .before .before .args .classes .now) (c .before .before .before .before .before .before .before .before .before .before .before .before .before .before .before .before .before .args .base) (c .before .before .before .before .before .before .before .before .before .before .before .before .before .before .before .before .before .args .file .now) (c .before .before .before .before .before .before .before .before .before .before .before .before .before .before .before .before .before .args .arities .now) (c .before .before .before .before .before .before .before .before .before .before .before .before .before .before .before .before .before .args .guard) (c .before .before .before .before .before .before .before .before .before .before .before .before .before .before .before .before .before .args .bound .count) (c .before .before .before .before .before .before .before .before .before .before .before .before .before .before .before .before .before .args .bound .values) z (c .before .before .before .node-of .result) (c .next-of2 .result)) (sym (w .1)) (walking-miss (c .before .before .before .before .before .before .before .before .before .before .before .before .before .before .before .before .before .pre .1 .1) (c .before .before .before .before .before .before .before .before .before .before .before .before .before .before .before .before .before .args .base) (c .before .before .before .before .before .before .before .before .before .before .before .before .before .before .before .before .before .args .file .now) (c .before .before .before .before .before .before .before .before .before .before .before .before .before .before .before .before .before .args .arities .now) (c .before .before .before .before .before .before .before .before .before .before .before .before .before .before .before .before .before .args .guard) (c .before .before .before .before .before .before .before .before .before .before .before .before .before .before .before .before .before .args .bound .count) (c .before .before .before .before .before .before .before .before .before .before .before .before .before .before .before .before .before .args .bound .values) (c .before .before .match-guard .result) (c .before .before .before .node-of .ensures) next (c .before .before .match-guard .ensures (c .before .before .before .before .before .before .before .before .before .before .before .before .before .before .before .before .before .args .symbols .now) (c .before .before .before .before .before .loop .inv .stands .here (omega (arith, c .before .before .before .before .before .before .before .before .total .ensures)))) (c .before .before .before .before .before .loop .inv) (w .0 .left)))
+    (λ w. subst₂ (λ (z : Bool) (y : ℕ). Walking (c16 .args .starts .now) (c16 .args .symbols .now) (c16 .args .classes .now) (c16 .args .base)
+    (c16 .args .file .now) (c16 .args .arities .now) (c16 .args .guard) (c16 .args .bound .count) (c16 .args .bound .values) z y (c3 .node-of .result)
+    (c .next-of2 .result)) (sym (w .4 ∙ w .3 .ensures)) (sym (w .5)) (walking-match (c16 .pre .1 .1) (c16 .args .base) (c16 .args .file .now)
+    (c16 .args .arities .now) (c16 .args .guard) (c16 .args .bound .count) (c16 .args .bound .values) (c .before .before .match-guard .result)
+    (c3 .node-of .ensures) later (c .before .before .match-guard .ensures (c16 .args .symbols .now)
+    (c5 .loop .inv .stands .here (omega (arith, c7 .total .ensures)))) (c5 .loop .inv) (w .0 .taken) refl (w .2 .ensures)))
+    (λ w. subst₂ (λ (z : Bool) (y : ℕ). Walking (c16 .args .starts .now) (c16 .args .symbols .now) (c16 .args .classes .now) (c16 .args .base)
+    (c16 .args .file .now) (c16 .args .arities .now) (c16 .args .guard) (c16 .args .bound .count) (c16 .args .bound .values) z y (c3 .node-of .result)
+    (c .next-of2 .result)) (sym (w .1)) (sym (w .2)) (walking-miss (c16 .pre .1 .1) (c16 .args .base) (c16 .args .file .now) (c16 .args .arities .now)
+    (c16 .args .guard) (c16 .args .bound .count) (c16 .args .bound .values) (c .before .before .match-guard .result) (c3 .node-of .ensures) later
+    (c .before .before .match-guard .ensures (c16 .args .symbols .now) (c5 .loop .inv .stands .here (omega (arith, c7 .total .ensures)))) (c5 .loop .inv)
+    (w .0 .left)))
     (c .before .if1 .came)
 
--- src/judging.rt:168:1
+walk-skip-requires : (t : ℕ) → walk-lts.Need-skip-requires (
+  total-reads.Asked,
+  total-reads.Learnt,
+  next-of-reads.Asked,
+  next-of-reads.Learnt,
+  node-of-reads.Asked,
+  node-of-reads.Learnt,
+  match-guard-reads.Asked,
+  match-guard-reads.Learnt,
+  judge-below t,
+  judge.Post,
+  join-reads.Asked,
+  join-reads.Learnt,
+  skip-reads.Asked,
+  skip-reads.Learnt,
+) (walk-at t) walk.Post walk-Inv-loop walk-μ-loop
+walk-skip-requires t c κs =
+    body-formed (c .before .before .before .before .before .before .before .before .before .before .before .before .before .pre .1 .0)
+
 walk-returns : (t : ℕ) → walk-lts.Need-returns (
   total-reads.Asked,
   total-reads.Learnt,
-  skip-reads.Asked,
-  skip-reads.Learnt,
   next-of-reads.Asked,
   next-of-reads.Learnt,
   node-of-reads.Asked,
@@ -583,9 +620,39 @@ walk-returns : (t : ℕ) → walk-lts.Need-returns (
   judge.Post,
   join-reads.Asked,
   join-reads.Learnt,
+  skip-reads.Asked,
+  skip-reads.Learnt,
 ) (walk-at t) walk.Post walk-Inv-loop walk-μ-loop
 walk-returns t c =
-    walking-ends (c .before .before .before .before .before .before .before .before .before .before .before .before .before .pre .1 .1) (c .before .before .before .before .before .before .before .before .before .before .before .before .before .args .base) (c .before .before .before .before .before .before .before .before .before .before .before .before .before .args .file .now) (c .before .before .before .before .before .before .before .before .before .before .before .before .before .args .arities .now) (c .before .before .before .before .before .before .before .before .before .before .before .before .before .args .guard) (c .before .before .before .before .before .before .before .before .before .before .before .before .before .args .bound .count) (c .before .before .before .before .before .before .before .before .before .before .before .before .before .args .bound .values) (λ z. omega (arith, c .before .before .before .before .total .ensures)) (c .before .loop .inv) (body-ends (c .before .before .before .skip .ensures))
+    let c3 = c .before .before .before in
+    let c5 = c3 .before .before in
+    let c14 = c5 .before .before .before .before .before .before .before .before .before in
+    walking-ends (c14 .pre .1 .1) (c14 .args .base) (c14 .args .file .now) (c14 .args .arities .now) (c14 .args .guard) (c14 .args .bound .count)
+    (c14 .args .bound .values) (λ z. omega (arith, c5 .total .ensures)) (c3 .loop .inv) (body-ends (c .skip .ensures))
+
+walk-returns-2 : (t : ℕ) → walk-lts.Need-returns-2 (
+  total-reads.Asked,
+  total-reads.Learnt,
+  next-of-reads.Asked,
+  next-of-reads.Learnt,
+  node-of-reads.Asked,
+  node-of-reads.Learnt,
+  match-guard-reads.Asked,
+  match-guard-reads.Learnt,
+  judge-below t,
+  judge.Post,
+  join-reads.Asked,
+  join-reads.Learnt,
+  skip-reads.Asked,
+  skip-reads.Learnt,
+) (walk-at t) walk.Post walk-Inv-loop walk-μ-loop
+walk-returns-2 t c =
+    let c4 = c .before .before .before .before in
+    let c13 = c4 .before .before .before .before .before .before .before .before .before in
+    walking-ends (c13 .pre .1 .1) (c13 .args .base) (c13 .args .file .now) (c13 .args .arities .now) (c13 .args .guard) (c13 .args .bound .count)
+    (c13 .args .bound .values) (λ z. omega (arith, c4 .total .ensures)) (c .before .before .loop .inv)
+    (walking-behind (c13 .pre .1 .1) (c13 .args .base) (c13 .args .file .now) (c13 .args .arities .now) (c13 .args .guard) (c13 .args .bound .count)
+    (c13 .args .bound .values) (c .before .before .loop .inv) (c .if2 .left))
 
 pub +judge+walk-spec : {M : Type 1} → statement M
 +judge+walk-spec = close μ-judge μ-walk (λ t. judge-lts.spec (
@@ -621,8 +688,6 @@ pub +judge+walk-spec : {M : Type 1} → statement M
     λ t. walk-lts.spec (
       total-reads.Asked,
       total-reads.Learnt,
-      skip-reads.Asked,
-      skip-reads.Learnt,
       next-of-reads.Asked,
       next-of-reads.Learnt,
       node-of-reads.Asked,
@@ -633,6 +698,8 @@ pub +judge+walk-spec : {M : Type 1} → statement M
       judge.Post,
       join-reads.Asked,
       join-reads.Learnt,
+      skip-reads.Asked,
+      skip-reads.Learnt,
     )
     (walk-at t)
     walk.Post
@@ -640,7 +707,6 @@ pub +judge+walk-spec : {M : Type 1} → statement M
     walk-μ-loop
     (walk-add-inner t)
     (walk-total-requires t)
-    (walk-skip-requires t)
     (walk-next-of-requires t)
     (walk-loop-holds t)
     (walk-node-of-requires t)
@@ -651,4 +717,6 @@ pub +judge+walk-spec : {M : Type 1} → statement M
     (walk-next-of-requires-2 t)
     (walk-loop-less t)
     (walk-loop-again t)
+    (walk-skip-requires t)
     (walk-returns t)
+    (walk-returns-2 t)

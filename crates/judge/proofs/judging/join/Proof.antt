@@ -3,15 +3,11 @@ use mathlib.Core.Bool.{Bool}
 use mathlib.Core.Path.{ap, sym}
 use Rattle.judge.proofs.judging.join.Statement.{statement}
 use Rattle.judge.proofs.judging.join.Tie as tie
-use Rattle.judge.proofs.judging.join.Reads as reads
-use Rattle.judge.proofs.judging.join.Lts as lts
 
--- src/judging.rt:112:1
 returns : tie.Need-returns
 returns c =
     ap (λ (q : Bool). join q (c .before .args .x) (c .before .args .y)) (sym (c .if1 .taken))
 
--- src/judging.rt:112:1
 returns-2 : tie.Need-returns-2
 returns-2 c =
     ap (λ (q : Bool). join q (c .before .args .x) (c .before .args .y)) (sym (c .if1 .left))

@@ -9,10 +9,6 @@ use mathlib.Core.Bool.{_&&_}
 use mathlib.Core.Path.{_≡_, refl, ap, ap₂, _∙_}
 use Rattle.judge.proofs.matching.agree.Statement.{statement}
 use Rattle.judge.proofs.matching.agree.Tie as tie
-use Rattle.judge.proofs.matching.agree.Reads as reads
-use Rattle.judge.proofs.matching.agree.Lts as lts
-use Rattle.judge.proofs.matching.class_of.Reads as class-of-reads
-use Rattle.judge.proofs.reading.wide.Reads as wide-reads
 
 abbrev Inv-loop : tie.InvT-loop
 Inv-loop codes count classes p values base same₀ j₀ same j =
@@ -22,67 +18,66 @@ abbrev μ-loop : tie.MeasureT-loop
 μ-loop codes count classes p values base same₀ j₀ same j =
     count - j
 
--- src/matching.rt:48:5
 loop-holds : tie.Need-loop-holds Inv-loop μ-loop
 loop-holds c =
     (omega arith, refl)
 
--- src/matching.rt:49:40
 mul-class-of : tie.Need-mul-class-of Inv-loop μ-loop
 mul-class-of c =
     omega (arith, c .before .before .before .pre)
 
--- src/matching.rt:49:40
 element-copy-out-class-of : tie.Need-element-copy-out-class-of Inv-loop μ-loop
 element-copy-out-class-of c =
     omega (arith, c .before .before .before .pre)
 
--- src/matching.rt:49:13
 class-of-requires : tie.Need-class-of-requires Inv-loop μ-loop
 class-of-requires c κs =
     tt
 
--- src/matching.rt:50:51
 add-wide : tie.Need-add-wide Inv-loop μ-loop
 add-wide c =
-    omega (arith, c .before .before .before .before .before .pre, c .before .before .before .before .before .good)
+    let c5 = c .before .before .before .before .before in
+    omega (arith, c5 .pre, c5 .good)
 
--- src/matching.rt:50:43
 mul-wide : tie.Need-mul-wide Inv-loop μ-loop
 mul-wide c =
-    let h : c .before .before .before .before .before .args .p + c .before .before .before .loop .j < length (c .before .before .before .before .before .args .classes .now) = omega (arith, c .before .before .before .before .before .pre) in
+    let c3 = c .before .before .before in
+    let c5 = c3 .before .before in
+    let h : c5 .args .p + c3 .loop .j < length (c5 .args .classes .now) = omega (arith, c5 .pre) in
     search needs
 
--- src/matching.rt:50:43
 shared-slice-read-wide : tie.Need-shared-slice-read-wide Inv-loop μ-loop
 shared-slice-read-wide c =
     omega (arith, c .before .before .before .before .before .before .pre)
 
--- src/matching.rt:50:29
 wide-requires : tie.Need-wide-requires Inv-loop μ-loop
 wide-requires c κs =
     tt
 
--- src/matching.rt:51:9
 add-j : tie.Need-add-j Inv-loop μ-loop
 add-j c =
     omega (arith, c .before .before .before .before .before .before .before .pre)
 
--- src/matching.rt:48:5
 loop-less : tie.Need-loop-less Inv-loop μ-loop
 loop-less c =
     omega arith
 
--- src/matching.rt:48:5
 loop-again : tie.Need-loop-again Inv-loop μ-loop
 loop-again c =
-    (omega arith, ap₂ _&&_ (c .before .before .before .before .before .loop .inv .1) (ap₂ eqb (c .before .before .class-of .ensures) (c .wide .ensures)) ∙ all-step (λ i. eqb (value (c .before .before .before .before .before .before .before .args .base) (c .before .before .before .before .before .before .before .args .values .now) (getD (c .before .before .before .before .before .before .before .args .codes .now) i 0)) (getD (c .before .before .before .before .before .before .before .args .classes .now) (c .before .before .before .before .before .before .before .args .p + i) 0)) (c .before .before .before .before .before .loop .j))
+    let c5 = c .before .before .before .before .before in
+    let c7 = c5 .before .before in (
+      omega arith,
+      ap₂ _&&_ (c5 .loop .inv .1) (ap₂ eqb (c .before .before .class-of .ensures) (c .wide .ensures)) ∙ all-step
+          (λ i. eqb (value (c7 .args .base) (c7 .args .values .now) (getD (c7 .args .codes .now) i 0)) (getD (c7 .args .classes .now) (c7 .args .p + i) 0))
+          (c5 .loop .j),
+    )
 
--- src/matching.rt:42:1
 returns : tie.Need-returns Inv-loop μ-loop
 returns c =
-    let z : c .before .loop .j ≡ c .before .before .before .args .count = omega arith in
-    c .before .loop .inv .1 ∙ ap (allUp (λ i. eqb (value (c .before .before .before .args .base) (c .before .before .before .args .values .now) (getD (c .before .before .before .args .codes .now) i 0)) (getD (c .before .before .before .args .classes .now) (c .before .before .before .args .p + i) 0))) z
+    let c3 = c .before .before .before in
+    let z : c .before .loop .j ≡ c3 .args .count = omega arith in
+    c .before .loop .inv .1 ∙ ap (allUp (λ i. eqb (value (c3 .args .base) (c3 .args .values .now) (getD (c3 .args .codes .now) i 0))
+    (getD (c3 .args .classes .now) (c3 .args .p + i) 0))) z
 
 pub agree-spec : {M : Type 1} → statement M
 agree-spec =

@@ -2,25 +2,19 @@ use Rattle.judge.specs.Bindings.Slots.{put-new, put-old, new-inside}
 use native.Mathlib.Omega.{arith}
 use Rattle.judge.proofs.matching.put.Statement.{statement}
 use Rattle.judge.proofs.matching.put.Tie as tie
-use Rattle.judge.proofs.matching.put.Reads as reads
-use Rattle.judge.proofs.matching.put.Lts as lts
 
--- src/matching.rt:93:9
 mul-values : tie.Need-mul-values
 mul-values c =
     omega (arith, new-inside (c .before .args .n) (c .before .args .t) (c .if1 .taken))
 
--- src/matching.rt:93:9
 element-write-values : tie.Need-element-write-values
 element-write-values c =
     new-inside (c .before .args .n) (c .before .args .t) (c .if1 .taken)
 
--- src/matching.rt:89:1
 returns : tie.Need-returns
 returns c =
     put-new (c .before .args .n) (c .before .args .t) (c .before .args .v) (c .before .args .values .now) (c .if1 .taken)
 
--- src/matching.rt:89:1
 returns-2 : tie.Need-returns-2
 returns-2 c =
     put-old (c .before .args .n) (c .before .args .t) (c .before .args .v) (c .before .args .values .now) (c .if1 .left)

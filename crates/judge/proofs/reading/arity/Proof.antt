@@ -10,34 +10,31 @@ use mathlib.Core.Path.{sym, ap, _∙_}
 use borrow.Author.Needs.{needs}
 use Rattle.judge.proofs.reading.arity.Statement.{statement}
 use Rattle.judge.proofs.reading.arity.Tie as tie
-use Rattle.judge.proofs.reading.arity.Reads as reads
-use Rattle.judge.proofs.reading.arity.Lts as lts
-use Rattle.judge.proofs.reading.byte.Reads as byte-reads
 
--- src/reading.rt:117:9
 returns : tie.Need-returns
 returns c =
-    sym (ap (λ (k : ℕ). pick (leb k mostFactArity) k 0) (List·getD-eq-default (c .before .before .args .arities .now) 0 {n = c .before .before .args .symbol} (omega arith)))
+    sym (ap (λ (k : ℕ). pick (leb k mostFactArity) k 0) (List·getD-eq-default (c .before .before .args .arities .now) 0 {n = c .before .before .args .symbol}
+    (omega arith)))
 
--- src/reading.rt:119:18
 shared-slice-read-byte : tie.Need-shared-slice-read-byte
 shared-slice-read-byte c = search needs
 
--- src/reading.rt:119:9
 byte-requires : tie.Need-byte-requires
 byte-requires c κs = search needs
 
--- src/reading.rt:121:9
 returns-2 : tie.Need-returns-2
 returns-2 c =
+    let c5 = c .before .before .before .before .before in
     let e = c .before .byte .ensures in
-    sym (ap (λ (z : Bool). pick z (getD (c .before .before .before .before .before .args .arities .now) (c .before .before .before .before .before .args .symbol) 0) 0) (gt-leb (getD (c .before .before .before .before .before .args .arities .now) (c .before .before .before .before .before .args .symbol) 0) mostFactArity (omega (arith, e, c .if2 .taken))))
+    sym (ap (λ (z : Bool). pick z (getD (c5 .args .arities .now) (c5 .args .symbol) 0) 0)
+    (gt-leb (getD (c5 .args .arities .now) (c5 .args .symbol) 0) mostFactArity (omega (arith, e, c .if2 .taken))))
 
--- src/reading.rt:113:1
 returns-3 : tie.Need-returns-3
 returns-3 c =
+    let c5 = c .before .before .before .before .before in
     let e = c .before .byte .ensures in
-    e ∙ sym (ap (λ (z : Bool). pick z (getD (c .before .before .before .before .before .args .arities .now) (c .before .before .before .before .before .args .symbol) 0) 0) (le-leb (getD (c .before .before .before .before .before .args .arities .now) (c .before .before .before .before .before .args .symbol) 0) mostFactArity (omega (arith, e, c .if2 .left))))
+    e ∙ sym (ap (λ (z : Bool). pick z (getD (c5 .args .arities .now) (c5 .args .symbol) 0) 0)
+    (le-leb (getD (c5 .args .arities .now) (c5 .args .symbol) 0) mostFactArity (omega (arith, e, c .if2 .left))))
 
 pub arity-spec : {M : Type 1} → statement M
 arity-spec = tie.close (tie.spec returns shared-slice-read-byte byte-requires returns-2 returns-3)

@@ -5,9 +5,6 @@ use Prim.Native.Nat.{ℕ, _-_}
 use native.Mathlib.Omega.{arith}
 use Rattle.judge.proofs.reading.terms.Statement.{statement}
 use Rattle.judge.proofs.reading.terms.Tie as tie
-use Rattle.judge.proofs.reading.terms.Reads as reads
-use Rattle.judge.proofs.reading.terms.Lts as lts
-use Rattle.judge.proofs.reading.term.Reads as term-reads
 
 abbrev Inv-loop : tie.InvT-loop
 Inv-loop file at k codes₀ i₀ j₀ codes i j =
@@ -17,47 +14,40 @@ abbrev μ-loop : tie.MeasureT-loop
 μ-loop file at k codes₀ i₀ j₀ codes i j =
     k - j
 
--- src/reading.rt:86:5
 loop-holds : tie.Need-loop-holds Inv-loop μ-loop
 loop-holds c =
     coding-begins (c .before .args .file .now) (c .before .args .at) (c .before .args .k) _ (length-replicate {A = ℕ} 8 0)
 
--- src/reading.rt:87:13
 term-requires : tie.Need-term-requires Inv-loop μ-loop
 term-requires c κs =
     tt
 
--- src/reading.rt:88:20
 cast-codes : tie.Need-cast-codes Inv-loop μ-loop
 cast-codes c =
     omega (arith, code-fits (c .before .term .ensures))
 
--- src/reading.rt:88:9
 mul-codes : tie.Need-mul-codes Inv-loop μ-loop
 mul-codes c =
     omega (arith, c .before .before .before .before .before .pre)
 
--- src/reading.rt:88:9
 array-write-codes : tie.Need-array-write-codes Inv-loop μ-loop
 array-write-codes c =
     omega (arith, c .before .before .before .before .before .pre)
 
--- src/reading.rt:90:9
 add-j : tie.Need-add-j Inv-loop μ-loop
 add-j c =
     omega (arith, c .before .before .before .before .before .pre)
 
--- src/reading.rt:86:5
 loop-less : tie.Need-loop-less Inv-loop μ-loop
 loop-less c =
     omega arith
 
--- src/reading.rt:86:5
 loop-again : tie.Need-loop-again Inv-loop μ-loop
 loop-again c =
-    coding-next (c .before .before .before .before .before .args .file .now) (omega arith) (c .before .before .before .before .before .pre) (c .before .before .before .loop .inv) (c .before .term .ensures)
+    let c3 = c .before .before .before in
+    let c5 = c3 .before .before in
+    coding-next (c5 .args .file .now) (omega arith) (c5 .pre) (c3 .loop .inv) (c .before .term .ensures)
 
--- src/reading.rt:79:1
 returns : tie.Need-returns Inv-loop μ-loop
 returns c =
     coding-ends (c .before .before .before .args .file .now) (λ z. omega arith) (c .before .loop .inv)

@@ -25,7 +25,6 @@ skip-at t = and 2 skip-kinds.ps (is 2 skip-kinds.ps μ-skip t) skip.Pre
 abbrev skip-below : ℕ → In 2 skip-kinds.ps
 skip-below t = and 2 skip-kinds.ps (falls 2 skip-kinds.ps _<_ μ-skip t) skip.Pre
 
--- src/skipping.rt:32:9
 skip-read-requires : (t : ℕ) → skip-lts.Need-read-requires (
   read-reads.Asked,
   read-reads.Learnt,
@@ -38,7 +37,6 @@ skip-read-requires : (t : ℕ) → skip-lts.Need-read-requires (
 ) (skip-at t) skip.Post
 skip-read-requires t c κs = search needs
 
--- src/skipping.rt:34:9
 skip-returns : (t : ℕ) → skip-lts.Need-returns (
   read-reads.Asked,
   read-reads.Learnt,
@@ -50,9 +48,9 @@ skip-returns : (t : ℕ) → skip-lts.Need-returns (
   read-guard-reads.Learnt,
 ) (skip-at t) skip.Post
 skip-returns t c =
-    past-false (c .before .before .before .before .before .args .file .now) (c .before .before .before .before .before .args .arities .now) (c .before .before .read .ensures) (c .if1 .taken)
+    let c5 = c .before .before .before .before .before in
+    past-false (c5 .args .file .now) (c5 .args .arities .now) (c .before .before .read .ensures) (c .if1 .taken)
 
--- src/skipping.rt:37:9
 skip-skip-atom-requires : (t : ℕ) → skip-lts.Need-skip-atom-requires (
   read-reads.Asked,
   read-reads.Learnt,
@@ -65,7 +63,6 @@ skip-skip-atom-requires : (t : ℕ) → skip-lts.Need-skip-atom-requires (
 ) (skip-at t) skip.Post
 skip-skip-atom-requires t c κs = search needs
 
--- src/skipping.rt:37:9
 skip-returns-2 : (t : ℕ) → skip-lts.Need-returns-2 (
   read-reads.Asked,
   read-reads.Learnt,
@@ -77,9 +74,11 @@ skip-returns-2 : (t : ℕ) → skip-lts.Need-returns-2 (
   read-guard-reads.Learnt,
 ) (skip-at t) skip.Post
 skip-returns-2 t c =
-    past-atom (c .before .before .before .before .before .before .before .before .args .file .now) (c .before .before .before .before .before .before .before .before .args .arities .now) (c .before .before .before .before .before .read .ensures) (c .before .before .before .if1 .left) (c .before .if2 .taken) (c .skip-atom .ensures)
+    let c3 = c .before .before .before in
+    let c5 = c3 .before .before in
+    let c8 = c5 .before .before .before in
+    past-atom (c8 .args .file .now) (c8 .args .arities .now) (c5 .read .ensures) (c3 .if1 .left) (c .before .if2 .taken) (c .skip-atom .ensures)
 
--- src/skipping.rt:40:13
 skip-skip-requires : (t : ℕ) → skip-lts.Need-skip-requires (
   read-reads.Asked,
   read-reads.Learnt,
@@ -91,11 +90,12 @@ skip-skip-requires : (t : ℕ) → skip-lts.Need-skip-requires (
   read-guard-reads.Learnt,
 ) (skip-at t) skip.Post
 skip-skip-requires t c κs =
-    let w = formed-left (c .before .before .before .before .before .before .before .before .before .args .file .now) (c .before .before .before .before .before .before .before .before .before .args .arities .now) (c .before .before .before .before .before .before .read .ensures) (c .before .before .if2 .left) (c .if3 .taken) (c .before .before .before .before .before .before .before .before .before .pre .1) in
-    let p = formed-inside (c .before .before .before .before .before .before .before .before .before .args .file .now) (c .before .before .before .before .before .before .before .before .before .args .arities .now) (c .before .before .before .before .before .before .read .ensures) (c .before .before .before .before .before .before .before .before .before .pre .1) in
-    (omega (arith, c .before .before .before .before .before .before .before .before .before .pre .0, p .0, p .1), w)
+    let c6 = c .before .before .before .before .before .before in
+    let c9 = c6 .before .before .before in
+    let w = formed-left (c9 .args .file .now) (c9 .args .arities .now) (c6 .read .ensures) (c .before .before .if2 .left) (c .if3 .taken) (c9 .pre .1) in
+    let p = formed-inside (c9 .args .file .now) (c9 .args .arities .now) (c6 .read .ensures) (c9 .pre .1) in
+    (omega (arith, c9 .pre .0, p .0, p .1), w)
 
--- src/skipping.rt:41:9
 skip-skip-requires-2 : (t : ℕ) → skip-lts.Need-skip-requires-2 (
   read-reads.Asked,
   read-reads.Learnt,
@@ -107,11 +107,14 @@ skip-skip-requires-2 : (t : ℕ) → skip-lts.Need-skip-requires-2 (
   read-guard-reads.Learnt,
 ) (skip-at t) skip.Post
 skip-skip-requires-2 t c κs =
-    let w = formed-right (c .before .before .before .before .before .before .before .before .before .before .args .file .now) (c .before .before .before .before .before .before .before .before .before .before .args .arities .now) (c .before .before .before .before .before .before .before .read .ensures) (c .before .before .before .if2 .left) (c .before .if3 .taken) (c .skip .ensures) (c .before .before .before .before .before .before .before .before .before .before .pre .1) in
-    let p = formed-inside (c .before .before .before .before .before .before .before .before .before .before .args .file .now) (c .before .before .before .before .before .before .before .before .before .before .args .arities .now) (c .before .before .before .before .before .before .before .read .ensures) (c .before .before .before .before .before .before .before .before .before .before .pre .1) in
-    (omega (arith, c .before .before .before .before .before .before .before .before .before .before .pre .0, p .0, p .1, w .1), w .0)
+    let c3 = c .before .before .before in
+    let c7 = c3 .before .before .before .before in
+    let c10 = c7 .before .before .before in
+    let w = formed-right (c10 .args .file .now) (c10 .args .arities .now) (c7 .read .ensures) (c3 .if2 .left) (c .before .if3 .taken) (c .skip .ensures)
+    (c10 .pre .1) in
+    let p = formed-inside (c10 .args .file .now) (c10 .args .arities .now) (c7 .read .ensures) (c10 .pre .1) in
+    (omega (arith, c10 .pre .0, p .0, p .1, w .1), w .0)
 
--- src/skipping.rt:41:9
 skip-returns-3 : (t : ℕ) → skip-lts.Need-returns-3 (
   read-reads.Asked,
   read-reads.Learnt,
@@ -123,9 +126,12 @@ skip-returns-3 : (t : ℕ) → skip-lts.Need-returns-3 (
   read-guard-reads.Learnt,
 ) (skip-at t) skip.Post
 skip-returns-3 t c =
-    past-pair (c .before .before .before .before .before .before .before .before .before .before .before .args .file .now) (c .before .before .before .before .before .before .before .before .before .before .before .args .arities .now) (c .before .before .before .before .before .before .before .before .read .ensures) (c .before .before .before .before .if2 .left) (c .before .before .if3 .taken) (c .before .skip .ensures) (c .skip2 .ensures)
+    let c4 = c .before .before .before .before in
+    let c8 = c4 .before .before .before .before in
+    let c11 = c8 .before .before .before in
+    past-pair (c11 .args .file .now) (c11 .args .arities .now) (c8 .read .ensures) (c4 .if2 .left) (c .before .before .if3 .taken) (c .before .skip .ensures)
+    (c .skip2 .ensures)
 
--- src/skipping.rt:43:9
 skip-read-guard-requires : (t : ℕ) → skip-lts.Need-read-guard-requires (
   read-reads.Asked,
   read-reads.Learnt,
@@ -138,7 +144,6 @@ skip-read-guard-requires : (t : ℕ) → skip-lts.Need-read-guard-requires (
 ) (skip-at t) skip.Post
 skip-read-guard-requires t c κs = search needs
 
--- src/skipping.rt:45:5
 skip-skip-requires-3 : (t : ℕ) → skip-lts.Need-skip-requires-3 (
   read-reads.Asked,
   read-reads.Learnt,
@@ -150,11 +155,13 @@ skip-skip-requires-3 : (t : ℕ) → skip-lts.Need-skip-requires-3 (
   read-guard-reads.Learnt,
 ) (skip-at t) skip.Post
 skip-skip-requires-3 t c κs =
-    let w = formed-body (c .before .before .before .before .before .before .before .before .before .before .before .args .file .now) (c .before .before .before .before .before .before .before .before .before .before .before .args .arities .now) (c .before .before .before .before .before .before .before .before .read .ensures) (c .before .before .if3 .left) (c .before .read-guard .ensures .0) (c .before .before .before .before .before .before .before .before .before .before .before .pre .1) in
-    let p = formed-inside (c .before .before .before .before .before .before .before .before .before .before .before .args .file .now) (c .before .before .before .before .before .before .before .before .before .before .before .args .arities .now) (c .before .before .before .before .before .before .before .before .read .ensures) (c .before .before .before .before .before .before .before .before .before .before .before .pre .1) in
-    (omega (arith, c .before .before .before .before .before .before .before .before .before .before .before .pre .0, p .0, p .1, w .1), w .0)
+    let c8 = c .before .before .before .before .before .before .before .before in
+    let c11 = c8 .before .before .before in
+    let w = formed-body (c11 .args .file .now) (c11 .args .arities .now) (c8 .read .ensures) (c .before .before .if3 .left) (c .before .read-guard .ensures .0)
+    (c11 .pre .1) in
+    let p = formed-inside (c11 .args .file .now) (c11 .args .arities .now) (c8 .read .ensures) (c11 .pre .1) in
+    (omega (arith, c11 .pre .0, p .0, p .1, w .1), w .0)
 
--- src/skipping.rt:28:1
 skip-returns-4 : (t : ℕ) → skip-lts.Need-returns-4 (
   read-reads.Asked,
   read-reads.Learnt,
@@ -166,7 +173,11 @@ skip-returns-4 : (t : ℕ) → skip-lts.Need-returns-4 (
   read-guard-reads.Learnt,
 ) (skip-at t) skip.Post
 skip-returns-4 t c =
-    past-quant (c .before .before .before .before .before .before .before .before .before .before .before .before .args .file .now) (c .before .before .before .before .before .before .before .before .before .before .before .before .args .arities .now) (c .before .before .before .before .before .before .before .before .before .read .ensures) (c .before .before .before .if3 .left) (c .before .before .read-guard .ensures .0) (c .skip3 .ensures)
+    let c3 = c .before .before .before in
+    let c9 = c3 .before .before .before .before .before .before in
+    let c12 = c9 .before .before .before in
+    past-quant (c12 .args .file .now) (c12 .args .arities .now) (c9 .read .ensures) (c3 .if3 .left) (c .before .before .read-guard .ensures .0)
+    (c .skip3 .ensures)
 
 pub +skip-spec : {M : Type 1} → statement M
 +skip-spec = close μ-skip λ t. skip-lts.spec (

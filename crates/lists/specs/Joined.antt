@@ -1,11 +1,11 @@
--- For crate lists: the lists of several elements, one behind the other.
+-- The lists of several elements, one behind the other.
 use Prim.Native.Nat.{ℕ, zero, suc, _+_, _*_, _≤_, _<_}
 use mathlib.Core.List.{List, [], _∷_, _++_}
 use mathlib.Core.Path.{_≡_, ap, _∙_}
 use native.Mathlib.Omega.{arith}
 use lib.ListN.{length, getD, take, length-append, List·getD-append}
 use lib.Seq.{getD-append-add, take-length}
 use Rattle.lists.specs.All.{All}
 
 module _ {A B : Type 0} (f : A → List B) where
   abbrev pub joined : List A → List B
