@@ -114,7 +114,7 @@ pub fn fit_protocol(bytes: &[u8]) -> Judged<Protocol> {
 }
 
 /// Causes 3 and 5.
-fn fit_property(bytes: &[u8], protocol: &Protocol) -> Judged<property::Formula> {
+pub fn fit_property(bytes: &[u8], protocol: &Protocol) -> Judged<property::Formula> {
     let property = File::Property.layout(property::read(bytes, protocol))?;
     if !property.is_fit(&[]) {
         return refuse(5, 0);

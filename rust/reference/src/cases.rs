@@ -5,16 +5,19 @@
 //! - bytes.txt: `number | LABEL | BYTES` and `term | LABEL | ARITIES | BYTES`
 //! - messages.txt: `LABEL | ARITIES | BYTES`
 //! - steps.txt, facts.txt and graphs.txt: `LABEL | PROTOCOL | BYTES`
+//! - properties.txt: `LABEL | PROTOCOL | PROPERTY | STEPS`
 //!
-//! ARITIES are those of the free functions, in decimal, free function 0 first; PROTOCOL and BYTES are
-//! bytes as `notation::bytes` reads them. Each may be empty. A case's number is its place among the cases
-//! of its file, from 1.
+//! ARITIES are those of the free functions, in decimal, free function 0 first; PROTOCOL, BYTES, PROPERTY and
+//! STEPS are bytes as `notation::bytes` reads them. Each may be empty. A case's number is its place among the
+//! cases of its file, from 1.
 
-use crate::calls::{fit_protocol, ruled_graph, ruled_steps, Outcome};
+use crate::by_words;
+use crate::calls::{fit_property, fit_protocol, ruled_graph, ruled_steps, Outcome};
 use crate::canonical::canonical_form;
 use crate::graph::Edge;
 use crate::notation;
 use crate::number::{Read, Reader};
+use crate::property::Formula;
 use crate::protocol::Fact;
 use crate::refusal::Judged;
 use crate::steps::Node;
@@ -29,6 +32,7 @@ pub enum Kind {
     Steps,
     Facts,
     Graph,
+    Property,
 }
 
 #[derive(Clone, Debug)]
@@ -37,6 +41,7 @@ pub struct Case {
     pub label: String,
     /// What the bytes are read under: the arity of each free function, or of nodes the protocol file.
     pub under: Vec<u8>,
+    /// Of a property: the length of its file, two bytes, low byte first; its file; the step list.
     pub bytes: Vec<u8>,
 }
 
@@ -72,6 +77,36 @@ pub fn facts_cases(text: &str) -> Vec<Case> {
 /// The cases of graphs.txt.
 pub fn graphs_cases(text: &str) -> Vec<Case> {
     under_protocols(Kind::Graph, text)
+}
+
+/// The cases of properties.txt.
+pub fn properties_cases(text: &str) -> Vec<Case> {
+    let case = |fields: &[&str]| match fields {
+        [label, protocol, property, steps] => property_case(
+            label,
+            notation::bytes(protocol),
+            &notation::bytes(property),
+            &notation::bytes(steps),
+        ),
+        _ => panic!("no case: {fields:?}"),
+    };
+    lines(text).map(|fields| case(&fields)).collect()
+}
+
+/// A property over a step list, under a protocol.
+pub fn property_case(label: &str, protocol: Vec<u8>, property: &[u8], steps: &[u8]) -> Case {
+    Case {
+        kind: Kind::Property,
+        label: label.to_string(),
+        under: protocol,
+        bytes: [&with_length(property), steps].concat(),
+    }
+}
+
+/// Bytes behind their length: two bytes, low byte first.
+fn with_length(bytes: &[u8]) -> Vec<u8> {
+    let length = u16::try_from(bytes.len()).expect("a length of two bytes");
+    [&length.to_le_bytes(), bytes].concat()
 }
 
 /// Step lists or graphs, each under its protocol.
@@ -123,6 +158,9 @@ impl Case {
             Kind::Graph => Ok(said(self.graph(), |(nodes, edges)| {
                 format!("good {} {}", nodes.len(), edges.len())
             })),
+            Kind::Property => Ok(said(self.property(), |(property, nodes)| {
+                truth(&property, &nodes)
+            })),
         };
         outcome.unwrap_or_else(|_| "fault".to_string())
     }
@@ -156,20 +194,33 @@ impl Case {
         ruled_graph(&fit_protocol(&self.under)?, &self.bytes)
     }
 
+    /// The files of a property and of a step list.
+    pub fn property_and_steps(&self) -> (&[u8], &[u8]) {
+        let (length, files) = self.bytes.split_at(2);
+        files.split_at(usize::from(u16::from_le_bytes([length[0], length[1]])))
+    }
+
+    /// A property, and the nodes of a step list.
+    pub fn property(&self) -> Judged<(Formula, Vec<Node>)> {
+        let (property, steps) = self.property_and_steps();
+        let protocol = fit_protocol(&self.under)?;
+        let property = fit_property(property, &protocol)?;
+        Ok((property, ruled_steps(&protocol, steps)?))
+    }
+
     /// The case for a test program: 0 for a number, 1 for a term or a message, 2 for a step list, 3 for a
-    /// graph; the length of what it is read under, and that; the length of the bytes, and the bytes. A
-    /// length is two bytes, low byte first.
+    /// graph, 4 for a property; the length of what it is read under, and that; the length of the bytes, and
+    /// the bytes.
     pub fn data(&self) -> Vec<u8> {
         let mut data = vec![match self.kind {
             Kind::Number => 0,
             Kind::Term | Kind::Message => 1,
             Kind::Steps | Kind::Facts => 2,
             Kind::Graph => 3,
+            Kind::Property => 4,
         }];
         for part in [&self.under, &self.bytes] {
-            let length = u16::try_from(part.len()).expect("a length of two bytes");
-            data.extend(length.to_le_bytes());
-            data.extend(part);
+            data.extend(with_length(part));
         }
         data
     }
@@ -181,6 +232,18 @@ fn said<T>(judged: Judged<T>, say: impl Fn(T) -> String) -> String {
         Ok(good) => say(good),
         Err(refusal) => Outcome::Refused(refusal).to_string(),
     }
+}
+
+/// The actions of each node.
+pub fn trace(nodes: &[Node]) -> Vec<&[Fact]> {
+    nodes.iter().map(|node| &node.actions[..]).collect()
+}
+
+/// Whether the trace of the nodes makes the property true, and how many of them have an action.
+fn truth(property: &Formula, nodes: &[Node]) -> String {
+    let trace = trace(nodes);
+    let with_action = trace.iter().filter(|actions| !actions.is_empty()).count();
+    format!("{} {with_action}", by_words::holds(&trace, property))
 }
 
 /// The facts of all nodes: node by node, premises, actions, conclusions, each list in its order.

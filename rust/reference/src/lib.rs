@@ -41,6 +41,9 @@ pub mod property;
 /// The meaning of a property over a trace.
 pub mod judge;
 
+/// That meaning once more, by its words alone.
+pub mod by_words;
+
 /// The exported calls.
 pub mod calls;
 

@@ -1,8 +1,10 @@
 //! The case files say what their labels say.
 
 use reference::cases::{
-    bytes_cases, data, facts, facts_cases, graphs_cases, message_cases, steps_cases, Case, Kind,
+    bytes_cases, data, facts, facts_cases, graphs_cases, message_cases, properties_cases,
+    steps_cases, trace, Case, Kind,
 };
+use reference::judge;
 use reference::notation::parse;
 use reference::number::{Reader, LARGEST};
 use reference::protocol::Protocol;
@@ -14,6 +16,7 @@ const MESSAGES: &str = include_str!("../../../tests/cases/messages.txt");
 const STEPS: &str = include_str!("../../../tests/cases/steps.txt");
 const FACTS: &str = include_str!("../../../tests/cases/facts.txt");
 const GRAPHS: &str = include_str!("../../../tests/cases/graphs.txt");
+const PROPERTIES: &str = include_str!("../../../tests/cases/properties.txt");
 
 #[test]
 fn a_message_is_its_label() {
@@ -56,10 +59,15 @@ fn a_term_that_is_said_to_be_cut_off_is_a_fault() {
     assert!(outcomes.iter().all(|outcome| outcome == "fault"));
 }
 
-/// The label of a step list or a graph is its outcome by document 01, a colon, and words.
+/// The label of a step list, a graph or a property is its outcome by document 01, a colon, and words.
 #[test]
-fn step_lists_and_graphs_have_the_outcomes_of_their_labels() {
-    for cases in [steps_cases(STEPS), graphs_cases(GRAPHS)] {
+fn nodes_and_properties_have_the_outcomes_of_their_labels() {
+    let all = [
+        steps_cases(STEPS),
+        graphs_cases(GRAPHS),
+        properties_cases(PROPERTIES),
+    ];
+    for cases in all {
         assert!(cases.len() > 300);
         for case in &cases {
             let (outcome, _) = case.label.split_once(": ").expect(&case.label);
@@ -77,6 +85,44 @@ fn graphs_have_each_outcome_several_times() {
         let of_kind = outcomes.iter().filter(|outcome| outcome.starts_with(kind));
         assert!(of_kind.count() >= 5, "{kind}");
     }
+}
+
+/// Both truths, and each cause that a property or a step list can have.
+#[test]
+fn properties_have_each_outcome() {
+    let outcomes: Vec<String> = properties_cases(PROPERTIES)
+        .iter()
+        .map(Case::outcome)
+        .collect();
+    let often = ["true ", "false ", "refused 3 2", "refused 5 0"].map(|kind| (kind, 50));
+    let once = [
+        "refused 3 1",
+        "refused 4",
+        "refused 3 5",
+        "refused 6",
+        "refused 7",
+        "refused 8",
+        "refused 9",
+    ];
+    for (kind, least) in often.into_iter().chain(once.map(|kind| (kind, 1))) {
+        let of_kind = outcomes.iter().filter(|outcome| outcome.starts_with(kind));
+        assert!(of_kind.count() >= least, "{kind}");
+    }
+}
+
+/// The judge that compares guards with actions says what the words say.
+#[test]
+fn the_judge_says_what_the_words_of_a_property_say() {
+    let mut judged = 0;
+    for case in properties_cases(PROPERTIES) {
+        if let Ok((property, nodes)) = case.property() {
+            let truth = judge::holds(&trace(&nodes), &[], &property);
+            let word = format!("{truth} ");
+            assert!(case.outcome().starts_with(&word), "{}", case.label);
+            judged += 1;
+        }
+    }
+    assert!(judged > 200);
 }
 
 /// The label of facts is their outcome by document 01, or the first of its lists, with a slash for each bar;
@@ -170,4 +216,19 @@ fn the_cases_fit_their_programs() {
             assert_eq!(file.within_limit(&case.bytes), Ok(()));
         }
     }
+}
+
+#[test]
+fn the_properties_fit_their_program() {
+    let cases = properties_cases(PROPERTIES);
+    assert!(data(&cases).len() <= 65_536);
+    let mut longest = 0;
+    for case in &cases {
+        let (property, steps) = case.property_and_steps();
+        assert_eq!(File::Protocol.within_limit(&case.under), Ok(()));
+        assert_eq!(File::Property.within_limit(property), Ok(()));
+        assert_eq!(File::Steps.within_limit(steps), Ok(()));
+        longest = longest.max(property.len());
+    }
+    assert_eq!(longest, File::Property.limit());
 }

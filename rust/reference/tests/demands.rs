@@ -1,20 +1,21 @@
 //! The parts of the reference against one another: the machine, accepted graphs, the writer and the judge.
 
+use reference::by_words;
 use reference::calls::{check, draw, Outcome};
 use reference::generate::graphs::{check_input, draw_input};
 use reference::generate::properties::Maker;
 use reference::generate::protocols;
 use reference::generate::runs::{conclusions_equal, run};
 use reference::graph::{accept, Edge};
-use reference::judge::{holds, Trace, Value};
+use reference::judge::{self, Trace};
 use reference::machine::first_failure;
 use reference::number::Reader;
-use reference::property::{Formula, Quantifier, Sort};
+use reference::property::Formula;
 use reference::protocol::{Fact, Protocol};
 use reference::random::Random;
 use reference::refusal::{File, Refusal};
 use reference::steps::{nodes, read_steps, Node};
-use reference::term::{Public, Term};
+use reference::term::Term;
 use std::collections::HashSet;
 
 /// The nodes at the start of a step list or graph.
@@ -111,67 +112,11 @@ fn steps_that_are_no_run_have_no_graph() {
     assert!(runs > 500 && others > 50, "{runs} {others}");
 }
 
-/// A property's truth by its words alone: new variables take every value of a domain, and the guard is an
-/// atom like others.
-fn holds_by_words(trace: &Trace, domain: &[Value], values: &[Value], formula: &Formula) -> bool {
-    let deeper = |formula: &Formula| holds_by_words(trace, domain, values, formula);
-    match formula {
-        Formula::And(left, right) => deeper(left) && deeper(right),
-        Formula::Or(left, right) => deeper(left) || deeper(right),
-        Formula::Exists(quantifier) => {
-            assignments(domain, values, quantifier).iter().any(|inner| {
-                holds(trace, inner, &guard(quantifier))
-                    && holds_by_words(trace, domain, inner, &quantifier.body)
-            })
-        }
-        Formula::ForAll(quantifier) => {
-            assignments(domain, values, quantifier).iter().all(|inner| {
-                !holds(trace, inner, &guard(quantifier))
-                    || holds_by_words(trace, domain, inner, &quantifier.body)
-            })
-        }
-        atom => holds(trace, values, atom),
-    }
-}
-
-fn guard(quantifier: &Quantifier) -> Formula {
-    Formula::Action(quantifier.guard.clone(), quantifier.time)
-}
-
-/// All values of the new variables, behind the outer ones.
-fn assignments(domain: &[Value], outer: &[Value], quantifier: &Quantifier) -> Vec<Vec<Value>> {
-    let mut all = vec![outer.to_vec()];
-    for sort in &quantifier.new {
-        let of_sort = |value: &&Value| match sort {
-            Sort::Message => matches!(value, Value::Message(_)),
-            Sort::Time => matches!(value, Value::Time(_)),
-        };
-        let choices: Vec<&Value> = domain.iter().filter(of_sort).collect();
-        let extended = all.iter().flat_map(|values| {
-            let with = |choice: &&Value| [&values[..], &[(*choice).clone()]].concat();
-            choices.iter().map(with)
-        });
-        all = extended.collect();
-    }
-    all
-}
-
-/// The messages of the trace and some others; the times of the nodes and some others.
-fn domain(trace: &Trace) -> Vec<Value> {
-    let mut messages: Vec<Term> = (0..4).map(|number| Term::Public(Public(number))).collect();
-    messages.push(Term::one());
-    for term in trace
-        .iter()
-        .flat_map(|actions| *actions)
-        .flat_map(|fact| &fact.terms)
-    {
-        if !messages.contains(term) {
-            messages.push(term.clone());
-        }
-    }
-    let times = 0..trace.len() + 2;
-    let messages = messages.into_iter().map(Value::Message);
-    messages.chain(times.map(Value::Time)).collect()
+/// How many different messages and times the trace has.
+fn messages_and_times(trace: &Trace) -> usize {
+    let actions = trace.iter().flat_map(|actions| *actions);
+    let messages: HashSet<&Term> = actions.flat_map(|fact| &fact.terms).collect();
+    messages.len() + trace.len()
 }
 
 /// How many assignments the words ask for, at most.
@@ -198,16 +143,12 @@ fn the_trace_alone_decides_a_property() {
         let run = run(&mut random, &protocol, length);
         let trace: Vec<&[Fact]> = run.nodes.iter().map(|node| &node.actions[..]).collect();
         let formula = Maker::new(&protocol, 3).property(&mut random);
-        let domain = domain(&trace);
-        if cost(domain.len(), &formula) > 20_000.0 || trace.iter().all(|node| node.is_empty()) {
+        let values = messages_and_times(&trace);
+        if cost(values, &formula) > 20_000.0 || trace.iter().all(|node| node.is_empty()) {
             continue;
         }
-        let truth = holds(&trace, &[], &formula);
-        assert_eq!(
-            truth,
-            holds_by_words(&trace, &domain, &[], &formula),
-            "{formula:?}"
-        );
+        let truth = judge::holds(&trace, &[], &formula);
+        assert_eq!(truth, by_words::holds(&trace, &formula), "{formula:?}");
         truths += usize::from(truth);
         falsehoods += usize::from(!truth);
     }

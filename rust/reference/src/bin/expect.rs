@@ -2,7 +2,7 @@
 
 use reference::cases::{
     bytes_cases, data, expected, facts_cases, graphs_cases, hexadecimal, message_cases,
-    steps_cases, Case,
+    properties_cases, steps_cases, Case,
 };
 use std::path::Path;
 use std::process::ExitCode;
@@ -12,7 +12,7 @@ expect NAME           the expected text of the program cases_NAME, from tests/ca
 expect data NAME      the bytes of those cases for that program
 expect --help         this text
 
-NAME is bytes, messages, steps, facts or graphs. The expected text has a line for each case: the case's
+NAME is bytes, messages, steps, facts, graphs or properties. The expected text has a line for each case: the case's
 number (from 1, in the file's order), a blank, and the outcome:
   a number     `value V next E` (E: bytes read) or `fault`
   a term       `end E symbols N` (E: bytes read) or `fault`
@@ -23,11 +23,13 @@ number (from 1, in the file's order), a blank, and the outcome:
                number of the first one that is the same message; `|`; for each argument 1, 2 or 3 where it is
                the public name 0, 128 or 16384, else 0. Or `refused NUMBER ITEM`
   a graph      `good N E` (N: nodes, E: edges) or `refused NUMBER ITEM`, by causes 3, 4 and 6 to 13
+  a property   `true A` or `false A` over the trace of a step list (A: nodes with an action), or
+               `refused NUMBER ITEM`, by causes 3 to 9
 
-The data has for each case: 0 for a number, 1 for a term or message, 2 for a step list, 3 for a graph; the
-length of what the case is read under, and that: the arity of each free function, or the protocol file; the
-length of the bytes; the bytes. A length is two bytes, low byte first. It is printed in hexadecimal, a line for
-each case.
+The data has for each case: 0 for a number, 1 for a term or message, 2 for a step list, 3 for a graph, 4 for a
+property; the length of what the case is read under, and that: the arity of each free function, or the protocol
+file; the length of the bytes; the bytes. Those of a property are the length of its file, its file, and the step
+list. A length is two bytes, low byte first. It is printed in hexadecimal, a line for each case.
 ";
 
 fn main() -> ExitCode {
@@ -59,6 +61,7 @@ fn cases(name: &str) -> Option<Vec<Case>> {
         "steps" => Some(steps_cases(&text("steps.txt"))),
         "facts" => Some(facts_cases(&text("facts.txt"))),
         "graphs" => Some(graphs_cases(&text("graphs.txt"))),
+        "properties" => Some(properties_cases(&text("properties.txt"))),
         _ => None,
     }
 }
