@@ -1,7 +1,7 @@
 // What the test programs share: the cases of standard input, and what they print.
-// The input is a case behind the other: 0 for a number, 1 for a term, 2 for a step list, 3 for a graph; the length of what the case is read
-// under, and that: the arity of each free function, or a protocol file; the length of the bytes; the bytes. A length is two bytes, low byte
-// first.
+// The input is a case behind the other: 0 for a number, 1 for a term, 2 for a step list, 3 for a graph, 4 for a property; the length of what
+// the case is read under, and that: the arity of each free function, or a protocol file; the length of the bytes; the bytes. Those of a
+// property are the length of its file, its file, and a step list. A length is two bytes, low byte first.
 ghost use Prim.Native.Nat.{_≤_, _<_, _+_};
 ghost use lib.ListN.{length};
 ghost use Rattle.case_file.specs.Case.{byte, lengthBytes, room, Inside, Behind, CaseAt};
@@ -75,7 +75,7 @@ fn length_at(s: &[u8; ROOM], at: usize) -> usize
 }
 
 // What stands behind its length at a place; nothing, at the place itself, where it is cut off.
-fn counted(s: &[u8; ROOM], at: usize, read: usize) -> Range
+pub fn counted(s: &[u8; ROOM], at: usize, read: usize) -> Range
     requires { ⌜ (at ≤ read) × (read ≤ room) ⌝ }
     ensures { λ r. ⌜ Behind at read r ⌝ }
 {

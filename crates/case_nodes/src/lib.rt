@@ -30,7 +30,7 @@ pub enum Ruled {
 }
 
 // The list's causes, under a prepared protocol.
-fn rule_list(p: &[u8; PREPARED], list: &[u8], nodes: &mut [usize; TABLE]) -> Ruled
+pub fn rule_list(p: &[u8; PREPARED], list: &[u8], nodes: &mut [usize; TABLE]) -> Ruled
     requires { ⌜ Asks (Prepared (now p)) × (length (now list) ≤ longest) ⌝ }
     ensures { λ r. ⌜ WhereGood (now (p .entry)) (now (list .entry)) (now (nodes .exit)) r ⌝ }
 {

@@ -1,0 +1,2 @@
+-- what is left of a case whose property is good
+pub mod Passes
