@@ -1,5 +1,5 @@
 //! What a property means by its words alone: new variables take every value of a finite domain, and a guard is
-//! an atom like others. It shares no code with `judge`, and is slow.
+//! an atom like others. It shares no code with `judge`, and takes long where there are many values.
 
 use crate::judge::Trace;
 use crate::number::LARGEST;
@@ -28,6 +28,30 @@ pub fn holds(trace: &Trace, property: &Formula) -> bool {
         times: times(trace).map(Value::Time).collect(),
     };
     world.holds(&mut Vec::new(), property)
+}
+
+/// How many assignments are tried, at most.
+pub fn cost(trace: &Trace, property: &Formula) -> f64 {
+    let messages = messages(trace, property).len();
+    assignments(messages as f64, times(trace).count() as f64, property)
+}
+
+/// The same, with so many messages and times.
+fn assignments(messages: f64, times: f64, formula: &Formula) -> f64 {
+    match formula {
+        Formula::And(left, right) | Formula::Or(left, right) => {
+            assignments(messages, times, left) + assignments(messages, times, right)
+        }
+        Formula::Exists(quantifier) | Formula::ForAll(quantifier) => {
+            let of_sort = |sort: &Sort| match sort {
+                Sort::Message => messages,
+                Sort::Time => times,
+            };
+            let new: f64 = quantifier.new.iter().map(of_sort).product();
+            new * assignments(messages, times, &quantifier.body)
+        }
+        _ => 1.0,
+    }
 }
 
 /// The times of the nodes and some others.

@@ -11,10 +11,10 @@
 //! STEPS are bytes as `notation::bytes` reads them. Each may be empty. A case's number is its place among the
 //! cases of its file, from 1.
 
-use crate::by_words;
 use crate::calls::{fit_property, fit_protocol, ruled_graph, ruled_steps, Outcome};
 use crate::canonical::canonical_form;
 use crate::graph::Edge;
+use crate::judge::holds;
 use crate::notation;
 use crate::number::{Read, Reader};
 use crate::property::Formula;
@@ -243,7 +243,7 @@ pub fn trace(nodes: &[Node]) -> Vec<&[Fact]> {
 fn truth(property: &Formula, nodes: &[Node]) -> String {
     let trace = trace(nodes);
     let with_action = trace.iter().filter(|actions| !actions.is_empty()).count();
-    format!("{} {with_action}", by_words::holds(&trace, property))
+    format!("{} {with_action}", holds(&trace, &[], property))
 }
 
 /// The facts of all nodes: node by node, premises, actions, conclusions, each list in its order.

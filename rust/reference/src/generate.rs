@@ -23,3 +23,6 @@ pub mod canonical;
 
 /// Inputs of the calls check and draw.
 pub mod graphs;
+
+/// Inputs of a verdict on a property.
+pub mod judging;

@@ -1,10 +1,10 @@
 //! The case files say what their labels say.
 
+use reference::by_words;
 use reference::cases::{
     bytes_cases, data, facts, facts_cases, graphs_cases, message_cases, properties_cases,
     steps_cases, trace, Case, Kind,
 };
-use reference::judge;
 use reference::notation::parse;
 use reference::number::{Reader, LARGEST};
 use reference::protocol::Protocol;
@@ -110,13 +110,13 @@ fn properties_have_each_outcome() {
     }
 }
 
-/// The judge that compares guards with actions says what the words say.
+/// The judge, which compares guards with actions, says what the words of a property say.
 #[test]
-fn the_judge_says_what_the_words_of_a_property_say() {
+fn the_words_of_a_property_say_its_outcome() {
     let mut judged = 0;
     for case in properties_cases(PROPERTIES) {
         if let Ok((property, nodes)) = case.property() {
-            let truth = judge::holds(&trace(&nodes), &[], &property);
+            let truth = by_words::holds(&trace(&nodes), &property);
             let word = format!("{truth} ");
             assert!(case.outcome().starts_with(&word), "{}", case.label);
             judged += 1;

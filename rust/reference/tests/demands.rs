@@ -3,19 +3,17 @@
 use reference::by_words;
 use reference::calls::{check, draw, Outcome};
 use reference::generate::graphs::{check_input, draw_input};
-use reference::generate::properties::Maker;
+use reference::generate::properties::{negated, Maker};
 use reference::generate::protocols;
 use reference::generate::runs::{conclusions_equal, run};
 use reference::graph::{accept, Edge};
-use reference::judge::{self, Trace};
+use reference::judge;
 use reference::machine::first_failure;
 use reference::number::Reader;
-use reference::property::Formula;
 use reference::protocol::{Fact, Protocol};
 use reference::random::Random;
 use reference::refusal::{File, Refusal};
 use reference::steps::{nodes, read_steps, Node};
-use reference::term::Term;
 use std::collections::HashSet;
 
 /// The nodes at the start of a step list or graph.
@@ -112,27 +110,6 @@ fn steps_that_are_no_run_have_no_graph() {
     assert!(runs > 500 && others > 50, "{runs} {others}");
 }
 
-/// How many different messages and times the trace has.
-fn messages_and_times(trace: &Trace) -> usize {
-    let actions = trace.iter().flat_map(|actions| *actions);
-    let messages: HashSet<&Term> = actions.flat_map(|fact| &fact.terms).collect();
-    messages.len() + trace.len()
-}
-
-/// How many assignments the words ask for, at most.
-fn cost(domain: usize, formula: &Formula) -> f64 {
-    match formula {
-        Formula::And(left, right) | Formula::Or(left, right) => {
-            cost(domain, left) + cost(domain, right)
-        }
-        Formula::Exists(quantifier) | Formula::ForAll(quantifier) => {
-            let assignments = (domain as f64).powi(quantifier.new.len() as i32);
-            assignments * cost(domain, &quantifier.body)
-        }
-        _ => 1.0,
-    }
-}
-
 #[test]
 fn the_trace_alone_decides_a_property() {
     let mut random = Random::new(9);
@@ -143,12 +120,12 @@ fn the_trace_alone_decides_a_property() {
         let run = run(&mut random, &protocol, length);
         let trace: Vec<&[Fact]> = run.nodes.iter().map(|node| &node.actions[..]).collect();
         let formula = Maker::new(&protocol, 3).property(&mut random);
-        let values = messages_and_times(&trace);
-        if cost(values, &formula) > 20_000.0 || trace.iter().all(|node| node.is_empty()) {
+        if by_words::cost(&trace, &formula) > 20_000.0 || trace.iter().all(|node| node.is_empty()) {
             continue;
         }
         let truth = judge::holds(&trace, &[], &formula);
         assert_eq!(truth, by_words::holds(&trace, &formula), "{formula:?}");
+        assert_eq!(!truth, judge::holds(&trace, &[], &negated(formula)));
         truths += usize::from(truth);
         falsehoods += usize::from(!truth);
     }

@@ -132,6 +132,33 @@ fn number_of(random: &mut Random, scope: &[Sort], sort: Sort) -> Option<u32> {
     (!numbers.is_empty()).then(|| *random.choose(&numbers))
 }
 
+/// What is true where the formula is false, and the other way round.
+pub fn negated(formula: Formula) -> Formula {
+    let part = |formula: Box<Formula>| Box::new(negated(*formula));
+    let over = |quantifier: Quantifier| Quantifier {
+        body: Box::new(negated(*quantifier.body)),
+        ..quantifier
+    };
+    match formula {
+        Formula::False => {
+            let name = Term::Public(Public(0));
+            Formula::Equal(name.clone(), name)
+        }
+        Formula::Equal(left, right) => Formula::Unequal(left, right),
+        Formula::Unequal(left, right) => Formula::Equal(left, right),
+        Formula::Before(left, right) => Formula::NotBefore(left, right),
+        Formula::NotBefore(left, right) => Formula::Before(left, right),
+        Formula::SameTime(left, right) => Formula::NotSameTime(left, right),
+        Formula::NotSameTime(left, right) => Formula::SameTime(left, right),
+        Formula::Action(fact, time) => Formula::NoAction(fact, time),
+        Formula::NoAction(fact, time) => Formula::Action(fact, time),
+        Formula::And(left, right) => Formula::Or(part(left), part(right)),
+        Formula::Or(left, right) => Formula::And(part(left), part(right)),
+        Formula::Exists(quantifier) => Formula::ForAll(over(quantifier)),
+        Formula::ForAll(quantifier) => Formula::Exists(over(quantifier)),
+    }
+}
+
 /// The formula below so many and, or below so many or.
 pub fn wrap(random: &mut Random, formula: Formula, times: usize) -> Formula {
     let conjunction = random.percent(50);
