@@ -1,12 +1,12 @@
 #!/usr/bin/env python3
-"""Of crate message the crates graph, property and writer name nothing but its promise. Crates that are not there yet are passed over."""
+"""Of crate message the crates graph, property, judge, verdict and writer name nothing but its promise. Crates that are not there yet are passed over."""
 import glob
 import os
 import re
 import sys
 
 top = os.path.dirname(os.path.dirname(os.path.abspath(__file__)))
-above = ("graph", "property", "writer")
+above = ("graph", "property", "judge", "verdict", "writer")
 faults, read = [], 0
 for crate in above:
     for path in sorted(glob.glob(os.path.join(top, "crates", crate, "**", "*"), recursive=True)):

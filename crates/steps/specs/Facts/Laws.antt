@@ -38,6 +38,20 @@ equal-bytes a b = (
 abbrev forms : List Term → List (List ℕ)
 forms ts = map (λ t. encode (canon t)) ts
 
+-- ── terms: an equivalence on all of them ──
+by-form : (t u : Term) → (sameTerm t u ≡ true) ↔ (encode (canon t) ≡ encode (canon u))
+unfolding sameTerm
+by-form t u = equal-bytes (encode (canon t)) (encode (canon u))
+
+pub term-refl : (t : Term) → sameTerm t t ≡ true
+term-refl t = by-form t t .1 refl
+
+pub term-sym : (t u : Term) → sameTerm t u ≡ true → sameTerm u t ≡ true
+term-sym t u h = by-form u t .1 (sym (by-form t u .0 h))
+
+pub term-trans : (t u v : Term) → sameTerm t u ≡ true → sameTerm u v ≡ true → sameTerm t v ≡ true
+term-trans t u v h k = by-form t v .1 (by-form t u .0 h ∙ by-form u v .0 k)
+
 terms-forms : (ts us : List Term) → sameTerms ts us ≡ true → forms ts ≡ forms us
 unfolding sameTerms sameTerm
 terms-forms [] [] h = refl
@@ -92,10 +106,9 @@ fact-linear p f g h = ap (λ (y : ℕ). eqb (getD (factFlags (p .symbols)) y 0) 
 -- ── of well-formed facts: equal messages, argument by argument ──
 module _ (ar : ℕ → Option ℕ) (fit : FitArities ar) where
   pub term-decides : (t u : Term) → Formed ar t → Formed ar u → (sameTerm t u ≡ true) ↔ Same ar t u
-  unfolding sameTerm
   term-decides t u w v =
       let b = same-bytes ar fit t u w v in
-      let e = equal-bytes (encode (canon t)) (encode (canon u)) in
+      let e = by-form t u in
       ((λ h. b .1 (e .0 h)), (λ d. e .1 (b .0 d)))
 
   to-sames : (ts us : List Term) → All (Formed ar) ts → All (Formed ar) us → sameTerms ts us ≡ true → Sames ar ts us

@@ -2,6 +2,7 @@
 -- alone.
 use Prim.Native.Nat.{ℕ, zero, suc}
 use mathlib.Core.List.{List, [], _∷_, map}
+use mathlib.Core.Bool.{true}
 use mathlib.Core.Logic.{_↔_}
 use mathlib.Core.Option.{Option, none, some}
 use mathlib.Core.Path.{_≡_, refl, ap, ap₂}
@@ -12,13 +13,15 @@ use Rattle.lists.specs.All.Laws.{all-map, all-both}
 use Rattle.term.specs.Term.{Term, Formed}
 use Rattle.term.specs.Arity.{arity, tagArities}
 use Rattle.message.specs.Substitution.{Ground}
-use Rattle.message.specs.Promise.{Message, SameMessages}
+use Rattle.message.specs.Promise.{Message, SameMessage, SameMessages}
+use Rattle.message.specs.Theorems.{declared}
 use Rattle.protocol.specs.Figures.{actionList}
 use Rattle.protocol.specs.Protocol.{Fact, Protocol, fact-of}
 use Rattle.protocol.specs.Protocol.Limits.{Within}
 use Rattle.steps.specs.Nodes.{Node, NodeWithin}
 use Rattle.steps.specs.Values.{NodeRight}
-use Rattle.steps.specs.Facts.{factsOf, actionsOf, trace, Sames, SameFact}
+use Rattle.steps.specs.Facts.{factsOf, actionsOf, trace, sameTerm, Sames, SameFact}
+use Rattle.steps.specs.Facts.Laws.{term-decides}
 use Rattle.steps.specs.Facts.Formed.{FactFormed, facts-formed, node-ground, facts-ground}
 
 -- ── what is made of each element and what holds of it ──
@@ -80,6 +83,11 @@ module _ (ar : ℕ → Option ℕ) where
 
   pub message-terms : (f : Fact) (h : IsMessages f) → termFact (messageFact f h) ≡ f
   message-terms f h = ap (fact-of (f .symbol)) (each-back IsMessage message (λ m. m .term) (λ t d. refl) (f .terms) h)
+
+-- the test of terms decides whether two messages are the same
+pub test-exactly :
+    (free : List ℕ) (m n : Message (arity (tagArities free))) → (sameTerm (m .term) (n .term) ≡ true) ↔ SameMessage (arity (tagArities free)) m n
+test-exactly free m n = term-decides (arity (tagArities free)) (declared free) (m .term) (n .term) (m .formed) (n .formed)
 
 abbrev pub orNone : {A : Type 0} → Option (List A) → List A
 orNone none = []

@@ -11,15 +11,13 @@ use Rattle.lists.specs.Reflects.{Reflects, reflects-exactly, alike}
 use Rattle.lists.specs.Pairs.{Pairs, nothing, more, pairs-map}
 use Rattle.term.specs.Term.{Term}
 use Rattle.message.specs.Promise.{Message, SameMessage}
-use Rattle.message.specs.Theorems.{declared}
 use Rattle.protocol.specs.Figures.{actionList}
 use Rattle.protocol.specs.Protocol.{Fact, Protocol}
 use Rattle.protocol.specs.Protocol.Limits.{Within}
 use Rattle.steps.specs.Nodes.{Node, NodeWithin}
 use Rattle.steps.specs.Values.{NodeRight}
 use Rattle.steps.specs.Facts.{factsOf, sameTerm}
-use Rattle.steps.specs.Facts.Laws.{term-decides}
-use Rattle.steps.specs.Facts.Messages.{each, MessageFact, IsMessage, message, IsMessages, messageFact, IsNode, messagesOf, facts-messages}
+use Rattle.steps.specs.Facts.Messages.{test-exactly, each, MessageFact, IsMessage, message, IsMessages, messageFact, IsNode, messagesOf, facts-messages}
 use Rattle.property.specs.Formula.{Formula}
 use Rattle.property.specs.Fit.{IsFit}
 use Rattle.property.specs.Meaning.Alike.{LikeFact, LikeTrace}
@@ -65,7 +63,7 @@ module _ (P : Protocol) (fit : Within P) where
     tests = λ {a} {b} {c} {d} p q.
         alike (λ s. s) (λ s. s) (realMessages (P .functions) .decides a b)
         (reflects-exactly (sameTerm c d) (subst₂ (λ (t u : Term). (sameTerm t u ≡ true) ↔ SameMessage ar a b) p q
-        (term-decides ar (declared (P .functions)) (a .term) (b .term) (a .formed) (b .formed))));
+        (test-exactly (P .functions) a b)));
     names = λ n. refl;
   }
 
