@@ -1,6 +1,6 @@
 -- Chains of places by mark, and the classes that they give. Each place that is not numbered by its name gets the number of an earlier place with
 -- the same key, found in the chain of its mark, or else its own.
-use Prim.Native.Nat.{ℕ, suc, _+_, _≤_, _<_}
+use Prim.Native.Nat.{ℕ, suc, _+_, _%_, _≤_, _<_}
 use mathlib.Core.List.{List}
 use mathlib.Core.Logic.{_↔_}
 use mathlib.Core.Path.{_≡_}
@@ -11,9 +11,13 @@ pub mod Laws
 -- one place more
 pub mod Steps
 
--- the heads of the chains, one for each mark; behind them a link for each place
+-- the heads of the chains; behind them a link for each place
 abbrev pub linksAt : ℕ
-linksAt = base
+linksAt = 4096
+
+-- the chain of a mark
+abbrev pub chainOf : ℕ → ℕ
+chainOf mark = mark % linksAt
 
 -- h is 0 at the end of a chain, else a place and one
 module _ (chains : List ℕ) where
@@ -43,4 +47,4 @@ module _ {K : Type 0} (key : ℕ → K) (raw : List ℕ) where
     pub sound : (i r : ℕ) → getD chains i 0 ≡ suc r → (r < m) × Marked raw r
     pub falls : Falls chains
     -- the chain of a place's mark has one with its key
-    pub found : (q : ℕ) → q < m → Marked raw q → (l : ℕ) × (key l ≡ key q) × InChain chains (getD chains (getD raw q 0) 0) l
+    pub found : (q : ℕ) → q < m → Marked raw q → (l : ℕ) × (key l ≡ key q) × InChain chains (getD chains (chainOf (getD raw q 0)) 0) l

@@ -16,8 +16,8 @@ use crate::entries;
 use crate::numbers;
 use facts::compare;
 
-// The chains of places: for each mark the last place that begins a class, and one; behind these, for each such place the one before it.
-const LINKS: usize = numbers::BASE as usize;
+// The chains of places by mark: for each the last place that begins a class, and one; behind these, for each such place the one before it.
+const LINKS: usize = 4096;
 
 const CHAINS: usize = LINKS + numbers::PLACES;
 
@@ -75,12 +75,13 @@ fn class_place(
     if numbers::BASE <= mark {
         return;
     }
-    let head = chains[mark as usize];
+    let chain = mark as usize % LINKS;
+    let head = chains[chain];
     let h = earlier(work, p, s, nodes, entries, chains, head, q);
     if h == 0 {
         classes[q] = q as u32;
         chains[LINKS + q] = head;
-        chains[mark as usize] = (q + 1) as u32;
+        chains[chain] = (q + 1) as u32;
         return;
     }
     classes[q] = classes[h as usize - 1];

@@ -8,7 +8,7 @@ use lib.ListN.{length, getD, set, length-set}
 use lib.Seq.{getD-set-same, getD-set-other}
 use Rattle.lists.specs.Choice.{by-order}
 use Rattle.trace.specs.Tables.{base}
-use Rattle.trace.specs.Chains.{linksAt, InChain, here, later, Falls, Marked, Classed}
+use Rattle.trace.specs.Chains.{linksAt, chainOf, InChain, here, later, Falls, Marked, Classed}
 use Rattle.trace.specs.Chains.Laws.{chain-kept}
 
 module _ {K : Type 0} (key : ℕ → K) (raw : List ℕ) where
@@ -94,22 +94,22 @@ module _ {K : Type 0} (key : ℕ → K) (raw : List ℕ) where
           found = λ q l k. leader q l k (by q l k);
         }
           where
-            leader : (q : ℕ) → q < m + 1 → Marked raw q → By q → (l : ℕ) × (key l ≡ key q) × InChain chains (getD chains (getD raw q 0) 0) l
+            leader : (q : ℕ) → q < m + 1 → Marked raw q → By q → (l : ℕ) × (key l ≡ key q) × InChain chains (getD chains (chainOf (getD raw q 0)) 0) l
             leader q b k a =
                 let (l, e, i) = c .found (a .at) (a .at-less) (a .at-marked) in (
                   l,
                   e ∙ sym (a .keys),
-                  subst (λ (h : ℕ). InChain chains (getD chains h 0) l)
+                  subst (λ (h : ℕ). InChain chains (getD chains (chainOf h) 0) l)
                       (marks (a .at) q (omega (arith, a .at-less)) b (a .at-marked) k (sym (a .keys))) i,
                 )
 
       -- ── none has it ──
       module _ (new : (q : ℕ) → q < m → Marked raw q → key q ≡ key m → ⊥) (long : linksAt + m < length chains) where
-        abbrev mark : ℕ
-        mark = getD raw m 0
+        abbrev chain : ℕ
+        chain = chainOf (getD raw m 0)
 
         abbrev head : ℕ
-        head = getD chains mark 0
+        head = getD chains chain 0
 
         abbrev classes₂ : List ℕ
         classes₂ = set classes m m
@@ -118,7 +118,7 @@ module _ {K : Type 0} (key : ℕ → K) (raw : List ℕ) where
         chains₁ = set chains (linksAt + m) head
 
         abbrev chains₂ : List ℕ
-        chains₂ = set chains₁ mark (m + 1)
+        chains₂ = set chains₁ chain (m + 1)
 
         class-here : getD classes₂ m 0 ≡ m
         class-here = getD-set-same classes m m 0 room
@@ -126,17 +126,17 @@ module _ {K : Type 0} (key : ℕ → K) (raw : List ℕ) where
         class-old : (q : ℕ) → (q ≡ m → ⊥) → getD classes₂ q 0 ≡ getD classes q 0
         class-old q n = getD-set-other classes m q m 0 n
 
-        head-new : getD chains₂ mark 0 ≡ suc m
-        head-new = getD-set-same chains₁ mark (m + 1) 0 (omega (arith, marked, long, length-set chains (linksAt + m) head)) ∙ omega arith
+        head-new : getD chains₂ chain 0 ≡ suc m
+        head-new = getD-set-same chains₁ chain (m + 1) 0 (omega (arith, marked, long, length-set chains (linksAt + m) head)) ∙ omega arith
 
-        other : (i : ℕ) → (i ≡ mark → ⊥) → (i ≡ linksAt + m → ⊥) → getD chains₂ i 0 ≡ getD chains i 0
-        other i a b = getD-set-other chains₁ mark i (m + 1) 0 a ∙ getD-set-other chains (linksAt + m) i head 0 b
+        other : (i : ℕ) → (i ≡ chain → ⊥) → (i ≡ linksAt + m → ⊥) → getD chains₂ i 0 ≡ getD chains i 0
+        other i a b = getD-set-other chains₁ chain i (m + 1) 0 a ∙ getD-set-other chains (linksAt + m) i head 0 b
 
         link-new : getD chains₂ (linksAt + m) 0 ≡ head
-        link-new = getD-set-other chains₁ mark (linksAt + m) (m + 1) 0 (λ z. omega (arith, marked)) ∙ getD-set-same chains (linksAt + m) head 0 long
+        link-new = getD-set-other chains₁ chain (linksAt + m) (m + 1) 0 (λ z. omega arith) ∙ getD-set-same chains (linksAt + m) head 0 long
 
         link-old : (r : ℕ) → r < m → getD chains₂ (linksAt + r) 0 ≡ getD chains (linksAt + r) 0
-        link-old r l = other (linksAt + r) (λ z. omega (arith, marked)) (λ z. omega arith)
+        link-old r l = other (linksAt + r) (λ z. omega arith) (λ z. omega arith)
 
         kept-chain : (i l : ℕ) → InChain chains (getD chains i 0) l → InChain chains₂ (getD chains i 0) l
         kept-chain i l s = chain-kept chains₂ m (c .falls) link-old s (head-low i)
@@ -165,10 +165,10 @@ module _ {K : Type 0} (key : ℕ → K) (raw : List ℕ) where
 
         sound-new : (i r : ℕ) → getD chains₂ i 0 ≡ suc r → (r < m + 1) × Marked raw r
         sound-new i r e =
-            by-test i mark
+            by-test i chain
             (λ a. let z : m ≡ r = omega (arith, e, ap (λ (k : ℕ). getD chains₂ k 0) a, head-new) in (omega arith, subst (Marked raw) z marked))
             (λ a. by-test i (linksAt + m)
-            (λ b. wider r (c .sound mark r (sym link-new ∙ sym (ap (λ (k : ℕ). getD chains₂ k 0) b) ∙ e)))
+            (λ b. wider r (c .sound chain r (sym link-new ∙ sym (ap (λ (k : ℕ). getD chains₂ k 0) b) ∙ e)))
             (λ b. wider r (c .sound i r (sym (other i a b) ∙ e))))
           where
             wider : (r : ℕ) → (r < m) × Marked raw r → (r < m + 1) × Marked raw r
@@ -181,29 +181,31 @@ module _ {K : Type 0} (key : ℕ → K) (raw : List ℕ) where
         falls-new r =
             by-order r m
             (λ a. omega (arith, link-old r a, c .falls r))
-            (λ a. omega (arith, ap (λ (k : ℕ). getD chains₂ (linksAt + k) 0) a, link-new, head-low mark, a))
-            (λ a. omega (arith, other (linksAt + r) (λ z. omega (arith, marked)) (λ z. omega arith), c .falls r))
+            (λ a. omega (arith, ap (λ (k : ℕ). getD chains₂ (linksAt + k) 0) a, link-new, head-low chain, a))
+            (λ a. omega (arith, other (linksAt + r) (λ z. omega arith) (λ z. omega arith), c .falls r))
 
-        found-new : (q : ℕ) → q < m + 1 → Marked raw q → (l : ℕ) × (key l ≡ key q) × InChain chains₂ (getD chains₂ (getD raw q 0) 0) l
+        found-new : (q : ℕ) → q < m + 1 → Marked raw q → (l : ℕ) × (key l ≡ key q) × InChain chains₂ (getD chains₂ (chainOf (getD raw q 0)) 0) l
         found-new q l k =
             by-order q m
             (λ a. let (x, e, i) = c .found q a k in (x, e, old q x k i))
-            (λ a. (m, sym (ap key a), here (ap (λ (i : ℕ). getD chains₂ (getD raw i 0) 0) a ∙ head-new)))
+            (λ a. (m, sym (ap key a), here (ap (λ (i : ℕ). getD chains₂ (chainOf (getD raw i 0)) 0) a ∙ head-new)))
             (λ a. absurd (omega arith))
           where
-            old : (q x : ℕ) → Marked raw q → InChain chains (getD chains (getD raw q 0) 0) x → InChain chains₂ (getD chains₂ (getD raw q 0) 0) x
+            old :
+                (q x : ℕ) → Marked raw q → InChain chains (getD chains (chainOf (getD raw q 0)) 0) x
+                → InChain chains₂ (getD chains₂ (chainOf (getD raw q 0)) 0) x
             old q x k i =
-                by-order (getD raw q 0) mark
+                by-order (chainOf (getD raw q 0)) chain
                 (λ a. same q x k i (λ z. omega arith))
                 (λ a.
                 later m (ap (λ (j : ℕ). getD chains₂ j 0) a ∙ head-new)
-                (subst (λ (h : ℕ). InChain chains₂ h x) (ap (λ (j : ℕ). getD chains j 0) a ∙ sym link-new) (kept-chain (getD raw q 0) x i)))
+                (subst (λ (h : ℕ). InChain chains₂ h x) (ap (λ (j : ℕ). getD chains j 0) a ∙ sym link-new) (kept-chain (chainOf (getD raw q 0)) x i)))
                 (λ a. same q x k i (λ z. omega arith))
               where
-                same : (q x : ℕ) → Marked raw q → InChain chains (getD chains (getD raw q 0) 0) x → (getD raw q 0 ≡ mark → ⊥)
-                    → InChain chains₂ (getD chains₂ (getD raw q 0) 0) x
+                same : (q x : ℕ) → Marked raw q → InChain chains (getD chains (chainOf (getD raw q 0)) 0) x → (chainOf (getD raw q 0) ≡ chain → ⊥)
+                    → InChain chains₂ (getD chains₂ (chainOf (getD raw q 0)) 0) x
                 same q x k i n =
-                    subst (λ (h : ℕ). InChain chains₂ h x) (sym (other (getD raw q 0) n (λ z. omega (arith, k)))) (kept-chain (getD raw q 0) x i)
+                    subst (λ (h : ℕ). InChain chains₂ h x) (sym (other (chainOf (getD raw q 0)) n (λ z. omega arith))) (kept-chain (chainOf (getD raw q 0)) x i)
 
         pub classed-new : Classed key raw classes₂ chains₂ (m + 1)
         classed-new = record {

@@ -14,7 +14,7 @@ use Rattle.steps.specs.Nodes.{Node}
 use Rattle.steps.specs.Values.Parts.{noTerm}
 use Rattle.trace.specs.Tables.{base, stride, placeCount, mostActions, actionsIn}
 use Rattle.trace.specs.Entries.Laws.{actions-few, total-few}
-use Rattle.trace.specs.Chains.{linksAt, InChain, Classed, Marked}
+use Rattle.trace.specs.Chains.{linksAt, chainOf, InChain, Classed, Marked}
 use Rattle.trace.specs.Chains.Laws.{chain-has}
 use Rattle.trace.specs.Chains.Steps.{classed-past, classed-same, classed-new}
 use Rattle.trace.specs.Numbers.{formNumber, argumentNumber, placeNumber, NumberedTo}
@@ -63,11 +63,11 @@ module _ {p s nodes entries classes chains : List ℕ} {m : ℕ} {raw : List ℕ
     places i r e =
         let s = g .classed .sound i r e in marked-place (g .numbered) r (omega (arith, s .0, g .less)) (s .1)
 
-    pub classing-walkable : Walkable p s nodes entries chains (getD chains (getD classes m 0) 0) m P xs
+    pub classing-walkable : Walkable p s nodes entries chains (getD chains (chainOf (getD classes m 0)) 0) m P xs
     classing-walkable = record {
       listed = g .listed;
       place = marked-place (g .numbered) m (g .less) is-marked;
-      first = places (getD classes m 0);
+      first = places (chainOf (getD classes m 0));
       links = places;
       falls = g .classed .falls;
     }
@@ -78,13 +78,13 @@ module _ {p s nodes entries classes chains : List ℕ} {m : ℕ} {raw : List ℕ
         marked-number (g .numbered) q (omega (arith, l, g .less)) k ∙ ap formNumber e
         ∙ sym (marked-number (g .numbered) r (omega (arith, n, g .less)) j)
 
-    module _ (room : placeCount ≤ length classes) {h : ℕ} (a : Earlier (keyAt P xs) chains (getD chains (getD classes m 0) 0) m h) where
+    module _ (room : placeCount ≤ length classes) {h : ℕ} (a : Earlier (keyAt P xs) chains (getD chains (chainOf (getD classes m 0)) 0) m h) where
       inside : m < length classes
       inside = omega (arith, classing-small)
 
       found-before : (r : ℕ) → h ≡ suc r → (r < m) × Marked raw r
       found-before r e =
-          chain-has (λ q. (q < m) × Marked raw q) (g .classed .sound) (a .somewhere r e .0) (g .classed .sound (getD classes m 0))
+          chain-has (λ q. (q < m) × Marked raw q) (g .classed .sound) (a .somewhere r e .0) (g .classed .sound (chainOf (getD classes m 0)))
 
       pub found-small : (r : ℕ) → h ≡ suc r → r < placeCount
       found-small r e = omega (arith, found-before r e .0, classing-small)
@@ -99,14 +99,15 @@ module _ {p s nodes entries classes chains : List ℕ} {m : ℕ} {raw : List ℕ
       new z q l k e =
           let (x, d, i) = g .classed .found q l k in
           a .nowhere z x
-          (subst (λ (j : ℕ). InChain chains (getD chains j 0) x) (marks q m (omega arith) (omega arith) k is-marked e ∙ sym same-raw) i) (d ∙ e)
+          (subst (λ (j : ℕ). InChain chains (getD chains (chainOf j) 0) x) (marks q m (omega arith) (omega arith) k is-marked e ∙ sym same-raw) i) (d ∙ e)
 
       pub class-new :
           h ≡ 0 → linksAt + placeCount ≤ length chains
           → Classed (keyAt P xs) raw (set classes m m)
-          (set (set chains (linksAt + m) (getD chains (getD classes m 0) 0)) (getD classes m 0) (m + 1)) (m + 1)
+          (set (set chains (linksAt + m) (getD chains (chainOf (getD classes m 0)) 0)) (chainOf (getD classes m 0)) (m + 1)) (m + 1)
       class-new z long =
-          subst (λ (j : ℕ). Classed (keyAt P xs) raw (set classes m m) (set (set chains (linksAt + m) (getD chains j 0)) j (m + 1)) (m + 1)) (sym same-raw)
+          subst (λ (j : ℕ). Classed (keyAt P xs) raw (set classes m m) (set (set chains (linksAt + m) (getD chains (chainOf j) 0)) (chainOf j) (m + 1))
+          (m + 1)) (sym same-raw)
           (classed-new (keyAt P xs) raw (g .classed) inside is-marked marks (new z) (omega (arith, classing-small)))
 
 -- ── all places ──

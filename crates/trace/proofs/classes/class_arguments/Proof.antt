@@ -1,5 +1,8 @@
 use native.Mathlib.Omega.{arith}
+use Prim.Native.Nat.{_+_}
 use Rattle.facts.specs.Owed.{room-kept}
+use Rattle.trace.specs.Tables.{placeCount}
+use Rattle.trace.specs.Chains.{linksAt}
 use Rattle.trace.specs.Classes.Exact.{room-less, ready, classes-made, zeros-at}
 use borrow.Author.Needs.{needs}
 use Rattle.trace.proofs.classes.class_arguments.Statement.{statement}
@@ -26,7 +29,7 @@ class-places-requires c κs =
       omega
           (arith, c4 .classes .given, c16 .pre .3),
       search needs,
-      λ i. zeros-at 98304 i,
+      λ i. zeros-at (linksAt + placeCount) i,
     )
 
 same-length : tie.Need-same-length

@@ -3,6 +3,7 @@ use denote.Ref.{now}
 use lib.Seq.{lt-length-set}
 use lib.ListN.{length, getD}
 use Rattle.trace.specs.Tables.{base}
+use Rattle.trace.specs.Chains.{chainOf}
 use Rattle.trace.specs.Classes.Places.{classing-small, classing-walkable, class-past, class-new, class-found, found-small}
 use mathlib.Core.Path.{_≡_}
 use Prim.Native.Nat.{suc, _-_, _<_}
@@ -23,8 +24,8 @@ returns : tie.Need-returns
 returns c =
     λ raw P xs g. class-past g (c .if1 .taken)
 
-cast-head : tie.Need-cast-head
-cast-head c = search needs
+cast-chain : tie.Need-cast-chain
+cast-chain c = search needs
 
 mul-head : tie.Need-mul-head
 mul-head c = search needs
@@ -97,17 +98,13 @@ cast-chains c =
           .before .pre .0 .3),
     )
 
-cast-chains-2 : tie.Need-cast-chains-2
-cast-chains-2 c = search needs
-
 mul-chains-2 : tie.Need-mul-chains-2
 mul-chains-2 c = search needs
 
 slice-write-chains-2 : tie.Need-slice-write-chains-2
 slice-write-chains-2 c =
-    let c7 = c .before .before .before .before .before .before .before in
-    let c16 = c7 .before .before .before .before .before .before .before .before .before in
-    let k : getD (now (c16 .args .classes)) (c16 .args .q) 0 < length (now (c16 .args .chains)) = omega (arith, c7 .if1 .left, c16 .pre .4) in
+    let c16 = c .before .before .before .before .before .before .before .before .before .before .before .before .before .before .before .before in
+    let k : chainOf (getD (now (c16 .args .classes)) (c16 .args .q) 0) < length (now (c16 .args .chains)) = omega (arith, c16 .pre .4) in
     lt-length-set (now (c16 .args .chains)) _ _ k
 
 same-length : tie.Need-same-length
@@ -185,7 +182,7 @@ class-place-spec =
     mul-mark
     slice-read-mark
     returns
-    cast-head
+    cast-chain
     mul-head
     slice-read-head
     earlier-requires
@@ -197,7 +194,6 @@ class-place-spec =
     slice-write-chains
     add-chains-2
     cast-chains
-    cast-chains-2
     mul-chains-2
     slice-write-chains-2
     same-length
