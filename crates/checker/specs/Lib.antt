@@ -6,5 +6,11 @@ pub mod Answer
 pub mod Passing
 -- the files: limits, items, what reading them rules
 pub mod Files
+-- the work area after every answer that is no refusal 1
+pub mod Late
 -- the call canonical form
 pub mod Canonical
+-- the call check
+pub mod Check
+-- the demands, each under its sentence
+pub mod Demands

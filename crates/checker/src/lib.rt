@@ -1,6 +1,10 @@
 // The exported calls.
+
+// the call check, where the work area is long enough
+pub mod checking;
+
 ghost use mathlib.Core.Path.{_≡_};
-ghost use Prim.Native.Nat.{_≤_, ℕ};
+ghost use Prim.Native.Nat.{_≤_, ℕ, _+_, _*_, _^_};
 ghost use lib.ListN.{length};
 ghost use mathlib.Core.List.{List};
 ghost use Rattle.term.specs.Term.{Term};
@@ -11,6 +15,10 @@ ghost use Rattle.rewriting.specs.Table.{refused};
 ghost use Rattle.checker.specs.Answer.{written, packed, workNeed};
 ghost use Rattle.checker.specs.Files.{termRuling};
 ghost use Rattle.checker.specs.Files.Answers.{fileOf};
+ghost use Rattle.steps.specs.Nodes.{mostNodes};
+ghost use Rattle.graph.specs.Graph.{mostEdges};
+ghost use Rattle.checker.specs.Check.{ruled, packedRuling, checkOutcome, checkWork};
+ghost use Rattle.checker.specs.Check.Bounds.{OutcomeSmall};
 ghost use Rattle.checker.specs.Canonical.{canonicalOutcome, canonicalOutput, canonicalWork};
 ghost use Rattle.checker.specs.Canonical.Contracts.{Form, Formed, Under, Judges, Inside};
 use protocol::figures;
@@ -18,7 +26,7 @@ use rules::fit::FitVerdict;
 use term::Walk;
 
 // "Protocol (4,096 bytes)", "Term (1,024 bytes)", and the work area that no call needs more of.
-const PROTOCOL_LIMIT: usize = 4096;
+pub const PROTOCOL_LIMIT: usize = 4096;
 
 const TERM_LIMIT: usize = 1024;
 
@@ -48,10 +56,33 @@ const WRITTEN: u64 = 3 << 56;
 
 const NUMBER: u64 = 1 << 32;
 
+// 1 for an attack, 2 for a run; from bit 32 on the nodes, from bit 16 on those with an action, then the edges.
+const ATTACK: u64 = 1 << 56;
+
+const RUN: u64 = 2 << 56;
+
+const NODES: u64 = 1 << 32;
+
+const ACTIVE: u64 = 1 << 16;
+
 // Document 01's refusal: its number and its item.
 pub struct Refusal {
     pub number: u32,
     pub item: u32,
+}
+
+// The line's counts: nodes, nodes with an action, edges.
+pub struct Counts {
+    pub nodes: usize,
+    pub active: usize,
+    pub edges: usize,
+}
+
+// What checking answers: the property is false of the trace, or true of it, or a refusal.
+pub enum Ruling {
+    Attack(Counts),
+    Run(Counts),
+    Refused(Refusal),
 }
 
 // What drawing and canonical form answer: the length written, or a refusal.
@@ -186,4 +217,49 @@ pub extern "C" fn levtosziv_canonical(
     ensures cleared { λ r. ⌜ now (work .exit) ≡ canonicalWork (now (protocol .entry)) (now (term .entry)) (length (now (output .entry))) (now (work .entry)) ⌝ }
 {
     pack(canonical_form(protocol, term, output, work))
+}
+
+// Rules on a graph: refused, or the property is judged of its trace.
+pub fn check(protocol: &[u8], property: &[u8], graph: &[u8], work: &mut [u8]) -> Ruling
+    ensures answer { λ r. ⌜ ruled r ≡ checkOutcome (now (protocol .entry)) (now (property .entry)) (now (graph .entry)) (length (now (work .entry))) ⌝ }
+    ensures cleared { λ r. ⌜ now (work .exit) ≡ checkWork (now (protocol .entry)) (now (property .entry)) (now (graph .entry)) (now (work .entry)) ⌝ }
+{
+    if work.len() < WORK_NEED {
+        return checking::refuse(rewriting::WORK_SHORT, rewriting::NO_ITEM);
+    }
+    let r = checking::check_files(protocol, property, graph, &mut work[..WORK_NEED]);
+    octets::clear(work);
+    r
+}
+
+fn pack_counts(kind: u64, counts: Counts) -> u64
+    requires { ⌜ (kind ≤ 2 * 2 ^ 56) × (counts .nodes ≤ mostNodes) × (counts .active ≤ mostNodes) × (counts .edges ≤ mostEdges) ⌝ }
+    ensures { λ r. ⌜ r ≡ kind + counts .nodes * 2 ^ 32 + counts .active * 2 ^ 16 + counts .edges ⌝ }
+{
+    kind + counts.nodes as u64 * NODES + counts.active as u64 * ACTIVE + counts.edges as u64
+}
+
+// The ruling as one number.
+fn pack_ruling(ruling: Ruling) -> u64
+    requires { ⌜ OutcomeSmall (ruled ruling) ⌝ }
+    ensures { λ r. ⌜ r ≡ packedRuling (ruled ruling) ⌝ }
+{
+    match ruling {
+        Ruling::Attack(counts) => pack_counts(ATTACK, counts),
+        Ruling::Run(counts) => pack_counts(RUN, counts),
+        Ruling::Refused(r) => r.number as u64 * NUMBER + r.item as u64,
+    }
+}
+
+#[no_mangle]
+pub extern "C" fn levtosziv_check(
+    protocol: &[u8],
+    property: &[u8],
+    graph: &[u8],
+    work: &mut [u8],
+) -> u64
+    ensures answer { λ r. ⌜ r ≡ packedRuling (checkOutcome (now (protocol .entry)) (now (property .entry)) (now (graph .entry)) (length (now (work .entry)))) ⌝ }
+    ensures cleared { λ r. ⌜ now (work .exit) ≡ checkWork (now (protocol .entry)) (now (property .entry)) (now (graph .entry)) (now (work .entry)) ⌝ }
+{
+    pack_ruling(check(protocol, property, graph, work))
 }

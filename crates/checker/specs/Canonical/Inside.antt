@@ -1,28 +1,24 @@
 -- From what the functions inside the call find to what the call promises.
 use Prim.Native.Nat.{ℕ, _≤_}
 use mathlib.Core.List.{List, [], _∷_}
-use mathlib.Core.Bool.{Bool}
-use mathlib.Core.Option.{Option, some, none}
 use mathlib.Core.Path.{_≡_, refl, ap, ap₂, sym, _∙_, subst}
 use native.Mathlib.Omega.{arith}
 use lib.ListN.{length, replicate}
-use borrow.Author.Tests.{ne-eqb}
 use Rattle.lists.specs.Asks.{Promises}
 use Rattle.term.specs.Sizes.{mostSymbols}
-use Rattle.lists.specs.Choice.{pick, by-size, clash}
+use Rattle.lists.specs.Choice.{by-size, clash}
 use Rattle.number.specs.Reading.{Read, got, fault}
 use Rattle.term.specs.Term.{Term, symbols}
 use Rattle.term.specs.Arity.{tagArities}
-use Rattle.rewriting.specs.Table.{Ruling, passed, refused, Pass, andThen, orRefuse, rulingThen}
-use Rattle.rewriting.specs.Table.Passes.{leastPass, lessPass, needPass}
+use Rattle.rewriting.specs.Table.{Ruling, passed, refused, andThen}
+use Rattle.rewriting.specs.Table.Passes.{lessPass, needPass}
 use Rattle.protocol.specs.Protocol.{Protocol}
-use Rattle.protocol.specs.Protocol as files
-use Rattle.rules.specs.Fit.{fits}
 use Rattle.checker.specs.declared.Written.{Written}
 use Rattle.checker.specs.declared.TermFile.the-variants.{Small, Layout, Large}
-use Rattle.checker.specs.Answer.{workNeed, written, workAfter, outputAfter}
+use Rattle.checker.specs.Answer.{workNeed, written, outputAfter}
 use Rattle.checker.specs.Passing.{less-yes, less-no}
-use Rattle.checker.specs.Files.{protocolLimit, termLimit, protocolItem, termItem, layout, fitRuling, protocolRuling, termFile, sizeRuling, termRuling}
+use Rattle.checker.specs.Late.{Late, late-then, late-pass, late-layout, late-work, late-protocol}
+use Rattle.checker.specs.Files.{protocolLimit, termLimit, protocolItem, termItem, layout, protocolRuling, termFile, sizeRuling, termRuling}
 use Rattle.checker.specs.Files.Answers.{fileOf}
 use Rattle.checker.specs.Canonical.{termOf, need, roomRuling, formOf, canonicalOutcome, canonicalOutput, canonicalWork}
 use Rattle.checker.specs.Canonical.Contracts.{Form, Formed, Under, Judges, Inside}
@@ -120,37 +116,7 @@ module _ (protocol term output : List ℕ) (w : Written) where
       }
 
 -- ── the work area ──
--- refused, but not with 1
-abbrev Late : {A : Type 0} → Ruling A → Type 0
-Late (passed a) = Unit {0}
-Late (refused n k) = n ≡ 1 → ⊥
-
-late-then : {A B : Type 0} (r : Ruling A) (f : A → Ruling B) → Late r → ((a : A) → Late (f a)) → Late (andThen r f)
-late-then (passed a) f l h = h a
-late-then (refused n k) f l h = l
-
-late-refuse : {A : Type 0} (n : ℕ) (o : Option ℕ) (r : Ruling A) → (n ≡ 1 → ⊥) → Late r → Late (orRefuse n o r)
-late-refuse n none r h l = l
-late-refuse n (some k) r h l = h
-
-late-pass : {A : Type 0} (p : Pass) (ps : List Pass) (r : Ruling A) → (p .cause .number ≡ 1 → ⊥) → Late (rulingThen ps r) → Late (rulingThen (p ∷ ps) r)
-late-pass p ps r h l = late-refuse (p .cause .number) (p .found) (rulingThen ps r) h l
-
-late-layout : {A : Type 0} (item : ℕ) (r : Read A) → Late (layout item r)
-late-layout item (got x e) = tt
-late-layout item fault = λ e. omega arith
-
-late-work : {A : Type 0} (r : Ruling A) (work : List ℕ) → Late r → workAfter r work ≡ replicate (length work) 0
-late-work (passed a) work l = refl
-late-work (refused n k) work l =
-    ap (λ (b : Bool). pick b work (replicate (length work) 0)) (ne-eqb n 1 l)
-
 module _ (protocol term : List ℕ) (output : ℕ) where
-  late-protocol : Late (protocolRuling protocol)
-  late-protocol =
-      late-then (layout protocolItem (files.protocol protocol)) fitRuling (late-layout protocolItem (files.protocol protocol))
-      (λ p. late-pass (leastPass 4 (λ k r. fits r) (p .rules)) [] (passed p) (λ e. omega arith) tt)
-
   late-term : (arities : List ℕ) → Late (termRuling arities term)
   late-term arities =
       late-then (layout termItem (termFile arities term)) sizeRuling (late-layout termItem (termFile arities term))
@@ -159,7 +125,8 @@ module _ (protocol term : List ℕ) (output : ℕ) where
   late-files : Late (andThen (termOf protocol term) (roomRuling output))
   late-files =
       late-then (termOf protocol term) (roomRuling output)
-      (late-then (protocolRuling protocol) (λ p. termRuling (tagArities (p .functions)) term) late-protocol (λ p. late-term (tagArities (p .functions))))
+      (late-then (protocolRuling protocol) (λ p. termRuling (tagArities (p .functions)) term) (late-protocol protocol)
+      (λ p. late-term (tagArities (p .functions))))
       (λ t. late-pass (needPass 15 output (need t)) [] (passed (need t)) (λ e. omega arith) tt)
 
   late-call : (work : ℕ) → workNeed ≤ work → Late (canonicalOutcome protocol term output work)

@@ -3,7 +3,7 @@ use Prim.Native.Nat.{ℕ, _≤_, _<_}
 use mathlib.Core.List.{List, _∷_, _++_}
 use mathlib.Core.Bool.{true}
 use mathlib.Core.Logic.{_↔_}
-use mathlib.Core.Path.{_≡_, refl, ap, subst, _∙_}
+use mathlib.Core.Path.{_≡_, refl, ap, sym, subst, _∙_}
 use native.Mathlib.Omega.{arith}
 use lib.ListN.{length}
 use Rattle.lists.specs.Choice.{clash, by-size}
@@ -12,7 +12,8 @@ use Rattle.lists.specs.All.{All}
 use Rattle.lists.specs.All.Laws.{all-both, all-nth, nth-all}
 use Rattle.octets.specs.Head.{Bytes}
 use Rattle.number.specs.Reading.{Read, got, fault}
-use Rattle.rewriting.specs.Table.{Row, fixedRow, Absent, rowsAfter}
+use Rattle.rewriting.specs.Table.{Row, passed, fixedRow, Absent, rowsAfter}
+use Rattle.rewriting.specs.Table.Laws.{absent-passed}
 use Rattle.term.specs.Arity.{tagArities}
 use Rattle.protocol.specs.Protocol.{Rule, Protocol, factArities, protocol}
 use Rattle.protocol.specs.Protocol.Limits.{RuleWithin, Within}
@@ -20,7 +21,8 @@ use Rattle.protocol.specs.Protocol.Exact.{protocol-exact, protocol-form}
 use Rattle.rules.specs.Fit.{fits}
 use Rattle.rules.specs.Fit.Meaning.{Fit}
 use Rattle.rules.specs.Fit.Meaning.Laws.{fit-exactly}
-use Rattle.checker.specs.Files.{protocolLimit, protocolItem, layout, layoutRows, fitRows, protocolRows}
+use Rattle.checker.specs.Files.{protocolLimit, protocolItem, layout, layoutRows, fitRows, protocolRuling, protocolRows}
+use Rattle.checker.specs.Files.Laws.{IsFit, protocol-ruled}
 
 -- the file holds the protocol p, which keeps to the limits and to P1 to P4
 pub record FitFile (file : List ℕ) (p : Protocol) : Type 0 where
@@ -91,3 +93,23 @@ fit-file-exactly file bytes = (there, back)
             each = absent-fit p (g .within) c;
           },
         )
+
+-- ── a fit protocol passes, and what passes is fit ──
+module _ (file : List ℕ) (bytes : Bytes file) (p : Protocol) where
+  pub fit-within : FitFile file p → Within p
+  fit-within f = protocol-form file bytes p (length file) (f .reads) .within
+
+  pub fit-passed : FitFile file p → protocolRuling file ≡ passed p
+  fit-passed f =
+      let a = fit-file-exactly file bytes .0 (p, f) in
+      let (q, h, e) = absent-passed (IsFit file) (protocolRows file) (protocolRuling file) (protocol-ruled file) (a .1) in
+      let i : q ≡ p = got-one (sym (h .reads .there) ∙ f .reads) in
+      e ∙ ap (λ (x : Protocol). passed x) i
+    where
+      got-one : {q : Protocol} {d : ℕ} → got q d ≡ got p (length file) → q ≡ p
+      got-one h = cc
+
+  pub is-fit-file : length file ≤ protocolLimit → IsFit file p → FitFile file p
+  is-fit-file l h =
+      let g = protocol-form file bytes p (h .reads .next) (h .reads .there) in
+      record { short = l; reads = h .reads .there ∙ ap (got p) (g .whole); each = absent-fit p (g .within) (h .fit) }

@@ -1,0 +1,120 @@
+-- The demands as theorems over the outcomes, each under its sentence; no parameter is left.
+use Prim.Native.Nat.{ℕ, _≤_, _<_}
+use mathlib.Core.List.{List}
+use mathlib.Core.Bool.{Bool, false, true≢false}
+use mathlib.Core.Logic.{_↔_}
+use mathlib.Core.Path.{_≡_, refl, ap, sym, _∙_, subst}
+use lib.ListN.{length, replicate}
+use Rattle.octets.specs.Head.{Bytes}
+use Rattle.rewriting.specs.Table.{Ruling, passed, Ruled}
+use Rattle.protocol.specs.Protocol.{Protocol}
+use Rattle.protocol.specs.Protocol.Limits.{Within}
+use Rattle.steps.specs.Runs.{IsRun, NamesOnce}
+use Rattle.steps.specs.Runs.Equations.{accepted-exactly}
+use Rattle.steps.specs.Runs.Theorems.{accepted-runs, run-names}
+use Rattle.graph.specs.Graph.{Graph}
+use Rattle.graph.specs.Causes.{DependencyGraph}
+use Rattle.property.specs.Formula.{Formula}
+use Rattle.lists.specs.Reflects.{Reflects, right, wrong}
+use Rattle.property.specs.Truth.{Truth, actionsOfNodes}
+use Rattle.verdict.specs.Truth.Laws.{truth-holds}
+use Rattle.checker.specs.Answer.{workNeed}
+use Rattle.checker.specs.Files.Fit.{FitFile, fit-within}
+use Rattle.checker.specs.Check.{graphLimit, Checked, checked, checkOutcome, checkRows, checkWork}
+use Rattle.checker.specs.Check.Fit.{FitProperty}
+use Rattle.checker.specs.Check.Cases.{sized, work-kept, work-cleared}
+use Rattle.checker.specs.Check.Laws.{Holds, Answers, files-fit, holds-passed, passed-graph, check-ruled, check-unique, passed-answers}
+
+-- the trace of a dependency graph makes the property true, over all messages and all times
+abbrev pub TraceHolds : (p : Protocol) → Within p → Formula → {file : List ℕ} {g : Graph} → DependencyGraph p file g → Type 0
+TraceHolds p fit f {file} {g} d = Truth (p .functions) (actionsOfNodes p fit (g .nodes) (d .within .0 .each) (d .right)) f
+
+-- an answer that decides a statement is false just where the statement fails
+fails-exactly : {P : Type 0} {b : Bool} → Reflects P b → (b ≡ false) ↔ ¬ P
+fails-exactly (right p) = ((λ e. absurd (true≢false e)), (λ n. absurd (n p)))
+fails-exactly (wrong n) = ((λ e. n), (λ m. refl))
+
+module _ (protocol property graph : List ℕ) (bytes : Bytes protocol) (property-bytes : Bytes property) (graph-bytes : Bytes graph) where
+  -- ── 1: "A caller may hand over protocol, property and graph as any byte strings and receives a ruling or one refusal from document 01's
+  -- table, with all lent memory left as that table says." ──
+  pub any-bytes :
+      (work : ℕ) → Ruled (checkRows protocol property graph work) (Answers protocol property graph) (checkOutcome protocol property graph work)
+  any-bytes = check-ruled protocol property graph bytes property-bytes graph-bytes
+
+  pub one-outcome :
+      (work : ℕ) (r : Ruling Checked) → Ruled (checkRows protocol property graph work) (Answers protocol property graph) r
+      → r ≡ checkOutcome protocol property graph work
+  one-outcome = check-unique protocol property graph bytes property-bytes graph-bytes
+
+  -- "Left as it was: all" for refusal 1; "After every call but refusal 1 it is all zeros."
+  pub work-left :
+      (work : List ℕ)
+      → (length work < workNeed → checkWork protocol property graph work ≡ work)
+      × (workNeed ≤ length work → checkWork protocol property graph work ≡ replicate (length work) 0)
+  work-left work = (
+    (λ l. sym (work-kept protocol property graph work l)),
+    (λ l. sym (work-cleared protocol property graph work l)),
+  )
+
+  -- ── 2: "With protocol and property fit and the work area long enough, a graph is accepted exactly when it is a dependency graph of its
+  -- protocol in document 01's forms and sizes, and the property is judged over all messages and all times." ──
+  module _ (p : Protocol) (fit : FitFile protocol p) (f : Formula) (fit-property : FitProperty p property f) where
+    pub record IsGraph (g : Graph) : Type 0 where
+      pub short : length graph ≤ graphLimit
+      pub is : DependencyGraph p graph g
+
+    pub graph-exactly :
+        (work : ℕ) → workNeed ≤ work → (c : Checked)
+        → (checkOutcome protocol property graph work ≡ passed c) ↔ ((g : Graph) × IsGraph g × (c ≡ checked p f g))
+    graph-exactly work long c = (there, back)
+      where
+        whole : (g : Graph) → IsGraph g → Holds protocol property graph p f g
+        whole g h = record { fit = fit; fit-property = fit-property; short = h .short; is-graph = h .is }
+
+        back : (g : Graph) × IsGraph g × (c ≡ checked p f g) → checkOutcome protocol property graph work ≡ passed c
+        back (g, h, e) =
+            sized protocol property graph work long (fit .short) (fit-property .short) (h .short)
+            ∙ holds-passed protocol property graph bytes property-bytes graph-bytes p f g (whole g h)
+            ∙ ap (λ (x : Checked). passed x) (sym e)
+
+        there : checkOutcome protocol property graph work ≡ passed c → (g : Graph) × IsGraph g × (c ≡ checked p f g)
+        there e =
+            let a = passed-answers protocol property graph bytes property-bytes graph-bytes work c e in
+            let s = sized protocol property graph work long (fit .short) (fit-property .short) (a .files .short) in
+            let under = files-fit protocol property graph bytes property-bytes graph-bytes p f fit fit-property in
+            let (g, d, i) = passed-graph protocol property graph bytes property-bytes graph-bytes p f c fit (sym under ∙ sym s ∙ e) in
+            (g, record { short = a .files .short; is = d }, i)
+
+    -- and the property is judged
+    pub attack-exactly :
+        {g : Graph} (d : DependencyGraph p graph g) → (checked p f g .holds ≡ false) ↔ ¬ TraceHolds p (fit-within protocol bytes p fit) f d
+    attack-exactly {g} d =
+        fails-exactly (truth-holds p (fit-within protocol bytes p fit) (g .nodes) (d .within .0 .each) (d .right) f (fit-property .fits))
+
+  -- ── 3: "For every protocol, property and graph, if the graph is accepted, then its nodes in file order are a run of the multiset rewriting
+  -- from the empty state, no fresh name made twice, and it is ruled an attack exactly when the trace makes the property false." ──
+  pub record IsRuled (c : Checked) : Type 0 where
+    pub its : Answers protocol property graph c
+    pub run : IsRun (its .is-protocol) (its .is-graph .nodes)
+    pub names-once : NamesOnce (its .is-protocol) (its .is-graph .nodes)
+    pub attack :
+        (c .holds ≡ false)
+        ↔ ¬ TraceHolds (its .is-protocol) (fit-within protocol bytes (its .is-protocol) (its .files .fit)) (its .is-property) (its .files .is-graph)
+
+  pub accepted-run : (work : ℕ) (c : Checked) → checkOutcome protocol property graph work ≡ passed c → IsRuled c
+  accepted-run work c e =
+      let a = passed-answers protocol property graph bytes property-bytes graph-bytes work c e in
+      let p = a .is-protocol in
+      let g = a .is-graph in
+      let h = a .files in
+      let d = h .is-graph in
+      let fit = fit-within protocol bytes p (h .fit) in
+      let acc = accepted-exactly p fit (g .nodes) (d .within .0 .each) (g .edges) .1 (d .accepted) in
+      let run = accepted-runs p (g .nodes) (g .edges) acc in
+      record {
+        its = a;
+        run = run;
+        names-once = run-names p (g .nodes) run;
+        attack = subst (λ (b : Checked). (b .holds ≡ false) ↔ ¬ TraceHolds p fit (a .is-property) d) (sym (a .answer))
+            (attack-exactly p (h .fit) (a .is-property) (h .fit-property) d);
+      }

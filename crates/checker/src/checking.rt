@@ -1,0 +1,118 @@
+// The call check, where the work area is long enough.
+ghost use mathlib.Core.Path.{_≡_};
+ghost use Prim.Native.Nat.{ℕ, _≤_};
+ghost use lib.ListN.{length};
+ghost use Rattle.lists.specs.Asks.{Asks, Promises, Asks₂, Promises₂, Asks₃, Promises₃};
+ghost use Rattle.rewriting.specs.Table.{refused};
+ghost use Rattle.protocol.specs.Protocol.{Protocol};
+ghost use Rattle.prepared.specs.Prepared.{Prepared};
+ghost use Rattle.facts.specs.Writing.{factRoom};
+ghost use Rattle.facts.specs.Calls.{Room};
+ghost use Rattle.property.specs.Formula.{Formula};
+ghost use Rattle.verdict.specs.Judged.{Posed};
+ghost use Rattle.checker.specs.Answer.{workNeed};
+ghost use Rattle.checker.specs.Files.{protocolLimit};
+ghost use Rattle.checker.specs.Check.{graphLimit, ruled, graphUnder, underProtocol, filesRuling};
+ghost use Rattle.checker.specs.Check.Bounds.{mostNumber, mostItem};
+ghost use Rattle.checker.specs.Check.Contracts.{Under, Told, Inside};
+use crate::Counts;
+use crate::Refusal;
+use crate::Ruling;
+use graph::ruling::GraphRuling;
+use prepared::sections;
+use property::ruling::PropertyRuling;
+use rules::fit::FitVerdict;
+
+// "Property (1,024 bytes)", "Graph (61,440 bytes)"
+const PROPERTY_LIMIT: usize = 1024;
+
+const GRAPH_LIMIT: usize = 61440;
+
+pub fn refuse(number: usize, item: usize) -> Ruling
+    requires { ⌜ (number ≤ mostNumber) × (item ≤ mostItem) ⌝ }
+    ensures { λ r. ⌜ ruled r ≡ refused number item ⌝ }
+{
+    Ruling::Refused(Refusal {
+        number: number as u32,
+        item: item as u32,
+    })
+}
+
+// The ruling on the n nodes of a dependency graph of m edges.
+fn judge_graph(
+    p: &[u8],
+    property: &[u8],
+    graph: &[u8],
+    nodes: &[usize],
+    n: usize,
+    m: usize,
+    work: &mut [u8],
+) -> Ruling
+    requires { ⌜ Asks₃ (Posed (now p) (now property) (now graph) (now nodes) n) × Room (now work) factRoom ⌝ }
+    ensures { λ r. ⌜ Promises₃ (Posed (now (p .entry)) (now (property .entry)) (now (graph .entry)) (now (nodes .entry)) n) (Told n m r) ⌝ }
+{
+    let verdict = verdict::judge_nodes(p, property, graph, nodes, n, work);
+    let counts = Counts {
+        nodes: n,
+        active: verdict.active,
+        edges: m,
+    };
+    if verdict.truth {
+        return Ruling::Run(counts);
+    }
+    Ruling::Attack(counts)
+}
+
+// The graph, 3 and 6 to 13, under a property that passes.
+fn check_graph(p: &[u8], property: &[u8], graph: &[u8], work: &mut [u8]) -> Ruling
+    requires { ⌜ Asks₂ (Under (now p) (now property)) × (length (now graph) ≤ graphLimit) × Room (now work) factRoom ⌝ }
+    ensures { λ r. ⌜ Promises₂ (Under (now (p .entry)) (now (property .entry))) (λ (P : Protocol) (f : Formula). ruled r ≡ graphUnder P f (now (graph .entry))) ⌝ }
+{
+    let mut nodes = [0usize; steps::nodes::TABLE];
+    let mut edges = [0u32; graph::edges::TABLE];
+    match graph::ruling::rule_graph(p, graph, &mut nodes, &mut edges, work) {
+        GraphRuling::Good(n, m) => judge_graph(p, property, graph, &nodes, n, m, work),
+        GraphRuling::Refused(number, item) => refuse(number, item),
+    }
+}
+
+// The property, 3 and 5, under a prepared protocol, then the graph.
+fn check_property(p: &[u8], property: &[u8], graph: &[u8], work: &mut [u8]) -> Ruling
+    requires { ⌜ Asks (Prepared (now p)) × (length (now graph) ≤ graphLimit) × Room (now work) factRoom ⌝ }
+    ensures { λ r. ⌜ Promises (Prepared (now (p .entry))) (λ (P : Protocol). ruled r ≡ underProtocol P (now (property .entry)) (now (graph .entry))) ⌝ }
+{
+    match property::ruling::rule_property(p, property) {
+        PropertyRuling::Good => check_graph(p, property, graph, work),
+        PropertyRuling::Refused(number, item) => refuse(number, item),
+    }
+}
+
+// The protocol, 3 and 4, then the property and the graph.
+fn check_protocol(protocol: &[u8], property: &[u8], graph: &[u8], work: &mut [u8]) -> Ruling
+    requires { ⌜ (length (now protocol) ≤ protocolLimit) × (length (now graph) ≤ graphLimit) × Room (now work) factRoom ⌝ }
+    ensures { λ r. ⌜ ruled r ≡ filesRuling (now (protocol .entry)) (now (property .entry)) (now (graph .entry)) ⌝ }
+{
+    let mut p = [0u8; sections::PREPARED];
+    match prepared::list_places::prepare(protocol, &mut p) {
+        FitVerdict::Sound(_, _) => check_property(&p, property, graph, work),
+        FitVerdict::Broken(k) => refuse(rewriting::CONDITION_BROKEN, k),
+        FitVerdict::Fault => refuse(rewriting::LAYOUT, rewriting::PROTOCOL_ITEM),
+    }
+}
+
+// "2 for all files in order", then the files.
+pub fn check_files(protocol: &[u8], property: &[u8], graph: &[u8], work: &mut [u8]) -> Ruling
+    requires { ⌜ Room (now work) factRoom ⌝ }
+    ensures { λ r. ⌜ Promises (λ (work : ℕ). workNeed ≤ work) (Inside (now (protocol .entry)) (now (property .entry)) (now (graph .entry)) r) ⌝ }
+{
+    if crate::PROTOCOL_LIMIT < protocol.len() {
+        return refuse(rewriting::FILE_LONG, rewriting::PROTOCOL_ITEM);
+    }
+    if PROPERTY_LIMIT < property.len() {
+        return refuse(rewriting::FILE_LONG, property::ruling::PROPERTY_ITEM);
+    }
+    if GRAPH_LIMIT < graph.len() {
+        return refuse(rewriting::FILE_LONG, rewriting::GRAPH_ITEM);
+    }
+    check_protocol(protocol, property, graph, work)
+}
