@@ -1,6 +1,14 @@
 -- "The M cases form one proved table, its claim made over the definitions."
 
+-- the table, and that each row holds
+pub mod Table
+-- its rows' proofs: the three cases of the line, over the outcome of checking
+pub mod Lines
+-- the five cases of messages, by the equations and the words of the canonical form, for names of any numbers
+pub mod Messages
+-- and as the bytes that canonical form writes
+pub mod Forms
 -- 80 01 is 128, 80 00 refused
 pub mod Numbers
--- the canonical forms of five terms; identity as canonical form, and exp that spreads, shut out
-pub mod Messages
+-- "Shut out": what a checker and a canonical form cannot be, from the cases
+pub mod ShutOut

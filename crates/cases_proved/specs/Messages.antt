@@ -1,7 +1,7 @@
 -- Document 01's cases of messages, marked M, whatever free functions are declared: g is a public name of any number, the others are fresh names of
 -- any distinct numbers. The claims are made over the equations and the words of the canonical form.
 use Prim.Native.Nat.{ℕ}
-use mathlib.Core.Path.{_≡_, refl, sym, _∙_}
+use mathlib.Core.Path.{_≡_, refl, _∙_}
 use mathlib.Core.Logic.{_≢_}
 use mathlib.Core.List.{List}
 use native.Mathlib.Omega.{arith}
@@ -9,7 +9,6 @@ use lib.IntN.{pos, negsuc}
 use Rattle.lists.specs.Choice.{clash}
 use Rattle.octets.specs.declared.Order.{Order}
 use Rattle.octets.specs.declared.Order.the-variants.{Less, Equal, Greater}
-use Rattle.number.specs.Groups.{groups, groupsIn}
 use Rattle.term.specs.Term.{public, fresh, Kind, Term, leaf, app, nil, _&_, Formed}
 use Rattle.term.specs.Arity.{arity, tagArities}
 use Rattle.message.specs.Functions.{one, enc, dec, exp, inv, mul}
@@ -22,7 +21,7 @@ use Rattle.message.specs.Rules.{Theory, tower, SameIn}
 use Rattle.message.specs.Table.Laws.{theory, tabled-figure}
 use Rattle.message.specs.Parts.Ascending.{order-flip}
 use Rattle.message.specs.Parts.Laws.{order-eq, formed-exp}
-use Rattle.message.specs.Canon.{apply, canon}
+use Rattle.message.specs.Canon.{canon}
 use Rattle.message.specs.Canon.Views.{tag}
 use Rattle.message.specs.Canon.Group.{W, _⊗_, i, rf, cg, cge, ⊗-comm, ⊗-cancel, i-i, i-⊗, i-one}
 use Rattle.message.specs.Theorems.{same-canon, canonical-stays, declared}
@@ -156,20 +155,3 @@ module _ (free : List ℕ) where
 
   pub inverse-one : Form (inv one) one
   inverse-one = record { same = widen tabled-figure (i-one σ); canonical = product empty refl tt noFactor }
-
-  -- ── shut out ──
-  -- "identity as canonical form": some term's canonical form, whatever it is, is not itself
-  pub not-itself : (u : Term) → Form (inv one) u → u ≢ inv one
-  not-itself u f e =
-      let q : inv one ≡ one = sym e ∙ sym (form-canon (inv one) u f) ∙ form-canon (inv one) one inverse-one in
-      clash (cc)
-
-  -- "reading mul as the product in the DH group, so that exp spreads over it"
-  pub no-spread : Same (arity (tagArities free)) (exp (mul (fn 0) (fn 1)) (fn 2)) (mul (exp (fn 0) (fn 2)) (exp (fn 1) (fn 2))) → ⊥
-  unfolding apply groups groupsIn
-  no-spread d =
-      let w = same-formed d in
-      let e : exp (mul (fn 0) (fn 1)) (fn 2) ≡ mul (exp (fn 0) (fn 2)) (exp (fn 1) (fn 2)) =
-      same-canon (arity (tagArities free)) (declared free) (exp (mul (fn 0) (fn 1)) (fn 2)) (mul (exp (fn 0) (fn 2)) (exp (fn 1) (fn 2)))
-      (w .0) (w .1) .0 d in
-      clash (cc)
