@@ -5,7 +5,8 @@
  * reads or writes them while the call runs. A work area of 65,536 bytes is long enough for every call.
  *
  * The answer packs the outcome. Bits 56 up: 0 refused, 1 attack, 2 run, 3 written. Refused: bits 32 to 39 the number of document 01's
- * refusal table, bits 0 to 31 the item. Written: bits 0 to 31 the length. All other bits are zero.
+ * refusal table, bits 0 to 31 the item. Attack and run: bits 32 to 47 the nodes, bits 16 to 31 the nodes with an action, bits 0 to 15
+ * the edges. Written: bits 0 to 31 the length. All other bits are zero.
  */
 #ifndef LEVTOSZIV_H
 #define LEVTOSZIV_H
@@ -16,6 +17,10 @@
 #ifdef __cplusplus
 extern "C" {
 #endif
+
+/* Rules on the graph under the protocol, and judges the property over its trace: attack (the property is false), run, or a refusal. */
+uint64_t levtosziv_check(const uint8_t *protocol, size_t protocol_length, const uint8_t *property, size_t property_length,
+                         const uint8_t *graph, size_t graph_length, uint8_t *work, size_t work_length);
 
 /* Writes the canonical form of the term file's term, read under the protocol, to the start of the output. */
 uint64_t levtosziv_canonical(const uint8_t *protocol, size_t protocol_length, const uint8_t *term, size_t term_length,

@@ -3,8 +3,8 @@
 /// Step lists whose cost is measured.
 pub mod step_lists;
 
-use levtosziv::{Refusal, Written};
-use reference::calls::Outcome;
+use levtosziv::{Refusal, Ruling, Written};
+use reference::calls::{Counts, Outcome};
 use reference::cases::{data, expected, Case};
 use std::collections::BTreeMap;
 use std::io::Write;
@@ -58,14 +58,59 @@ impl Lent {
     }
 }
 
+fn refused(Refusal { number, item }: Refusal) -> Outcome {
+    Outcome::Refused(reference::refusal::Refusal { number, item })
+}
+
 /// The proved call's answer in the reference's words.
 pub fn outcome(written: Written) -> Outcome {
     match written {
         Written::Length(length) => Outcome::Written(length),
-        Written::Refused(Refusal { number, item }) => {
-            Outcome::Refused(reference::refusal::Refusal { number, item })
-        }
+        Written::Refused(refusal) => refused(refusal),
     }
+}
+
+/// The answer of checking.
+pub fn ruled(ruling: Ruling) -> Outcome {
+    let counts = |counts: levtosziv::Counts| Counts {
+        nodes: counts.nodes,
+        with_action: counts.with_action,
+        edges: counts.edges,
+    };
+    match ruling {
+        Ruling::Attack(found) => Outcome::Attack(counts(found)),
+        Ruling::Run(found) => Outcome::Run(counts(found)),
+        Ruling::Refused(refusal) => refused(refusal),
+    }
+}
+
+/// The two implementations on one input of checking; the reference's outcome.
+pub fn check_agrees(
+    protocol: &[u8],
+    property: &[u8],
+    graph: &[u8],
+    work: usize,
+    seed: u64,
+) -> Outcome {
+    let (mut our_work, mut their_work) = (Lent::new(work, seed), Lent::new(work, seed));
+    let ours = ruled(levtosziv::check(
+        protocol,
+        property,
+        graph,
+        our_work.slice(),
+    ));
+    let theirs = reference::calls::check(protocol, property, graph, their_work.slice());
+    let input = || {
+        format!("protocol {protocol:02X?} property {property:02X?} graph {graph:02X?} work {work}")
+    };
+    assert_eq!(ours, theirs, "{}", input());
+    assert!(
+        our_work.slice() == their_work.slice(),
+        "work area: {}",
+        input()
+    );
+    assert!(our_work.guards_hold(), "guards: {}", input());
+    theirs
 }
 
 /// The two implementations on one input of canonical form; the reference's outcome.

@@ -1,6 +1,6 @@
 //! The corpus through the proved calls: outcome and every lent byte. And its graphs through their test program.
 
-use differential::{outcome, program};
+use differential::{outcome, program, ruled};
 use reference::cases::{data, Case, Kind};
 use reference::corpus::{cases, expected_memory, INDEX, OUTPUT_BYTE, WORK_BYTE};
 use std::path::Path;
@@ -24,6 +24,23 @@ fn every_canonical_form_of_the_corpus() {
         run += 1;
     }
     assert_eq!(run, 64);
+}
+
+#[test]
+fn every_check_of_the_corpus() {
+    let mut run = 0;
+    for (case, label) in cases().iter().zip(INDEX.lines()) {
+        let (0, [protocol, property, graph]) = (case.kind, &case.files[..]) else {
+            continue;
+        };
+        let mut work = vec![WORK_BYTE; case.work];
+        let answer = ruled(levtosziv::check(protocol, property, graph, &mut work));
+        assert_eq!(answer, case.outcome, "{label}");
+        assert_eq!(work, expected_memory(case).1, "{label}");
+        run += 1;
+    }
+    println!("checks of the corpus: {run}");
+    assert!(run > 214);
 }
 
 /// What the test program says of a graph that is checked with this outcome. Nothing, where the outcome is about

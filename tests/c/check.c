@@ -1,0 +1,44 @@
+/* Checking from C, by the header alone: document 01's printed case, without its last edge, no nodes at all, a short work area. */
+#include "levtosziv.h"
+
+#include <stdio.h>
+#include <string.h>
+
+static uint8_t work[65536];
+
+static int fails(const char *what, int ok)
+{
+    if (!ok)
+        printf("C: %s failed\n", what);
+    return !ok;
+}
+
+int main(void)
+{
+    const uint8_t protocol[] = {0, 1, 1, 0, 1, 1, 1, 1, 0, 0, 0, 1, 4, 0, 0, 1, 2, 0, 0};
+    const uint8_t property[] = {12, 2, 0, 3, 4, 0, 0, 1, 12, 1, 3, 3, 0, 0, 2, 0};
+    uint8_t graph[] = {4, 0, 2, 7, 31, 2, 7, 1, 2, 7, 2, 2, 7, 3, 1, 1, 2, 1, 2, 1, 3, 1, 3, 1, 4, 1};
+    const uint8_t nothing[] = {0, 0};
+    const uint8_t never[] = {0};
+    int failed = 0;
+
+    memset(work, 0x5A, sizeof work);
+    uint64_t answer = levtosziv_check(protocol, sizeof protocol, property, sizeof property, graph, sizeof graph, work, sizeof work);
+    failed += fails("attack 4 2 3", answer == ((uint64_t)1 << 56 | (uint64_t)4 << 32 | 2 << 16 | 3));
+    failed += fails("the work area", work[0] == 0 && memcmp(work, work + 1, sizeof work - 1) == 0);
+
+    graph[13] = 2;
+    answer = levtosziv_check(protocol, sizeof protocol, property, sizeof property, graph, sizeof graph - 4, work, sizeof work);
+    failed += fails("refused 12 4", answer == ((uint64_t)12 << 32 | 4));
+
+    answer = levtosziv_check(protocol, sizeof protocol, never, sizeof never, nothing, sizeof nothing, work, sizeof work);
+    failed += fails("attack 0 0 0", answer == (uint64_t)1 << 56);
+
+    memset(work, 0x5A, sizeof work);
+    answer = levtosziv_check(protocol, sizeof protocol, never, sizeof never, nothing, sizeof nothing, work, sizeof work - 1);
+    failed += fails("a short work area", answer == (uint64_t)1 << 32 && work[0] == 0x5A);
+
+    answer = levtosziv_check(protocol, sizeof protocol, NULL, 0, nothing, sizeof nothing, work, sizeof work);
+    failed += fails("an empty property", answer == ((uint64_t)3 << 32 | 2));
+    return failed != 0;
+}
