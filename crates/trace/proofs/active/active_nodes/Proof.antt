@@ -10,7 +10,8 @@ use Rattle.protocol.specs.Protocol.{Protocol}
 use Rattle.lists.specs.Lists.{countBy}
 use Rattle.lists.specs.Asks.{Promises₂}
 use Rattle.trace.specs.Tables.{Starts}
-use Rattle.trace.specs.Active.{isActive, active-more, active-same, active-all}
+use Rattle.trace.specs.Active.{isActive}
+use Rattle.trace.specs.Active.Laws.{active-more, active-same, active-all}
 use Rattle.trace.proofs.active.active_nodes.Statement.{statement}
 use Rattle.trace.proofs.active.active_nodes.Tie as tie
 
