@@ -109,7 +109,7 @@ pub fn check_files(protocol: &[u8], property: &[u8], graph: &[u8], work: &mut [u
         return refuse(rewriting::FILE_LONG, rewriting::PROTOCOL_ITEM);
     }
     if PROPERTY_LIMIT < property.len() {
-        return refuse(rewriting::FILE_LONG, property::ruling::PROPERTY_ITEM);
+        return refuse(rewriting::FILE_LONG, rewriting::PROPERTY_ITEM);
     }
     if GRAPH_LIMIT < graph.len() {
         return refuse(rewriting::FILE_LONG, rewriting::GRAPH_ITEM);
