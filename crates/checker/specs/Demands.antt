@@ -1,14 +1,21 @@
 -- The demands as theorems over the outcomes, each under its sentence; no parameter is left.
 use Prim.Native.Nat.{ℕ, _≤_, _<_}
 use mathlib.Core.List.{List}
-use mathlib.Core.Bool.{Bool, false, true≢false}
+use mathlib.Core.Bool.{Bool, true, false, true≢false}
 use mathlib.Core.Logic.{_↔_}
 use mathlib.Core.Path.{_≡_, refl, ap, sym, _∙_, subst}
 use lib.ListN.{length, replicate}
+use Rattle.lists.specs.Lists.{_∈_}
+use Rattle.lists.specs.Lists.Laws.{mem-nth}
+use Rattle.lists.specs.All.Laws.{all-nth}
 use Rattle.octets.specs.Head.{Bytes}
+use Rattle.message.specs.Promise.{Message, SameMessage, messages}
 use Rattle.rewriting.specs.Table.{Ruling, passed, Ruled}
-use Rattle.protocol.specs.Protocol.{Protocol}
+use Rattle.protocol.specs.Protocol.{Fact, Protocol}
 use Rattle.protocol.specs.Protocol.Limits.{Within}
+use Rattle.steps.specs.Nodes.{Node, NodeWithin}
+use Rattle.steps.specs.Facts.{factsOf, sameFact, SameFact}
+use Rattle.steps.specs.Facts.Formed.{FactFormed, facts-formed, formed-decides}
 use Rattle.steps.specs.Runs.{IsRun, NamesOnce}
 use Rattle.steps.specs.Runs.Equations.{accepted-exactly}
 use Rattle.steps.specs.Runs.Theorems.{accepted-runs, run-names}
@@ -16,13 +23,14 @@ use Rattle.graph.specs.Graph.{Graph}
 use Rattle.graph.specs.Causes.{DependencyGraph}
 use Rattle.property.specs.Formula.{Formula}
 use Rattle.lists.specs.Reflects.{Reflects, right, wrong}
-use Rattle.property.specs.Truth.{Truth, actionsOfNodes}
+use Rattle.property.specs.Truth.{arities, Truth, actionsOfNodes}
 use Rattle.verdict.specs.Truth.Laws.{truth-holds}
 use Rattle.checker.specs.Answer.{workNeed}
 use Rattle.checker.specs.Files.Fit.{FitFile, fit-within}
 use Rattle.checker.specs.Check.{graphLimit, Checked, checked, checkOutcome, checkRows, checkWork}
 use Rattle.checker.specs.Check.Fit.{FitProperty}
 use Rattle.checker.specs.Check.Cases.{sized, work-kept, work-cleared}
+use Rattle.checker.specs.Check.Bounds.{OutcomeSmall, check-small}
 use Rattle.checker.specs.Check.Laws.{Holds, Answers, files-fit, holds-passed, passed-graph, check-ruled, check-unique, passed-answers}
 
 -- the trace of a dependency graph makes the property true, over all messages and all times
@@ -33,6 +41,21 @@ TraceHolds p fit f {file} {g} d = Truth (p .functions) (actionsOfNodes p fit (g 
 fails-exactly : {P : Type 0} {b : Bool} → Reflects P b → (b ≡ false) ↔ ¬ P
 fails-exactly (right p) = ((λ e. absurd (true≢false e)), (λ n. absurd (n p)))
 fails-exactly (wrong n) = ((λ e. n), (λ m. refl))
+
+-- ── 2: "Two messages count as equal exactly when the paper's ten equations make them equal." ──
+-- the test of two messages, and that of two facts of nodes
+pub messages-equal : (free : List ℕ) (m n : Message (arities free)) → (messages free .same m n ≡ true) ↔ SameMessage (arities free) m n
+messages-equal free m n = messages free .decides m n
+
+pub facts-equal :
+    (p : Protocol) → Within p → (x y : Node) → NodeWithin p x → NodeWithin p y → (i j : ℕ) (f g : Fact) → f ∈ factsOf p i x → g ∈ factsOf p j y
+    → (sameFact f g ≡ true) ↔ SameFact (arities (p .functions)) f g
+facts-equal p fit x y a b i j f g m n = formed-decides p fit f g (formed x a i f m) (formed y b j g n)
+  where
+    formed : (z : Node) → NodeWithin p z → (list : ℕ) (h : Fact) → h ∈ factsOf p list z → FactFormed p h
+    formed z c list h o =
+        let (k, e) = mem-nth (factsOf p list z) h o in
+        all-nth (FactFormed p) (factsOf p list z) (facts-formed p fit z c list) k h e
 
 module _ (protocol property graph : List ℕ) (bytes : Bytes protocol) (property-bytes : Bytes property) (graph-bytes : Bytes graph) where
   -- ── 1: "A caller may hand over protocol, property and graph as any byte strings and receives a ruling or one refusal from document 01's
@@ -45,6 +68,10 @@ module _ (protocol property graph : List ℕ) (bytes : Bytes protocol) (property
       (work : ℕ) (r : Ruling Checked) → Ruled (checkRows protocol property graph work) (Answers protocol property graph) r
       → r ≡ checkOutcome protocol property graph work
   one-outcome = check-unique protocol property graph bytes property-bytes graph-bytes
+
+  -- its figures are small: numbers to 13, items to 4,096, 512 nodes, 4,096 edges
+  pub small-outcome : (work : ℕ) → OutcomeSmall (checkOutcome protocol property graph work)
+  small-outcome = check-small protocol property graph bytes property-bytes graph-bytes
 
   -- "Left as it was: all" for refusal 1; "After every call but refusal 1 it is all zeros."
   pub work-left :

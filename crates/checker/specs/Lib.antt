@@ -12,5 +12,7 @@ pub mod Late
 pub mod Canonical
 -- the call check
 pub mod Check
+-- the line of a ruling
+pub mod Line
 -- the demands, each under its sentence
 pub mod Demands

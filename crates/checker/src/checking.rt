@@ -24,9 +24,9 @@ use property::ruling::PropertyRuling;
 use rules::fit::FitVerdict;
 
 // "Property (1,024 bytes)", "Graph (61,440 bytes)"
-const PROPERTY_LIMIT: usize = 1024;
+pub const PROPERTY_LIMIT: usize = 1024;
 
-const GRAPH_LIMIT: usize = 61440;
+pub const GRAPH_LIMIT: usize = 61440;
 
 pub fn refuse(number: usize, item: usize) -> Ruling
     requires { ⌜ (number ≤ mostNumber) × (item ≤ mostItem) ⌝ }

@@ -1,7 +1,7 @@
 // The exported calls.
 
-// the call check, where the work area is long enough
-pub mod checking;
+pub mod checking; // the call check, where the work area is long enough
+pub mod line; // the line of a ruling
 
 ghost use mathlib.Core.Path.{_≡_};
 ghost use Prim.Native.Nat.{_≤_, ℕ, _+_, _*_, _^_};
@@ -30,7 +30,7 @@ pub const PROTOCOL_LIMIT: usize = 4096;
 
 const TERM_LIMIT: usize = 1024;
 
-const WORK_NEED: usize = 65536;
+pub const WORK_NEED: usize = 65536;
 
 // The refusal table's numbers and items.
 const WORK_SHORT: u32 = rewriting::WORK_SHORT as u32;

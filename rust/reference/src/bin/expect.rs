@@ -1,5 +1,6 @@
 //! Makes the expected text of the test programs from the cases under `tests/cases`.
 
+use reference::calls::{check, WORK_AREA};
 use reference::cases::{
     bytes_cases, data, expected, facts_cases, graphs_cases, hexadecimal, message_cases,
     properties_cases, steps_cases, Case,
@@ -10,6 +11,7 @@ use std::process::ExitCode;
 const HELP: &str = "\
 expect NAME           the expected text of the program cases_NAME, from tests/cases/NAME.txt
 expect data NAME      the bytes of those cases for that program
+expect line FOLDER    the program's line for the files of a folder
 expect --help         this text
 
 NAME is bytes, messages, steps, facts, graphs or properties. The expected text has a line for each case: the case's
@@ -45,6 +47,7 @@ fn main() -> ExitCode {
             }
             None => return wrong_use(),
         },
+        ["line", folder] => println!("{}", line(Path::new(folder))),
         [name] => match cases(name) {
             Some(cases) => print!("{}", expected(&cases)),
             None => return wrong_use(),
@@ -70,6 +73,17 @@ fn cases(name: &str) -> Option<Vec<Case>> {
 fn text(name: &str) -> String {
     let folder = Path::new(env!("CARGO_MANIFEST_DIR")).join("../../tests/cases");
     std::fs::read_to_string(folder.join(name)).expect("the case file")
+}
+
+/// "A file that cannot be opened counts as empty."
+fn line(folder: &Path) -> String {
+    let file = |name| std::fs::read(folder.join(name)).unwrap_or_default();
+    let (protocol, property, graph) = (
+        file("protocol.bin"),
+        file("property.bin"),
+        file("graph.bin"),
+    );
+    check(&protocol, &property, &graph, &mut [0; WORK_AREA]).to_string()
 }
 
 fn wrong_use() -> ExitCode {
