@@ -17,6 +17,8 @@ pub mod Contracts
 pub mod Forms
 -- case by case, as the code goes
 pub mod Cases
+-- one outcome, and that good files give it
+pub mod Back
 -- from what the functions inside it find to what it promises
 pub mod Inside
 -- from the verdict on the protocol file to the whole call

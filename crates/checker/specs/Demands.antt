@@ -25,7 +25,15 @@ use Rattle.property.specs.Formula.{Formula}
 use Rattle.lists.specs.Reflects.{Reflects, right, wrong}
 use Rattle.property.specs.Truth.{arities, Truth, actionsOfNodes}
 use Rattle.verdict.specs.Truth.Laws.{truth-holds}
+use Rattle.term.specs.Term.{Term, symbols}
+use Rattle.term.specs.Arity.{tagArities}
+use Rattle.term.specs.Sizes.{mostSymbols}
 use Rattle.checker.specs.Answer.{workNeed}
+use Rattle.checker.specs.Files.{termLimit}
+use Rattle.checker.specs.Files.Terms.{IsTerm}
+use Rattle.checker.specs.Canonical.{need, canonicalOutcome, canonicalRows}
+use Rattle.checker.specs.Canonical.Laws.{Length, canonical-ruled}
+use Rattle.checker.specs.Canonical.Back.{canonical-unique, canonical-back}
 use Rattle.checker.specs.Files.Fit.{FitFile, fit-within}
 use Rattle.checker.specs.Check.{graphLimit, Checked, checked, checkOutcome, checkRows, checkWork}
 use Rattle.checker.specs.Check.Fit.{FitProperty}
@@ -56,6 +64,24 @@ facts-equal p fit x y a b i j f g m n = formed-decides p fit f g (formed x a i f
     formed z c list h o =
         let (k, e) = mem-nth (factsOf p list z) h o in
         all-nth (FactFormed p) (factsOf p list z) (facts-formed p fit z c list) k h e
+
+-- ── 1, for canonical form: a length or one refusal, which the table alone fixes; and files that hold a fit protocol and a term of it, with
+-- room and work enough, give the length of the canonical form ──
+module _ (protocol term : List ℕ) where
+  pub form-any-bytes :
+      (output work : ℕ) → Ruled (canonicalRows protocol term output work) (Length protocol term) (canonicalOutcome protocol term output work)
+  form-any-bytes = canonical-ruled protocol term
+
+  pub form-one-outcome :
+      (output work : ℕ) (r : Ruling ℕ) → Ruled (canonicalRows protocol term output work) (Length protocol term) r
+      → r ≡ canonicalOutcome protocol term output work
+  form-one-outcome = canonical-unique protocol term
+
+  pub form-written :
+      Bytes protocol → Bytes term → (p : Protocol) → FitFile protocol p → (t : Term) → IsTerm (tagArities (p .functions)) term t
+      → symbols t ≤ mostSymbols → length term ≤ termLimit → (output work : ℕ) → workNeed ≤ work → need t ≤ output
+      → canonicalOutcome protocol term output work ≡ passed (need t)
+  form-written = canonical-back protocol term
 
 module _ (protocol property graph : List ℕ) (bytes : Bytes protocol) (property-bytes : Bytes property) (graph-bytes : Bytes graph) where
   -- ── 1: "A caller may hand over protocol, property and graph as any byte strings and receives a ruling or one refusal from document 01's
