@@ -5,11 +5,11 @@ use reference::calls::Outcome;
 use reference::generate::graphs;
 use reference::random::Random;
 
-const INPUTS: usize = 200_000;
+/// Inputs of one half; the halves run side by side.
+const INPUTS: usize = 100_000;
 
-#[test]
-fn checking_beside_the_reference() {
-    let mut random = Random::new(12);
+fn beside_the_reference(seed: u64) {
+    let mut random = Random::new(seed);
     let mut shares = Shares::default();
     let mut long = 0;
     for number in 0..INPUTS {
@@ -36,4 +36,14 @@ fn checking_beside_the_reference() {
     shares.at_least(50, &files);
     shares.at_least(50, &["refused 1", "refused 4", "refused 5", "refused 6"]);
     assert!(20 * long >= INPUTS);
+}
+
+#[test]
+fn checking_beside_the_reference() {
+    beside_the_reference(12);
+}
+
+#[test]
+fn checking_beside_the_reference_again() {
+    beside_the_reference(13);
 }
