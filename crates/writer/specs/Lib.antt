@@ -1,0 +1,7 @@
+-- The graph writer.
+
+-- ── choosing sources ──
+-- the free conclusions and their table
+pub mod Free
+-- looking for a source among them; entering those of a node
+pub mod Search

@@ -1,0 +1,3 @@
+// The graph writer: a source for each premise, and the edges written behind the steps.
+
+pub mod free; // the free conclusions, and the first that is the same as a premise
