@@ -5,3 +5,5 @@
 pub mod Free
 -- looking for a source among them; entering those of a node
 pub mod Search
+-- 14: a source for each premise
+pub mod Sources

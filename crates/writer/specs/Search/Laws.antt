@@ -27,7 +27,9 @@ use Rattle.facts.specs.Calls.Meaning.{fact-formed}
 use Rattle.graph.specs.Graph.{place-of}
 use Rattle.writer.specs.Free.{EntryIs, Marked, entryId, entryFact, entryPlaced, freeIn}
 use Rattle.writer.specs.Free.Laws.{FirstAt, NoneTo, none-empty, none-differs, free-more, free-empty}
-use Rattle.writer.specs.Search.{factIn, isSame, Searching, AtNode, Entered}
+use Rattle.writer.specs.declared.free.Source.{Source}
+use Rattle.writer.specs.declared.free.Source.the-variants as source
+use Rattle.writer.specs.Search.{factIn, isSame, Searching, Found, AtNode, Entered}
 
 -- ── a fact of right nodes ──
 pub whole-fact :
@@ -93,6 +95,13 @@ module _ {p s nodes free : List ℕ} {a : FactId} {mark : ℕ} {P : Protocol} {x
 
       pub found-here : v < mostFacts * a .node → b ≡ true → None v → FirstAt (entryPlaced P xs) (isSame P xs a) free v (mostFacts * a .node)
       found-here l t none = record { inside = l; mark = mark; held = marked-entry; passes = sym same-entry ∙ t; before = none }
+
+  -- by the answer
+  pub found-at : {r : Source} {v : ℕ} → r ≡ source.At v → Found free a r P xs → FirstAt (entryPlaced P xs) (isSame P xs a) free v (mostFacts * a .node)
+  found-at e found = subst (λ (q : Source). Found free a q P xs) e found
+
+  pub found-nothing : {r : Source} → r ≡ source.Nothing → Found free a r P xs → None (mostFacts * a .node)
+  found-nothing e found = subst (λ (q : Source). Found free a q P xs) e found
 
 -- ── entering the conclusions of node k, from 0 ──
 placed-behind : {A : Type 0} (k i : ℕ) (l m : List A) → placed k i (l ++ m) ≡ placed k i l ++ placed k (i + length l) m
