@@ -1,11 +1,12 @@
 -- What the calls answer and what they leave in lent memory.
-use Prim.Native.Nat.{ℕ, _+_, _*_, _^_}
-use mathlib.Core.List.{List}
+use Prim.Native.Nat.{ℕ, _+_, _*_, _^_, _<_}
+use mathlib.Core.List.{List, [], _∷_}
 use lib.ListN.{length, replicate}
 use lib.Dec.{eqb}
 use Rattle.lists.specs.Choice.{pick}
 use Rattle.octets.specs.Splice.{splice}
-use Rattle.rewriting.specs.Table.{Ruling, passed, refused}
+use Rattle.rewriting.specs.Table.{Ruling, passed, refused, Row, fixedRow, rulingOf}
+use Rattle.rewriting.specs.Table.Passes.{needPass}
 use Rattle.checker.specs.declared.Written.{Written}
 use Rattle.checker.specs.declared.Written.the-variants as wr
 -- the packed answers come apart again
@@ -15,6 +16,13 @@ pub mod Laws
 abbrev pub written : Written → Ruling ℕ
 written (wr.Length n) = passed n
 written (wr.Refused r) = refused (r .number) (r .item)
+
+-- ── "output short", 15, "bytes needed" ──
+abbrev pub roomFor : ℕ → ℕ → Ruling ℕ
+roomFor output n = rulingOf (needPass 15 output n ∷ []) n
+
+abbrev pub roomForRows : ℕ → ℕ → List Row
+roomForRows output n = fixedRow 15 n (output < n) ∷ []
 
 -- ── lent memory ──
 -- "The work area is short below 65,536 bytes and never otherwise"

@@ -12,6 +12,8 @@ pub mod Late
 pub mod Canonical
 -- the call check
 pub mod Check
+-- the call draw
+pub mod Draw
 -- the line of a ruling
 pub mod Line
 -- the demands, each under its sentence
