@@ -17,6 +17,10 @@ use Rattle.steps.specs.WellFormed.{stepsLimit}
 use Rattle.graph.specs.Graph.{Graph, graph-of, encodeGraph}
 use Rattle.checker.specs.Answer.{roomFor, roomForRows, workNeed, workAfter, outputAfter}
 use Rattle.checker.specs.Files.{protocolLimit, protocolItem, protocolRuling, protocolRows}
+-- case by case, as the code goes
+pub mod Cases
+-- the steps under a protocol, case by case
+pub mod Steps
 
 -- ── the files, each under what those before it hold ──
 -- "9, 14": the graph of these nodes, with the edges drawn
