@@ -21,6 +21,8 @@ use Rattle.checker.specs.Files.{protocolLimit, protocolItem, protocolRul
 pub mod Cases
 -- the steps under a protocol, case by case
 pub mod Steps
+-- the drawn graph keeps within the graph's limits
+pub mod Limits
 
 -- ── the files, each under what those before it hold ──
 -- "9, 14": the graph of these nodes, with the edges drawn
