@@ -23,6 +23,12 @@ pub mod Cases
 pub mod Steps
 -- the drawn graph keeps within the graph's limits
 pub mod Limits
+-- its outcome is what the table says
+pub mod Laws
+-- its figures are small, and its packed answer comes apart into the outcome
+pub mod Bounds
+-- the work area after every answer but refusal 1
+pub mod Cleared
 
 -- ── the files, each under what those before it hold ──
 -- "9, 14": the graph of these nodes, with the edges drawn
