@@ -29,6 +29,10 @@ pub mod Laws
 pub mod Bounds
 -- the work area after every answer but refusal 1
 pub mod Cleared
+-- what it writes
+pub mod Written
+-- well-formed steps under a fit protocol: drawn or refused as a whole
+pub mod Runs
 
 -- ── the files, each under what those before it hold ──
 -- "9, 14": the graph of these nodes, with the edges drawn

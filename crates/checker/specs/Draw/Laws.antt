@@ -99,7 +99,7 @@ module _ (protocol steps : List ℕ) where
         ∙ sym (b .needs)
 
     -- ── the files are ruled by their rows ──
-    nodes-draws :
+    pub nodes-draws :
         (p : Protocol) → FitFile protocol p → length steps ≤ stepsLimit → (xs : List Node) (e : ℕ) → nodes.steps p steps ≡ read xs e
         → All (NodeRight p) xs → (es : List Edge) → Accepted p xs es → drawn p xs ≡ passed es → Draws p (graph-of xs es)
     nodes-draws p fit l xs e h right es acc d =
