@@ -16,7 +16,7 @@ use Rattle.rewriting.specs.Table.{Ruling, passed, refused}
 use Rattle.rewriting.specs.Graph.{Edge}
 use Rattle.protocol.specs.Protocol.{ruleTerm, fact, facts, layout, rule, own, protocol}
 use Rattle.rules.specs.Numbered.{ruleOf, fixed}
-use Rattle.steps.specs.Nodes.{Node, node-of, node, nodesFrom, nodeList, steps}
+use Rattle.steps.specs.Nodes.{node-of, node, nodesFrom, nodeList, steps}
 use Rattle.steps.specs.Facts.{sameFact, sameTerm, sameTerms}
 use Rattle.steps.specs.WellFormed.{stepsLimit}
 use Rattle.graph.specs.Graph.{Graph, graph-of, place-of, edge-of, encodeGraph}
@@ -30,7 +30,8 @@ use Rattle.cases_proved.specs.Lines.{printed-protocol, printed-graph, pr
 abbrev pub Draws : List ℕ → List ℕ → Type 0
 Draws steps graph =
     (output : List ℕ) (work : ℕ) → workNeed ≤ work → length graph ≤ length output
-    → (drawOutcome printed-protocol steps (length output) work ≡ passed (length graph)) × (drawOutput printed-protocol steps output work ≡ splice output 0 graph)
+    → (drawOutcome printed-protocol steps (length output) work ≡ passed (length graph))
+    × (drawOutput printed-protocol steps output work ≡ splice output 0 graph)
 
 abbrev pub Refuses : List ℕ → ℕ → ℕ → Type 0
 Refuses steps n k = (output work : ℕ) → workNeed ≤ work → drawOutcome printed-protocol steps output work ≡ refused n k

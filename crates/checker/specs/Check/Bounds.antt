@@ -1,5 +1,5 @@
 -- The figures of checking's outcome are small, whatever the files: no number over 13, no item over 4,096, no more than 512 nodes and 4,096 edges.
-use Prim.Native.Nat.{ℕ, suc, _+_, _≤_}
+use Prim.Native.Nat.{ℕ, suc, _≤_}
 use mathlib.Core.List.{List, [], _∷_}
 use mathlib.Core.Bool.{Bool, true, false}
 use mathlib.Core.Option.{Option, some, none, Option·none-ne-some}
@@ -67,7 +67,8 @@ property-small : (r : Read Formula) → Few (properties.propertyRows r)
 property-small r =
     small-join mostNumber mostItem (properties.readRows r) (rowsAfter (properties.readRuling r) properties.fitRows)
     (small-fixed mostNumber mostItem 3 properties.propertyItem (r ≡ fault) (omega arith) (omega arith), tt)
-    (small-after mostNumber mostItem (properties.readRuling r) properties.fitRows (λ f h. (small-fixed mostNumber mostItem 5 0 _ (omega arith) (omega arith), tt)))
+    (small-after mostNumber mostItem (properties.readRuling r) properties.fitRows
+    (λ f h. (small-fixed mostNumber mostItem 5 0 _ (omega arith) (omega arith), tt)))
 
 -- ── the nodes of a graph or step list ──
 module _ (p : Protocol) (xs : List Node) (few : length xs ≤ mostNodes) where
@@ -158,12 +159,14 @@ module _ (p : Protocol) (file : List ℕ) (bytes : Bytes file) where
 
 -- ── what is refused ──
 pub property-bounded : (r : Read Formula) (n k : ℕ) → properties.propertyRuling r ≡ refused n k → (n ≤ mostNumber) × (k ≤ mostItem)
-property-bounded r = refused-small mostNumber mostItem (Passing r) (properties.propertyRows r) (properties.propertyRuling r) (property-small r) (property-ruled r)
+property-bounded r =
+    refused-small mostNumber mostItem (Passing r) (properties.propertyRows r) (properties.propertyRuling r) (property-small r) (property-ruled r)
 
 pub graph-bounded :
     (p : Protocol) → Within p → (file : List ℕ) → Bytes file → (n k : ℕ) → graphRuling p file ≡ refused n k → (n ≤ mostNumber) × (k ≤ mostItem)
 graph-bounded p fit file bytes =
-    refused-small mostNumber mostItem (DependencyGraph p file) (graphFileRows p file) (graphRuling p file) (graph-small p file bytes) (graph-ruled p fit file bytes)
+    refused-small mostNumber mostItem (DependencyGraph p file) (graphFileRows p file) (graphRuling p file) (graph-small p file bytes)
+    (graph-ruled p fit file bytes)
 
 -- ── the call ──
 count-most : {A : Type 0} (t : A → Bool) (xs : List A) → countBy t xs ≤ length xs
@@ -187,7 +190,8 @@ OutcomeSmall (refused n k) = (n ≤ mostNumber) × (k ≤ mostItem)
 module _ (protocol property graph : List ℕ) (bytes : Bytes protocol) (property-bytes : Bytes property) (graph-bytes : Bytes graph) where
   files-small : Few (filesRows protocol property graph)
   files-small =
-      small-join mostNumber mostItem (protocolRows protocol) (rowsAfter (protocolRuling protocol) (λ p. underRows p property graph)) (protocol-small protocol bytes)
+      small-join mostNumber mostItem (protocolRows protocol) (rowsAfter (protocolRuling protocol) (λ p. underRows p property graph))
+      (protocol-small protocol bytes)
       (small-after mostNumber mostItem (protocolRuling protocol) (λ p. underRows p property graph) (λ p h.
       small-join mostNumber mostItem (propertyUnderRows p property) (rowsAfter (propertyUnder p property) (λ f. graphFileRows p graph))
       (property-small (layouts.property property (factArities (p .symbols))))
@@ -218,5 +222,5 @@ module _ (protocol property graph : List ℕ) (bytes : Bytes protocol) (property
       go : (r : Ruling Checked) → checkOutcome protocol property graph work ≡ r → OutcomeSmall r
       go (passed c) e = counts-small c (passed-answers protocol property graph bytes property-bytes graph-bytes work c e)
       go (refused n k) e =
-          refused-small mostNumber mostItem (Answers protocol property graph) (checkRows protocol property graph work) (checkOutcome protocol property graph work)
-          (rows-small work) (check-ruled protocol property graph bytes property-bytes graph-bytes work) n k e
+          refused-small mostNumber mostItem (Answers protocol property graph) (checkRows protocol property graph work)
+          (checkOutcome protocol property graph work) (rows-small work) (check-ruled protocol property graph bytes property-bytes graph-bytes work) n k e

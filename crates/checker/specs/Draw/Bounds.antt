@@ -103,7 +103,8 @@ module _ (protocol steps : List ℕ) (bytes : Bytes protocol) (steps-bytes : Byt
         (λ l. by (room protocol steps output work long p s g e l) (d .small))
     of-graph (refused n k) e =
         by (no-graph protocol steps output work long p s n k e)
-        (refused-small lastNumber graphLimit (SomeDraws protocol steps bytes steps-bytes) (graphDrawnRows protocol steps) (graphDrawn protocol steps) files-small
+        (refused-small lastNumber graphLimit (SomeDraws protocol steps bytes steps-bytes) (graphDrawnRows protocol steps) (graphDrawn protocol steps)
+        files-small
         (drawn-ruled protocol steps bytes steps-bytes p s) n k e)
 
   pub draw-small : DrawSmall Outcome

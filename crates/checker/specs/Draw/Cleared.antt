@@ -3,7 +3,7 @@ use Prim.Native.Nat.{ℕ, _≤_}
 use mathlib.Core.List.{List, [], _∷_}
 use mathlib.Core.Logic.{_⊎_, inl, inr}
 use mathlib.Core.Option.{Option}
-use mathlib.Core.Path.{_≡_, refl, sym, _∙_, subst}
+use mathlib.Core.Path.{_≡_, refl, sym, subst}
 use native.Mathlib.Omega.{arith}
 use lib.ListN.{length, replicate}
 use Rattle.lists.specs.Lists.{firstBad}
@@ -20,7 +20,7 @@ use Rattle.steps.specs.Runs.{protocolFacts, rewrittens, Accepted}
 use Rattle.steps.specs.Runs.Theorems.{drawn, draw-table}
 use Rattle.steps.specs.Causes.{stepsItem, readRuling}
 use Rattle.steps.specs.WellFormed.{stepsLimit}
-use Rattle.graph.specs.Graph.{Graph, graph-of}
+use Rattle.graph.specs.Graph.{graph-of}
 use Rattle.checker.specs.Answer.{workNeed}
 use Rattle.checker.specs.Passing.{less-no}
 use Rattle.checker.specs.Late.{Late, late-then, late-refuse, late-pass, late-work, late-protocol}

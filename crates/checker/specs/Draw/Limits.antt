@@ -15,7 +15,7 @@ use Rattle.number.specs.Groups.{groups, numberLimit}
 use Rattle.number.specs.Groups.Laws.{groups-one, groups-more, by-groups, groups-few}
 use Rattle.number.specs.Layout.{flat, listed}
 use Rattle.rewriting.specs.Graph as theory
-use Rattle.rewriting.specs.Graph.{Place, Edge, Joins, inNode, premiseAt, conclusionAt}
+use Rattle.rewriting.specs.Graph.{Place, Edge, Joins, inNode}
 use Rattle.rewriting.specs.Size.{premiseCount}
 use Rattle.protocol.specs.Figures.{premiseList, conclusionList, mostFacts}
 use Rattle.protocol.specs.Protocol.{Fact, Protocol}

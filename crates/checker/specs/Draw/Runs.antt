@@ -2,11 +2,9 @@
 use Prim.Native.Nat.{ℕ, _≤_}
 use mathlib.Core.List.{List}
 use mathlib.Core.Path.{_≡_, ap, _∙_}
-use lib.ListN.{length}
-use Rattle.lists.specs.All.{All}
 use Rattle.lists.specs.Choice.{by-size}
 use Rattle.octets.specs.Head.{Bytes}
-use Rattle.rewriting.specs.Table.{Ruling, passed, refused}
+use Rattle.rewriting.specs.Table.{passed, refused}
 use Rattle.rewriting.specs.Graph.{Edge}
 use Rattle.protocol.specs.Protocol.{Protocol}
 use Rattle.steps.specs.Nodes.{NodesWithin}

@@ -16,7 +16,7 @@ use Rattle.rewriting.specs.Graph.{Edge}
 use Rattle.rewriting.specs.Names.{once-names}
 use Rattle.rewriting.specs.Writer.{firstNameTwice, drawFrom, markedFrom}
 use Rattle.protocol.specs.Protocol.{Protocol}
-use Rattle.steps.specs.Nodes.{Node, NodeWithin, Reading, read, broken, no-rule, allOf, nodeList}
+use Rattle.steps.specs.Nodes.{Node, NodeWithin, Reading, read, broken, no-rule, allOf}
 use Rattle.steps.specs.Nodes as nodes
 use Rattle.steps.specs.Nodes.Exact.{nodes-form, steps-form}
 use Rattle.steps.specs.Values.{NodeRight, WrongValue, TermLong}
