@@ -209,8 +209,9 @@ module _ (protocol property graph : List ℕ) (bytes : Bytes protocol) (property
     attack-exactly {g} d =
         nodes-attack p (fit-within protocol bytes p fit) f (fit-property .fits) (g .nodes) (d .within .0 .each) (d .right)
 
-  -- ── 3: "For every protocol, property and graph, if the graph is accepted, then its nodes in file order are a run of the multiset rewriting
-  -- from the empty state, no fresh name made twice, and it is ruled an attack exactly when the trace makes the property false." ──
+  -- ── 3, its first sentence; the whole is in Demands/Third.antt: "For every protocol, property and graph, if the graph is accepted, then its nodes in
+  -- file order are a run of the multiset rewriting from the empty state, no fresh name made twice, and it is ruled an attack exactly when the trace
+  -- makes the property false." ──
   pub record IsRuled (c : Checked) : Type 0 where
     pub its : Answers protocol property graph c
     pub run : SuchRun (its .is-protocol) (its .is-graph .nodes)

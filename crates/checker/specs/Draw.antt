@@ -21,8 +21,6 @@ use Rattle.checker.specs.Files.{protocolLimit, protocolItem, protocolRul
 pub mod Cases
 -- the steps under a protocol, case by case
 pub mod Steps
--- the drawn graph keeps within the graph's limits
-pub mod Limits
 -- its outcome is what the table says
 pub mod Laws
 -- its figures are small, and its packed answer comes apart into the outcome

@@ -1,13 +1,9 @@
 -- Rows whose numbers and items are small: what they refuse has a small number and a small item.
-use Prim.Native.Nat.{ℕ, zero, suc, _≤_}
+use Prim.Native.Nat.{ℕ, _≤_}
 use mathlib.Core.List.{List, [], _∷_, _++_}
 use mathlib.Core.Logic.{inl, inr}
-use mathlib.Core.Option.{some, Option·none-ne-some}
 use mathlib.Core.Path.{_≡_, refl, subst}
 use native.Mathlib.Omega.{arith}
-use lib.ListN.{length}
-use Rattle.lists.specs.Lists.{nth}
-use Rattle.lists.specs.Lists.Laws.{at-some}
 use Rattle.rewriting.specs.Table.{Ruling, passed, refused, Row, fixedRow, Says, Ruled, rowsAfter}
 use Rattle.rewriting.specs.Table.Laws.{ruled-says}
 
@@ -47,8 +43,3 @@ pub small-wider : (n i m j : ℕ) → n ≤ m → i ≤ j → (cs : List Row) �
 small-wider n i m j l h [] s = tt
 small-wider n i m j l h (c ∷ cs) s =
     ((omega (arith, s .0 .0), λ k q. omega (arith, s .0 .1 k q)), small-wider n i m j l h cs (s .1))
-
--- the number of an element of a list
-pub nth-bound : {A : Type 0} (xs : List A) (k : ℕ) (x : A) → nth xs k ≡ some x → k ≤ length xs
-nth-bound xs zero x h = absurd (Option·none-ne-some x h)
-nth-bound xs (suc i) x h = let l = at-some x xs i x h in omega (arith, l .0)

@@ -27,6 +27,7 @@ use Rattle.steps.specs.Causes.{graphItem, readRows, readRuling}
 use Rattle.graph.specs.Graph.{Graph, mostEdges, withEdges}
 use Rattle.graph.specs.Graph as graphs
 use Rattle.graph.specs.Graph.Exact.{graph-form}
+use Rattle.graph.specs.Graph.Limits.{nth-bound}
 use Rattle.graph.specs.Causes.{graphRows, graphFileRows, graphRuling, DependencyGraph}
 use Rattle.graph.specs.Causes.Laws.{graph-ruled}
 use Rattle.property.specs.Formula.{Formula}
@@ -35,7 +36,7 @@ use Rattle.property.specs.Causes as properties
 use Rattle.property.specs.Causes.Laws.{Passing, property-ruled}
 use Rattle.checker.specs.Files.{protocolItem, layout, layoutRows, fitRows, protocolRuling, protocolRows}
 use Rattle.checker.specs.Check.{Checked, propertyUnder, propertyUnderRows, underRows, filesRows, checkRows, checkOutcome}
-use Rattle.checker.specs.Small.{Small, small-join, small-after, small-fixed, refused-small, nth-bound}
+use Rattle.checker.specs.Small.{Small, small-join, small-after, small-fixed, refused-small}
 use Rattle.checker.specs.Check.Laws.{Answers, check-ruled, passed-answers}
 
 abbrev pub mostNumber : ℕ

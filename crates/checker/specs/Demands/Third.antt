@@ -19,6 +19,7 @@ use Rattle.steps.specs.Nodes.Exact.{nodes-back, steps-form}
 use Rattle.steps.specs.Runs.Theorems.{drawn, draws-exactly, refused-no-run}
 use Rattle.steps.specs.WellFormed.{WellFormed}
 use Rattle.graph.specs.Graph.{Graph, graph-of, encodeEdge, encodeGraph}
+use Rattle.graph.specs.Graph.Limits.{graph-bytes}
 use Rattle.property.specs.Formula.{Formula}
 use Rattle.checker.specs.Answer.{workNeed}
 use Rattle.checker.specs.Files.Fit.{FitFile, fit-within}
@@ -28,7 +29,6 @@ use Rattle.checker.specs.Draw.{drawOutcome, drawOutput}
 use Rattle.checker.specs.Draw.Cases.{work-short, no-room, room, output-kept, output-written}
 use Rattle.checker.specs.Draw.Cleared as cleared
 use Rattle.checker.specs.Draw.Laws.{node-bytes}
-use Rattle.checker.specs.Draw.Limits.{graph-bytes}
 use Rattle.checker.specs.Draw.Written.{written-front}
 use Rattle.checker.specs.Draw.Runs.{well-within, drawn-graph, drawn-draws, list-refused, always-refused}
 use Rattle.checker.specs.Demands.{NodesHold, SuchRun, such-run, IsRuled, accepted-run, graph-exactly, nodes-attack}

@@ -2,6 +2,7 @@
 use Prim.Native.Nat.{ℕ, _≤_}
 use mathlib.Core.List.{List, [], _∷_, _++_}
 use mathlib.Core.Path.{_≡_, refl, ap, sym, _∙_, subst}
+use native.Mathlib.Omega.{arith}
 use lib.ListN.{length}
 use Rattle.octets.specs.Head.{Bytes}
 use Rattle.number.specs.Layout.{listed}
@@ -23,6 +24,7 @@ use Rattle.steps.specs.Causes.{stepsItem, readRows, readRuling}
 use Rattle.steps.specs.Causes.Laws.{read-ruled, values-ruled}
 use Rattle.steps.specs.WellFormed.{stepsLimit, WellFormed}
 use Rattle.graph.specs.Graph.{Graph, graph-of, encodeEdge, encodeGraph}
+use Rattle.graph.specs.Graph.Limits.{graph-within, graph-short}
 use Rattle.graph.specs.Causes.{DependencyGraph}
 use Rattle.checker.specs.Files.{protocolLimit, protocolRuling, protocolRows}
 use Rattle.checker.specs.Files.Laws.{IsFit, protocol-ruled}
@@ -33,7 +35,6 @@ use Rattle.checker.specs.Draw.{graphOf, nodesUnder, nodesUnderRows, step
 use Rattle.checker.specs.Draw.{drawSizes, drawOutcome, drawRows}
 use Rattle.checker.specs.Draw.Cases.{drawn-under}
 use Rattle.checker.specs.Draw.Steps.{withEdges, well-under}
-use Rattle.checker.specs.Draw.Limits.{graph-within, graph-short}
 
 -- "steps 3 and 6, 7, 8, 9, 14": what passes is the graph of right nodes and of the edges that are drawn
 pub under-ruled :
@@ -110,7 +111,7 @@ module _ (protocol steps : List ℕ) where
           short = l;
           its-steps = f .1;
           its-edges = d;
-          small = graph-short p within xs (f .0) es acc (subst (λ (s : List ℕ). length s ≤ stepsLimit) (f .1) l);
+          small = omega (arith, graph-short p within xs (f .0) es acc, ap length (f .1));
           is-graph = record {
             within = graph-within p within xs (f .0) es acc;
             bytes = refl;

@@ -1,4 +1,4 @@
--- A drawn graph keeps within the graph's limits, "Graph (61,440 bytes)" and "count of edges (4,096)": a node has at most 8 premises, and an
+-- A graph of nodes within the limits that is accepted keeps within the limits too, "count of edges (4,096)": a node has at most 8 premises, and an
 -- edge takes at most 6 bytes. Its bytes are bytes.
 use Prim.Native.Nat.{ℕ, zero, suc, _+_, _*_, _%_, _/_, _≤_, _<_}
 use mathlib.Core.List.{List, [], _∷_, _++_}
@@ -9,7 +9,7 @@ use lib.ListN.{length, length-append}
 use Rattle.lists.specs.All.{All}
 use Rattle.lists.specs.All.Laws.{all-map, all-nth, nth-all}
 use Rattle.lists.specs.Lists.{nth}
-use Rattle.lists.specs.Lists.Laws.{nth-mem, map-nth}
+use Rattle.lists.specs.Lists.Laws.{at-some, nth-mem, map-nth}
 use Rattle.octets.specs.Head.{Bytes}
 use Rattle.number.specs.Groups.{groups, numberLimit}
 use Rattle.number.specs.Groups.Laws.{groups-one, groups-more, by-groups, groups-few}
@@ -25,11 +25,12 @@ use Rattle.steps.specs.Facts.{factsOf}
 use Rattle.steps.specs.Facts.Counts.{facts-few}
 use Rattle.steps.specs.Runs.{protocolFacts, rewritten, rewrittens, Accepted}
 use Rattle.steps.specs.Runs.Theorems.{accepted-size}
-use Rattle.steps.specs.WellFormed.{stepsLimit}
 use Rattle.graph.specs.Graph.{graph-of, mostEdges, encodePlace, encodeEdge, encodeGraph, PlaceWithin, EdgeWithin, GraphWithin}
-use Rattle.checker.specs.Small.{nth-bound}
-use Rattle.checker.specs.Check.{graphLimit}
-use Rattle.checker.specs.Draw.{needOf}
+
+-- ── for crate lists: the number of an element is at most the length ──
+pub nth-bound : {A : Type 0} (xs : List A) (k : ℕ) (x : A) → nth xs k ≡ some x → k ≤ length xs
+nth-bound xs zero x h = absurd (Option·none-ne-some x h)
+nth-bound xs (suc i) x h = let l = at-some x xs i x h in omega (arith, l .0)
 
 -- ── lengths ──
 flat-short : {A : Type 0} (code : A → List ℕ) (c : ℕ) (xs : List A) → All (λ x. length (code x) ≤ c) xs → length (flat code xs) ≤ c * length xs
@@ -39,7 +40,11 @@ flat-short code c (x ∷ xs) a =
     let e : c * suc (length xs) ≡ c + c * length xs = omega arith in
     omega (arith, r, e, a .0, length-append (code x) (flat code xs))
 
-abbrev edgeBytes : ℕ
+-- of the count of edges, and of an edge
+abbrev pub countBytes : ℕ
+countBytes = 2
+
+abbrev pub edgeBytes : ℕ
 edgeBytes = 6
 
 -- a place of at most 512 nodes and 8 facts
@@ -114,8 +119,8 @@ module _ (p : Protocol) (fit : Within p) where
             place-short (e .target) (h .1),
           )
 
-      pub graph-short : length (encodeNodes xs) ≤ stepsLimit → needOf (graph-of xs es) ≤ graphLimit
-      graph-short l =
+      pub graph-short : length (encodeGraph (graph-of xs es)) ≤ length (encodeNodes xs) + countBytes + edgeBytes * mostEdges
+      graph-short =
           omega (
             arith,
             length-append (encodeNodes xs) (listed encodeEdge es),
