@@ -11,6 +11,8 @@ use Rattle.checker.specs.declared.Written.{Written}
 use Rattle.checker.specs.declared.Written.the-variants as wr
 -- the packed answers come apart again
 pub mod Laws
+-- a ruling and the output, for both writing calls
+pub mod Judged
 
 -- ── the answers' numbers and values ──
 abbrev pub written : Written → Ruling ℕ
@@ -38,6 +40,11 @@ workAfter (refused n k) work = pick (eqb n 1) work (replicate (length work) 0)
 abbrev pub outputAfter : {A : Type 0} → Ruling A → List ℕ → List ℕ → List ℕ
 outputAfter (passed a) bytes output = splice output 0 bytes
 outputAfter (refused n k) bytes output = output
+
+-- the bytes of what passes
+abbrev pub bytesOf : {A : Type 0} → (A → List ℕ) → Ruling A → List ℕ
+bytesOf code (passed a) = code a
+bytesOf code (refused n k) = []
 
 -- ── the C functions' answers ──
 -- bits 56 up: 0 refused, 3 written; refused: bits 32 to 39 the number, bits 0 to 31 the item; written: bits 0 to 31 the length

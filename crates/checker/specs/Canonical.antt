@@ -5,9 +5,9 @@ use lib.ListN.{length}
 use Rattle.term.specs.Term.{Term, encode}
 use Rattle.term.specs.Arity.{tagArities}
 use Rattle.message.specs.Canon.{canon}
-use Rattle.rewriting.specs.Table.{Ruling, passed, refused, Row, Pass, rulingThen, rowsThen, andThen, rowsAfter}
+use Rattle.rewriting.specs.Table.{Ruling, Row, Pass, rulingThen, rowsThen, andThen, rowsAfter}
 use Rattle.rewriting.specs.Table.Passes.{lessPass}
-use Rattle.checker.specs.Answer.{roomFor, roomForRows, workNeed, workAfter, outputAfter}
+use Rattle.checker.specs.Answer.{roomFor, roomForRows, workNeed, workAfter, outputAfter, bytesOf}
 use Rattle.checker.specs.Files.{protocolLimit, termLimit, protocolItem, termItem, protocolRuling, protocolRows, termRuling, termRows}
 -- its outcome is what the table says
 pub mod Laws
@@ -67,8 +67,7 @@ canonicalRows protocol term output work =
 
 -- the bytes that it writes where it passes
 abbrev pub formOf : Ruling Term → List ℕ
-formOf (passed t) = encode (canon t)
-formOf (refused n k) = []
+formOf r = bytesOf (λ t. encode (canon t)) r
 
 -- ── lent memory ──
 unfoldable pub canonicalOutput : List ℕ → List ℕ → List ℕ → ℕ → List ℕ

@@ -3,7 +3,7 @@
 use Prim.Native.Nat.{ℕ}
 use mathlib.Core.List.{List, [], _∷_, _++_}
 use lib.ListN.{length}
-use Rattle.rewriting.specs.Table.{Ruling, passed, refused, Row, Pass, rulingThen, rowsThen, andThen, rowsAfter}
+use Rattle.rewriting.specs.Table.{Ruling, passed, Row, Pass, rulingThen, rowsThen, andThen, rowsAfter}
 use Rattle.rewriting.specs.Table.Passes.{lessPass}
 use Rattle.rewriting.specs.Causes as theory
 use Rattle.protocol.specs.Protocol.{Protocol}
@@ -15,12 +15,15 @@ use Rattle.steps.specs.Runs.Theorems.{drawn}
 use Rattle.steps.specs.Causes.{stepsItem, readRows, readRuling, valueRuling}
 use Rattle.steps.specs.WellFormed.{stepsLimit}
 use Rattle.graph.specs.Graph.{Graph, graph-of, encodeGraph}
-use Rattle.checker.specs.Answer.{roomFor, roomForRows, workNeed, workAfter, outputAfter}
+use Rattle.checker.specs.Answer.{roomFor, roomForRows, workNeed, workAfter, outputAfter, bytesOf}
 use Rattle.checker.specs.Files.{protocolLimit, protocolItem, protocolRuling, protocolRows}
 -- case by case, as the code goes
 pub mod Cases
 -- the steps under a protocol, case by case
 pub mod Steps
+-- what the functions inside it promise, and from what they find to that
+pub mod Contracts
+pub mod Inside
 -- its outcome is what the table says
 pub mod Laws
 -- its figures are small, and its packed answer comes apart into the outcome
@@ -89,8 +92,7 @@ drawRows protocol steps output work =
 
 -- the bytes that it writes where it passes
 abbrev pub graphBytes : Ruling Graph → List ℕ
-graphBytes (passed g) = encodeGraph g
-graphBytes (refused n k) = []
+graphBytes r = bytesOf encodeGraph r
 
 -- ── lent memory ──
 unfoldable pub drawOutput : List ℕ → List ℕ → List ℕ → ℕ → List ℕ
