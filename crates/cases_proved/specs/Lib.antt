@@ -12,3 +12,6 @@ pub mod Forms
 pub mod Numbers
 -- "Shut out": what a checker and a canonical form cannot be, from the cases
 pub mod ShutOut
+-- cases of drawing, and what a writer cannot be
+pub mod Drawings
+pub mod Writer

@@ -1,13 +1,13 @@
 -- "Canonical form reads protocol and term, writes the canonical term's bytes from the start of the output and returns their length."
-use Prim.Native.Nat.{ℕ, _<_}
+use Prim.Native.Nat.{ℕ}
 use mathlib.Core.List.{List, [], _∷_, _++_}
 use lib.ListN.{length}
 use Rattle.term.specs.Term.{Term, encode}
 use Rattle.term.specs.Arity.{tagArities}
 use Rattle.message.specs.Canon.{canon}
-use Rattle.rewriting.specs.Table.{Ruling, passed, refused, Row, fixedRow, Pass, rulingOf, rulingThen, rowsThen, andThen, rowsAfter}
-use Rattle.rewriting.specs.Table.Passes.{lessPass, needPass}
-use Rattle.checker.specs.Answer.{workNeed, workAfter, outputAfter}
+use Rattle.rewriting.specs.Table.{Ruling, Row, Pass, rulingThen, rowsThen, andThen, rowsAfter}
+use Rattle.rewriting.specs.Table.Passes.{lessPass}
+use Rattle.checker.specs.Answer.{roomFor, roomForRows, workNeed, workAfter, outputAfter, bytesOf}
 use Rattle.checker.specs.Files.{protocolLimit, termLimit, protocolItem, termItem, protocolRuling, protocolRows, termRuling, termRows}
 -- its outcome is what the table says
 pub mod Laws
@@ -47,10 +47,10 @@ sizes protocol term work =
 
 -- 15, with the bytes needed
 abbrev pub roomRuling : ℕ → Term → Ruling ℕ
-roomRuling output t = rulingOf (needPass 15 output (need t) ∷ []) (need t)
+roomRuling output t = roomFor output (need t)
 
 abbrev pub roomRows : ℕ → Term → List Row
-roomRows output t = fixedRow 15 (need t) (output < need t) ∷ []
+roomRows output t = roomForRows output (need t)
 
 -- "Canonical form: 1 to 4, term 3, 8, 15"
 unfoldable pub canonicalOutcome : List ℕ → List ℕ → ℕ → ℕ → Ruling ℕ
@@ -67,8 +67,7 @@ canonicalRows protocol term output work =
 
 -- the bytes that it writes where it passes
 abbrev pub formOf : Ruling Term → List ℕ
-formOf (passed t) = encode (canon t)
-formOf (refused n k) = []
+formOf r = bytesOf (λ t. encode (canon t)) r
 
 -- ── lent memory ──
 unfoldable pub canonicalOutput : List ℕ → List ℕ → List ℕ → ℕ → List ℕ

@@ -1,19 +1,21 @@
 -- The demands as theorems over the outcomes, each under its sentence; no parameter is left.
 use Prim.Native.Nat.{ℕ, _≤_, _<_}
-use mathlib.Core.List.{List}
+use mathlib.Core.List.{List, []}
 use mathlib.Core.Bool.{Bool, true, false, true≢false}
 use mathlib.Core.Logic.{_↔_}
 use mathlib.Core.Path.{_≡_, refl, ap, sym, _∙_, subst}
 use lib.ListN.{length, replicate}
+use Rattle.lists.specs.All.{All}
 use Rattle.lists.specs.Lists.{_∈_}
 use Rattle.lists.specs.Lists.Laws.{mem-nth}
 use Rattle.lists.specs.All.Laws.{all-nth}
 use Rattle.octets.specs.Head.{Bytes}
 use Rattle.message.specs.Promise.{Message, SameMessage, messages}
-use Rattle.rewriting.specs.Table.{Ruling, passed, Ruled}
+use Rattle.rewriting.specs.Table.{Ruling, passed, refused, Ruled}
 use Rattle.protocol.specs.Protocol.{Fact, Protocol}
 use Rattle.protocol.specs.Protocol.Limits.{Within}
 use Rattle.steps.specs.Nodes.{Node, NodeWithin}
+use Rattle.steps.specs.Values.{NodeRight}
 use Rattle.steps.specs.Facts.{factsOf, sameFact, SameFact}
 use Rattle.steps.specs.Facts.Formed.{FactFormed, facts-formed, formed-decides}
 use Rattle.steps.specs.Runs.{IsRun, NamesOnce}
@@ -24,6 +26,8 @@ use Rattle.graph.specs.Causes.{DependencyGraph}
 use Rattle.property.specs.Formula.{Formula}
 use Rattle.lists.specs.Reflects.{Reflects, right, wrong}
 use Rattle.property.specs.Truth.{arities, Truth, actionsOfNodes}
+use Rattle.property.specs.Fit.{IsFit}
+use Rattle.verdict.specs.Truth.{truth}
 use Rattle.verdict.specs.Truth.Laws.{truth-holds}
 use Rattle.term.specs.Term.{Term, symbols}
 use Rattle.term.specs.Arity.{tagArities}
@@ -39,16 +43,43 @@ use Rattle.checker.specs.Check.{graphLimit, Checked, checked, checkOutco
 use Rattle.checker.specs.Check.Fit.{FitProperty}
 use Rattle.checker.specs.Check.Cases.{sized, work-kept, work-cleared}
 use Rattle.checker.specs.Check.Bounds.{OutcomeSmall, check-small}
+use Rattle.checker.specs.Draw.{drawOutcome, drawRows, drawOutput, drawWork}
+use Rattle.checker.specs.Draw.Cases as drawing
+use Rattle.checker.specs.Draw.Cases.{output-kept}
+use Rattle.checker.specs.Draw.Cleared as cleared
+use Rattle.checker.specs.Draw.Laws.{DrawnLength, draw-ruled, draw-unique}
+use Rattle.checker.specs.Draw.Bounds.{DrawSmall, draw-small}
+use Rattle.checker.specs.Draw.Written.{GraphWritten, graph-written}
 use Rattle.checker.specs.Check.Laws.{Holds, Answers, files-fit, holds-passed, passed-graph, check-ruled, check-unique, passed-answers}
+-- demand 3 whole, one statement
+pub mod Third
 
--- the trace of a dependency graph makes the property true, over all messages and all times
+-- the trace of right nodes makes the property true, over all messages and all times
+abbrev pub NodesHold : (p : Protocol) → Within p → Formula → (xs : List Node) → All (NodeWithin p) xs → All (NodeRight p) xs → Type 0
+NodesHold p fit f xs within values = Truth (p .functions) (actionsOfNodes p fit xs within values) f
+
+-- that of a dependency graph
 abbrev pub TraceHolds : (p : Protocol) → Within p → Formula → {file : List ℕ} {g : Graph} → DependencyGraph p file g → Type 0
-TraceHolds p fit f {file} {g} d = Truth (p .functions) (actionsOfNodes p fit (g .nodes) (d .within .0 .each) (d .right)) f
+TraceHolds p fit f {file} {g} d = NodesHold p fit f (g .nodes) (d .within .0 .each) (d .right)
+
+-- "a run of the multiset rewriting from the empty state, no fresh name made twice"
+pub record SuchRun (p : Protocol) (xs : List Node) : Type 0 where
+  pub run : IsRun p xs
+  pub names-once : NamesOnce p xs
+
+pub such-run : (p : Protocol) (xs : List Node) → IsRun p xs → SuchRun p xs
+such-run p xs r = record { run = r; names-once = run-names p xs r }
 
 -- an answer that decides a statement is false just where the statement fails
 fails-exactly : {P : Type 0} {b : Bool} → Reflects P b → (b ≡ false) ↔ ¬ P
 fails-exactly (right p) = ((λ e. absurd (true≢false e)), (λ n. absurd (n p)))
 fails-exactly (wrong n) = ((λ e. n), (λ m. refl))
+
+-- the nodes are ruled an attack just where their trace makes the property false
+pub nodes-attack :
+    (p : Protocol) (fit : Within p) (f : Formula) → IsFit [] f → (xs : List Node) (within : All (NodeWithin p) xs) (values : All (NodeRight p) xs)
+    → (truth p xs f ≡ false) ↔ ¬ NodesHold p fit f xs within values
+nodes-attack p fit f fits xs within values = fails-exactly (truth-holds p fit xs within values f fits)
 
 -- ── 2: "Two messages count as equal exactly when the paper's ten equations make them equal." ──
 -- the test of two messages, and that of two facts of nodes
@@ -82,6 +113,40 @@ module _ (protocol term : List ℕ) where
       → symbols t ≤ mostSymbols → length term ≤ termLimit → (output work : ℕ) → workNeed ≤ work → need t ≤ output
       → canonicalOutcome protocol term output work ≡ passed (need t)
   form-written = canonical-back protocol term
+
+-- ── 1, for drawing: a length or one refusal, which the table alone fixes, and the lent memory as the table says ──
+module _ (protocol steps : List ℕ) (bytes : Bytes protocol) (steps-bytes : Bytes steps) where
+  pub draw-any-bytes :
+      (output work : ℕ) → Ruled (drawRows protocol steps output work) (DrawnLength protocol steps) (drawOutcome protocol steps output work)
+  draw-any-bytes = draw-ruled protocol steps bytes steps-bytes
+
+  pub draw-one-outcome :
+      (output work : ℕ) (r : Ruling ℕ) → Ruled (drawRows protocol steps output work) (DrawnLength protocol steps) r
+      → r ≡ drawOutcome protocol steps output work
+  draw-one-outcome = draw-unique protocol steps bytes steps-bytes
+
+  -- its figures are small: numbers to 15, items and lengths to 61,440
+  pub draw-small-outcome : (output work : ℕ) → DrawSmall (drawOutcome protocol steps output work)
+  draw-small-outcome = draw-small protocol steps bytes steps-bytes
+
+  -- a refusal leaves the output; else the graph of that length starts it, and "Output past what was written never changes"
+  pub draw-output-left :
+      (output : List ℕ) (work : ℕ)
+      → ((n k : ℕ) → drawOutcome protocol steps (length output) work ≡ refused n k → drawOutput protocol steps output work ≡ output)
+      × ((n : ℕ) → drawOutcome protocol steps (length output) work ≡ passed n → GraphWritten protocol steps output work n)
+  draw-output-left output work = (
+    (λ n k e. sym (output-kept protocol steps output work n k e)),
+    graph-written protocol steps bytes steps-bytes output work,
+  )
+
+  pub draw-work-left :
+      (output : ℕ) (work : List ℕ)
+      → (length work < workNeed → drawWork protocol steps output work ≡ work)
+      × (workNeed ≤ length work → drawWork protocol steps output work ≡ replicate (length work) 0)
+  draw-work-left output work = (
+    (λ l. sym (drawing.work-kept protocol steps work output l)),
+    (λ l. sym (cleared.work-cleared protocol steps output work l)),
+  )
 
 module _ (protocol property graph : List ℕ) (bytes : Bytes protocol) (property-bytes : Bytes property) (graph-bytes : Bytes graph) where
   -- ── 1: "A caller may hand over protocol, property and graph as any byte strings and receives a ruling or one refusal from document 01's
@@ -142,14 +207,14 @@ module _ (protocol property graph : List ℕ) (bytes : Bytes protocol) (property
     pub attack-exactly :
         {g : Graph} (d : DependencyGraph p graph g) → (checked p f g .holds ≡ false) ↔ ¬ TraceHolds p (fit-within protocol bytes p fit) f d
     attack-exactly {g} d =
-        fails-exactly (truth-holds p (fit-within protocol bytes p fit) (g .nodes) (d .within .0 .each) (d .right) f (fit-property .fits))
+        nodes-attack p (fit-within protocol bytes p fit) f (fit-property .fits) (g .nodes) (d .within .0 .each) (d .right)
 
-  -- ── 3: "For every protocol, property and graph, if the graph is accepted, then its nodes in file order are a run of the multiset rewriting
-  -- from the empty state, no fresh name made twice, and it is ruled an attack exactly when the trace makes the property false." ──
+  -- ── 3, its first sentence; the whole is in Demands/Third.antt: "For every protocol, property and graph, if the graph is accepted, then its nodes in
+  -- file order are a run of the multiset rewriting from the empty state, no fresh name made twice, and it is ruled an attack exactly when the trace
+  -- makes the property false." ──
   pub record IsRuled (c : Checked) : Type 0 where
     pub its : Answers protocol property graph c
-    pub run : IsRun (its .is-protocol) (its .is-graph .nodes)
-    pub names-once : NamesOnce (its .is-protocol) (its .is-graph .nodes)
+    pub run : SuchRun (its .is-protocol) (its .is-graph .nodes)
     pub attack :
         (c .holds ≡ false)
         ↔ ¬ TraceHolds (its .is-protocol) (fit-within protocol bytes (its .is-protocol) (its .files .fit)) (its .is-property) (its .files .is-graph)
@@ -163,11 +228,9 @@ module _ (protocol property graph : List ℕ) (bytes : Bytes protocol) (property
       let d = h .is-graph in
       let fit = fit-within protocol bytes p (h .fit) in
       let acc = accepted-exactly p fit (g .nodes) (d .within .0 .each) (g .edges) .1 (d .accepted) in
-      let run = accepted-runs p (g .nodes) (g .edges) acc in
       record {
         its = a;
-        run = run;
-        names-once = run-names p (g .nodes) run;
+        run = such-run p (g .nodes) (accepted-runs p (g .nodes) (g .edges) acc);
         attack = subst (λ (b : Checked). (b .holds ≡ false) ↔ ¬ TraceHolds p fit (a .is-property) d) (sym (a .answer))
             (attack-exactly p (h .fit) (a .is-property) (h .fit-property) d);
       }

@@ -4,6 +4,8 @@
 pub mod Answer
 -- the pass of a bound, from the comparison that the code makes
 pub mod Passing
+-- rows whose numbers and items are small
+pub mod Small
 -- the files: limits, items, what reading them rules
 pub mod Files
 -- the work area after every answer that is no refusal 1
@@ -12,6 +14,8 @@ pub mod Late
 pub mod Canonical
 -- the call check
 pub mod Check
+-- the call draw
+pub mod Draw
 -- the line of a ruling
 pub mod Line
 -- the demands, each under its sentence

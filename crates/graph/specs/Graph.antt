@@ -11,6 +11,8 @@ use Rattle.protocol.specs.Protocol.{Protocol}
 use Rattle.steps.specs.Nodes.{Node, encodeNodes, NodesWithin, Reading, read, onward, plainly, allOf, nodeList}
 -- what is within the limits reads back from its bytes, and what reads is within them and stands there
 pub mod Exact
+-- an accepted graph keeps within the limits
+pub mod Limits
 
 -- ── graphs ──
 -- "as steps, then count of edges (4,096), each source node, conclusion, target node, premise, all from 1, in any order"

@@ -78,7 +78,7 @@ decided-as e g n m r h = subst (λ (q : Ruling Graph). Decided q g n m r) e h
 
 -- ── the causes of nodes come first, and what follows them does not change them ──
 module _ {A B : Type 0} (n : ℕ) where
-  refused-first :
+  pub refused-first :
       (o : Option ℕ) (q : Ruling A) (r : Ruling B) (i k : ℕ) → (q ≡ refused i k → r ≡ refused i k) → orRefuse n o q ≡ refused i k
       → orRefuse n o r ≡ refused i k
   refused-first none q r i k f h = f h
@@ -92,7 +92,7 @@ module _ {A B : Type 0} (n : ℕ) where
   passed-first none q r t y f h = f h
   passed-first (some j) q r t y f h = absurd (refused-passed n j y h)
 
-counted-refused : (q : Ruling (List Node)) (a b : ℕ) → refused a b ≡ counted q → q ≡ refused a b
+pub counted-refused : (q : Ruling (List Node)) (a b : ℕ) → refused a b ≡ counted q → q ≡ refused a b
 counted-refused (passed ys) a b h = absurd (refused-passed a b (length ys) h)
 counted-refused (refused c d) a b h =
     let e : c ≡ a = cc in

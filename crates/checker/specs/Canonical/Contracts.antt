@@ -4,13 +4,15 @@ use mathlib.Core.List.{List}
 use mathlib.Core.Path.{_≡_}
 use lib.ListN.{length}
 use Rattle.octets.specs.Head.{Bytes}
-use Rattle.term.specs.Term.{Term}
+use Rattle.term.specs.Term.{Term, encode}
 use Rattle.term.specs.Arity.{tagArities}
-use Rattle.rewriting.specs.Table.{Ruling, passed, andThen}
+use Rattle.message.specs.Canon.{canon}
+use Rattle.rewriting.specs.Table.{Ruling, passed}
 use Rattle.checker.specs.declared.Written.{Written}
-use Rattle.checker.specs.Answer.{written, outputAfter}
+use Rattle.checker.specs.Answer.{written}
+use Rattle.checker.specs.Answer.Judged as judged
 use Rattle.checker.specs.Files.{termLimit, termRuling}
-use Rattle.checker.specs.Canonical.{roomRuling, formOf, canonicalOutcome, canonicalOutput}
+use Rattle.checker.specs.Canonical.{canonicalOutcome, canonicalOutput}
 
 -- ── the file holds the term t under a table of slots ──
 pub record Form (arities term free : List ℕ) (t : Term) : Type 0 where
@@ -19,21 +21,19 @@ pub record Form (arities term free : List ℕ) (t : Term) : Type 0 where
   pub bytes : Bytes term
   pub short : length term ≤ termLimit
 
+-- the term is refused, or its canonical form is written, or the output is short
+abbrev pub Judges : Ruling Term → List ℕ → List ℕ → Written → Type 0
+Judges = judged.Judges (λ t. encode (canon t))
+
 -- its canonical form is written, or the output is short
-pub record Formed (t : Term) (output output′ : List ℕ) (r : Written) : Type 0 where
-  pub answer : written r ≡ roomRuling (length output) t
-  pub left : output′ ≡ outputAfter (roomRuling (length output) t) (formOf (passed t)) output
+abbrev pub Formed : Term → List ℕ → List ℕ → Written → Type 0
+Formed t output output′ r = Judges (passed t) output output′ r
 
 -- ── under the table of a fit protocol ──
 pub record Under (arities term free : List ℕ) : Type 0 where
   pub table : arities ≡ tagArities free
   pub bytes : Bytes term
   pub short : length term ≤ termLimit
-
--- the term is refused, or its canonical form is written, or the output is short
-pub record Judges (ruling : Ruling Term) (output output′ : List ℕ) (r : Written) : Type 0 where
-  pub answer : written r ≡ andThen ruling (roomRuling (length output))
-  pub left : output′ ≡ outputAfter (andThen ruling (roomRuling (length output))) (formOf ruling) output
 
 -- ── the call, with any work area that is long enough ──
 pub record Inside (protocol term output output′ : List ℕ) (r : Written) (work : ℕ) : Type 0 where

@@ -20,12 +20,12 @@ use Rattle.rewriting.specs.Table.{Ruling, passed, refused, Ruled}
 use Rattle.rewriting.specs.Table.Laws.{passed-good}
 use Rattle.checker.specs.declared.Written.{Written}
 use Rattle.checker.specs.declared.Written.the-variants as wr
-use Rattle.checker.specs.Answer.{written, outputAfter}
-use Rattle.checker.specs.Passing.{less-yes, less-no}
+use Rattle.checker.specs.Answer.{written}
 use Rattle.checker.specs.Files.{termLimit, termRows}
 use Rattle.checker.specs.Files.Laws.{IsSmall, term-ruled}
 use Rattle.checker.specs.Files.Terms.{IsTerm, file-form}
-use Rattle.checker.specs.Canonical.{need, formOf}
+use Rattle.checker.specs.Canonical.{need}
+use Rattle.checker.specs.Answer.Judged.{judges-short, judges-written}
 use Rattle.checker.specs.Canonical.Contracts.{Form, Formed}
 
 small-enough : (n : ℕ) → (mostSymbols < n → ⊥) → n ≤ mostSymbols
@@ -74,21 +74,12 @@ module _ (t : Term) (out : List ℕ) (r : ℕ) (stands : Stands out 0 (encode (c
   -- ── what becomes of the output ──
   pub formed-short : (output : List ℕ) (w : Written) → length output < r → written w ≡ refused 15 r → Formed t output output w
   formed-short output w h e =
-      let l : length output < need t = omega (arith, form-length) in
-      let q = less-yes 15 (need t) (length output) (need t) [] (passed (need t)) l in
-      record {
-        answer = e ∙ ap {B = Ruling ℕ} (refused 15) form-length ∙ sym q;
-        left = sym (ap (λ (x : Ruling ℕ). outputAfter x (formOf (passed t)) output) q);
-      }
+      judges-short (λ t. encode (canon t)) (passed t) output w t refl (omega (arith, form-length)) (e ∙ ap {B = Ruling ℕ} (refused 15) form-length)
 
   pub formed-written : (output : List ℕ) → r ≤ length output → Formed t output (splice output 0 (take r out)) (wr.Length r)
   formed-written output h =
-      let l : need t ≤ length output = omega (arith, form-length) in
-      let q = less-no 15 (need t) (length output) (need t) [] (passed (need t)) l in
-      record {
-        answer = ap {B = Ruling ℕ} passed form-length ∙ sym q;
-        left = ap (splice output 0) form-bytes ∙ sym (ap (λ (x : Ruling ℕ). outputAfter x (formOf (passed t)) output) q);
-      }
+      subst (λ (bytes : List ℕ). Formed t output (splice output 0 bytes) (wr.Length r)) (sym form-bytes)
+      (judges-written (λ t. encode (canon t)) (passed t) output (wr.Length r) t refl (omega (arith, form-length)) (ap {B = Ruling ℕ} passed form-length))
 
 -- ── the form that was made of the file's term ──
 module _ (arities term out : List ℕ) (r : ℕ) (made : Promises (MessageAt arities term 0) (λ (t : Term). Stands out 0 (encode (canon t)) r)) where

@@ -8,14 +8,16 @@ use Rattle.lists.specs.Asks.{Promises}
 use Rattle.term.specs.Sizes.{mostSymbols}
 use Rattle.lists.specs.Choice.{by-size, clash}
 use Rattle.number.specs.Reading.{Read, got, fault}
-use Rattle.term.specs.Term.{Term, symbols}
+use Rattle.term.specs.Term.{Term, encode, symbols}
 use Rattle.term.specs.Arity.{tagArities}
+use Rattle.message.specs.Canon.{canon}
 use Rattle.rewriting.specs.Table.{Ruling, passed, refused, andThen}
 use Rattle.rewriting.specs.Table.Passes.{lessPass, needPass}
 use Rattle.protocol.specs.Protocol.{Protocol}
 use Rattle.checker.specs.declared.Written.{Written}
 use Rattle.checker.specs.declared.TermFile.the-variants.{Small, Layout, Large}
 use Rattle.checker.specs.Answer.{workNeed, written, outputAfter}
+use Rattle.checker.specs.Answer.Judged as judged
 use Rattle.checker.specs.Passing.{less-yes, less-no}
 use Rattle.checker.specs.Late.{Late, late-then, late-pass, late-layout, late-work, late-protocol}
 use Rattle.checker.specs.Files.{protocolLimit, termLimit, protocolItem, termItem, layout, protocolRuling, termFile, sizeRuling, termRuling}
@@ -80,17 +82,11 @@ form-of arities term free u h = record { table = u .table; is = h .is; bytes = u
 -- ── the term's outcome ──
 pub judges-refused :
     (r : Ruling Term) (n k : ℕ) (output : List ℕ) (w : Written) → r ≡ refused n k → written w ≡ refused n k → Judges r output output w
-judges-refused r n k output w e q = record {
-  answer = q ∙ sym (ap (λ (x : Ruling Term). andThen x (roomRuling (length output))) e);
-  left = sym (ap (λ (x : Ruling Term). outputAfter (andThen x (roomRuling (length output))) (formOf x) output) e);
-}
+judges-refused r n k output w e q = judged.judges-refused (λ t. encode (canon t)) r output w n k e q
 
 pub judges-formed :
     (r : Ruling Term) (t : Term) (output output′ : List ℕ) (w : Written) → r ≡ passed t → Formed t output output′ w → Judges r output output′ w
-judges-formed r t output output′ w e f = record {
-  answer = f .answer ∙ sym (ap (λ (x : Ruling Term). andThen x (roomRuling (length output))) e);
-  left = f .left ∙ sym (ap (λ (x : Ruling Term). outputAfter (andThen x (roomRuling (length output))) (formOf x) output) e);
-}
+judges-formed r t output output′ w e f = judged.judges-passed (λ t. encode (canon t)) r output w t e output′ f
 
 -- ── the call's outcome ──
 module _ (protocol term output : List ℕ) (w : Written) where

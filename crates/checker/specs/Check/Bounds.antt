@@ -1,8 +1,7 @@
 -- The figures of checking's outcome are small, whatever the files: no number over 13, no item over 4,096, no more than 512 nodes and 4,096 edges.
-use Prim.Native.Nat.{ℕ, zero, suc, _+_, _≤_}
-use mathlib.Core.List.{List, [], _∷_, _++_}
+use Prim.Native.Nat.{ℕ, suc, _≤_}
+use mathlib.Core.List.{List, [], _∷_}
 use mathlib.Core.Bool.{Bool, true, false}
-use mathlib.Core.Logic.{inl, inr}
 use mathlib.Core.Option.{Option, some, none, Option·none-ne-some}
 use mathlib.Core.Path.{_≡_, refl, ap, sym, subst}
 use native.Mathlib.Omega.{arith}
@@ -10,12 +9,12 @@ use lib.ListN.{length}
 use lib.Dec.{eqb}
 use Rattle.lists.specs.Choice.{cut, clash}
 use Rattle.lists.specs.Lists.{nth, bit, countBy}
-use Rattle.lists.specs.Lists.Laws.{at-some, map-nth}
+use Rattle.lists.specs.Lists.Laws.{map-nth}
 use Rattle.octets.specs.Head.{Bytes}
 use Rattle.number.specs.Reading.{Read, got, fault}
 use Rattle.number.specs.Reading.Numbers.{below-inside}
-use Rattle.rewriting.specs.Table.{Ruling, passed, refused, Row, fixedRow, Says, Ruled, rowsAfter}
-use Rattle.rewriting.specs.Table.Laws.{ruled-says, passed-inj, refused-passed}
+use Rattle.rewriting.specs.Table.{Ruling, passed, refused, Row, rowsAfter}
+use Rattle.rewriting.specs.Table.Laws.{passed-inj, refused-passed}
 use Rattle.rewriting.specs.Graph as theory
 use Rattle.protocol.specs.Protocol.{Fact, Protocol, factArities}
 use Rattle.protocol.specs.Protocol as protocols
@@ -28,6 +27,7 @@ use Rattle.steps.specs.Causes.{graphItem, readRows, readRuling}
 use Rattle.graph.specs.Graph.{Graph, mostEdges, withEdges}
 use Rattle.graph.specs.Graph as graphs
 use Rattle.graph.specs.Graph.Exact.{graph-form}
+use Rattle.graph.specs.Graph.Limits.{nth-bound}
 use Rattle.graph.specs.Causes.{graphRows, graphFileRows, graphRuling, DependencyGraph}
 use Rattle.graph.specs.Causes.Laws.{graph-ruled}
 use Rattle.property.specs.Formula.{Formula}
@@ -36,6 +36,7 @@ use Rattle.property.specs.Causes as properties
 use Rattle.property.specs.Causes.Laws.{Passing, property-ruled}
 use Rattle.checker.specs.Files.{protocolItem, layout, layoutRows, fitRows, protocolRuling, protocolRows}
 use Rattle.checker.specs.Check.{Checked, propertyUnder, propertyUnderRows, underRows, filesRows, checkRows, checkOutcome}
+use Rattle.checker.specs.Small.{Small, small-join, small-after, small-fixed, refused-small}
 use Rattle.checker.specs.Check.Laws.{Answers, check-ruled, passed-answers}
 
 abbrev pub mostNumber : ℕ
@@ -45,58 +46,50 @@ abbrev pub mostItem : ℕ
 mostItem = mostEdges
 
 -- ── rows ──
-abbrev RowSmall : Row → Type 0
-RowSmall c = (c .number ≤ mostNumber) × ((k : ℕ) → c .has k → k ≤ mostItem)
-
-abbrev Small : List Row → Type 0
-Small [] = Unit {0}
-Small (c ∷ cs) = RowSmall c × Small cs
-
-says-small : (cs : List Row) (n k : ℕ) → Small cs → Says cs n k → (n ≤ mostNumber) × (k ≤ mostItem)
-says-small [] n k s h = absurd h
-says-small (c ∷ cs) n k s (inl (e, l)) = (omega (arith, e, s .0 .0), s .0 .1 k (l .here))
-says-small (c ∷ cs) n k s (inr h) = says-small cs n k (s .1) h
-
-small-join : (cs ds : List Row) → Small cs → Small ds → Small (cs ++ ds)
-small-join [] ds s t = t
-small-join (c ∷ cs) ds s t = (s .0, small-join cs ds (s .1) t)
-
-small-after : {A : Type 0} (r : Ruling A) (ds : A → List Row) → ((a : A) → r ≡ passed a → Small (ds a)) → Small (rowsAfter r ds)
-small-after (passed a) ds h = h a refl
-small-after (refused n k) ds h = tt
-
-small-fixed : (n i : ℕ) (P : Type 0) → n ≤ mostNumber → i ≤ mostItem → RowSmall (fixedRow n i P)
-small-fixed n i P l m = (l, λ k h. omega (arith, m, h .0))
-
--- a row over the elements of a list
-nth-bound : {A : Type 0} (xs : List A) (k : ℕ) (x : A) → nth xs k ≡ some x → k ≤ length xs
-nth-bound xs zero x h = absurd (Option·none-ne-some x h)
-nth-bound xs (suc i) x h = let l = at-some x xs i x h in omega (arith, l .0)
+abbrev Few : List Row → Type 0
+Few = Small mostNumber mostItem
 
 -- ── the protocol ──
 layout-reads : {A : Type 0} (item : ℕ) (r : Read A) (x : A) → layout item r ≡ passed x → (e : ℕ) × (r ≡ got x e)
 layout-reads item (got y e) x h = (e, ap (λ z. got z e) (passed-inj y x h))
 layout-reads item fault x h = absurd (refused-passed 3 item x h)
 
-protocol-small : (file : List ℕ) → Bytes file → Small (protocolRows file)
+pub protocol-small : (file : List ℕ) → Bytes file → Few (protocolRows file)
 protocol-small file bytes =
-    small-join (layoutRows protocolItem (protocols.protocol file)) (rowsAfter (layout protocolItem (protocols.protocol file)) fitRows)
-    (small-fixed 3 protocolItem (protocols.protocol file ≡ fault) (omega arith) (omega arith), tt)
-    (small-after (layout protocolItem (protocols.protocol file)) fitRows (λ p h.
+    small-join mostNumber mostItem (layoutRows protocolItem (protocols.protocol file)) (rowsAfter (layout protocolItem (protocols.protocol file)) fitRows)
+    (small-fixed mostNumber mostItem 3 protocolItem (protocols.protocol file ≡ fault) (omega arith) (omega arith), tt)
+    (small-after mostNumber mostItem (layout protocolItem (protocols.protocol file)) fitRows (λ p h.
     let (e, r) = layout-reads protocolItem (protocols.protocol file) p h in
     let few = protocol-form file bytes p e r .within .few-rules in
     ((omega arith, λ k f. omega (arith, few, nth-bound (p .rules) k (f .which) (f .stands))), tt)))
 
 -- ── the property ──
-property-small : (r : Read Formula) → Small (properties.propertyRows r)
+property-small : (r : Read Formula) → Few (properties.propertyRows r)
 property-small r =
-    small-join (properties.readRows r) (rowsAfter (properties.readRuling r) properties.fitRows)
-    (small-fixed 3 properties.propertyItem (r ≡ fault) (omega arith) (omega arith), tt)
-    (small-after (properties.readRuling r) properties.fitRows (λ f h. (small-fixed 5 0 _ (omega arith) (omega arith), tt)))
+    small-join mostNumber mostItem (properties.readRows r) (rowsAfter (properties.readRuling r) properties.fitRows)
+    (small-fixed mostNumber mostItem 3 properties.propertyItem (r ≡ fault) (omega arith) (omega arith), tt)
+    (small-after mostNumber mostItem (properties.readRuling r) properties.fitRows
+    (λ f h. (small-fixed mostNumber mostItem 5 0 _ (omega arith) (omega arith), tt)))
+
+-- ── the nodes of a graph or step list ──
+module _ (p : Protocol) (xs : List Node) (few : length xs ≤ mostNodes) where
+  pub node-small : (k : ℕ) (x : Node) → nth xs k ≡ some x → k ≤ mostNodes
+  node-small k x h = omega (arith, few, nth-bound xs k x h)
+
+  pub seen-small : (k : ℕ) (y : theory.Node Fact) → nth (rewrittens p xs) k ≡ some y → k ≤ mostNodes
+  seen-small k y h = let (x, i, e) = map-nth (rewritten p) xs k y h in node-small k x i
+
+-- the node that has no such rule is one of at most 512
+pub missing-small : (p : Protocol) (file : List ℕ) → Bytes file → (k : ℕ) → nodeList p file 0 ≡ no-rule k → k ≤ mostNodes
+missing-small p file bytes k h =
+    let m = no-rule-exactly p file 0 k .0 h in
+    let f = m .there in
+    let c = below-inside file (suc mostNodes) 0 bytes (m .count) (m .start) (m .counts) in
+    omega (arith, f .number, f .fewer, c .small)
 
 -- ── the graph ──
 module _ (p : Protocol) (file : List ℕ) (bytes : Bytes file) where
-  -- the node that has no such rule is one of at most 512
+  -- what has no such rule is a node
   missing-node : (o : Reading (List Node)) (k : ℕ) → allOf file (onward o (withEdges file)) ≡ no-rule k → o ≡ no-rule k
   missing-node (read xs e) k h = behind (graphs.edgeList file e) h
     where
@@ -106,20 +99,16 @@ module _ (p : Protocol) (file : List ℕ) (bytes : Bytes file) where
   missing-node broken k h = clash (cc)
   missing-node (no-rule j) k h = let i : j ≡ k = cc in ap no-rule i
 
-  missing-small : (k : ℕ) → graphs.graph file p ≡ no-rule k → k ≤ mostItem
+  unruled : (k : ℕ) → graphs.graph file p ≡ no-rule k → k ≤ mostItem
   unfolding graphs.graph
-  missing-small k h =
-      let m = no-rule-exactly p file 0 k .0 (missing-node (nodeList p file 0) k h) in
-      let f = m .there in
-      let c = below-inside file (suc mostNodes) 0 bytes (m .count) (m .start) (m .counts) in
-      omega (arith, f .number, f .fewer, c .small)
+  unruled k h = omega (arith, missing-small p file bytes k (missing-node (nodeList p file 0) k h))
 
   module _ (g : Graph) (few : length (g .nodes) ≤ mostNodes) (few-edges : length (g .edges) ≤ mostEdges) where
-    node-small : (k : ℕ) (x : Node) → nth (g .nodes) k ≡ some x → k ≤ mostItem
-    node-small k x h = omega (arith, few, nth-bound (g .nodes) k x h)
+    of-nodes : (k : ℕ) (x : Node) → nth (g .nodes) k ≡ some x → k ≤ mostItem
+    of-nodes k x h = omega (arith, node-small p (g .nodes) few k x h)
 
-    seen-small : (k : ℕ) (y : theory.Node Fact) → nth (rewrittens p (g .nodes)) k ≡ some y → k ≤ mostItem
-    seen-small k y h = let (x, i, e) = map-nth (rewritten p) (g .nodes) k y h in node-small k x i
+    of-seen : (k : ℕ) (y : theory.Node Fact) → nth (rewrittens p (g .nodes)) k ≡ some y → k ≤ mostItem
+    of-seen k y h = omega (arith, seen-small p (g .nodes) few k y h)
 
     edge-small : (k : ℕ) (e : theory.Edge) → nth (g .edges) k ≡ some e → k ≤ mostItem
     edge-small k e h = omega (arith, few-edges, nth-bound (g .edges) k e h)
@@ -130,16 +119,16 @@ module _ (p : Protocol) (file : List ℕ) (bytes : Bytes file) where
     place-small part k i f h = go (nth (rewrittens p (g .nodes)) k) refl h
       where
         go : (o : Option (theory.Node Fact)) → nth (rewrittens p (g .nodes)) k ≡ o → theory.inNode part i o ≡ some f → k ≤ mostItem
-        go (some y) e q = seen-small k y e
+        go (some y) e q = of-seen k y e
         go none e q = absurd (Option·none-ne-some f q)
 
-    passes-small : Small (graphRows p g)
+    passes-small : Few (graphRows p g)
     passes-small = (
-      (omega arith, λ k h. node-small k (h .node) (h .stands)),
+      (omega arith, λ k h. of-nodes k (h .node) (h .stands)),
       (
-        (omega arith, λ k h. node-small k (h .node) (h .stands)),
+        (omega arith, λ k h. of-nodes k (h .node) (h .stands)),
         (
-          (omega arith, λ k h. seen-small k (h .node) (h .stands)),
+          (omega arith, λ k h. of-seen k (h .node) (h .stands)),
           (
             (omega arith, λ k h. edge-small k (h .edge) (h .stands)),
             (
@@ -159,29 +148,26 @@ module _ (p : Protocol) (file : List ℕ) (bytes : Bytes file) where
   graph-reads broken g h = absurd (refused-passed 3 graphItem g h)
   graph-reads (no-rule k) g h = absurd (refused-passed 6 k g h)
 
-  graph-small : Small (graphFileRows p file)
+  graph-small : Few (graphFileRows p file)
   graph-small =
       let r = graphs.graph file p in
-      small-join (readRows graphItem r) (rowsAfter (readRuling graphItem r) (graphRows p))
-      (small-fixed 3 graphItem (r ≡ broken) (omega arith) (omega arith), ((omega arith, missing-small), tt))
-      (small-after (readRuling graphItem r) (graphRows p) (λ g h.
+      small-join mostNumber mostItem (readRows graphItem r) (rowsAfter (readRuling graphItem r) (graphRows p))
+      (small-fixed mostNumber mostItem 3 graphItem (r ≡ broken) (omega arith) (omega arith), ((omega arith, unruled), tt))
+      (small-after mostNumber mostItem (readRuling graphItem r) (graphRows p) (λ g h.
       let (e, i) = graph-reads r g h in
       let w = graph-form file bytes p g e i .0 in
       passes-small g (w .0 .few) (w .1 .0)))
 
 -- ── what is refused ──
-refused-small :
-    {A : Type 0} (Good : A → Type 0) (cs : List Row) (r : Ruling A) → Small cs → Ruled cs Good r → (n k : ℕ) → r ≡ refused n k
-    → (n ≤ mostNumber) × (k ≤ mostItem)
-refused-small Good cs r s h n k e = says-small cs n k s (ruled-says Good cs n k (subst (Ruled cs Good) e h))
-
 pub property-bounded : (r : Read Formula) (n k : ℕ) → properties.propertyRuling r ≡ refused n k → (n ≤ mostNumber) × (k ≤ mostItem)
-property-bounded r = refused-small (Passing r) (properties.propertyRows r) (properties.propertyRuling r) (property-small r) (property-ruled r)
+property-bounded r =
+    refused-small mostNumber mostItem (Passing r) (properties.propertyRows r) (properties.propertyRuling r) (property-small r) (property-ruled r)
 
 pub graph-bounded :
     (p : Protocol) → Within p → (file : List ℕ) → Bytes file → (n k : ℕ) → graphRuling p file ≡ refused n k → (n ≤ mostNumber) × (k ≤ mostItem)
 graph-bounded p fit file bytes =
-    refused-small (DependencyGraph p file) (graphFileRows p file) (graphRuling p file) (graph-small p file bytes) (graph-ruled p fit file bytes)
+    refused-small mostNumber mostItem (DependencyGraph p file) (graphFileRows p file) (graphRuling p file) (graph-small p file bytes)
+    (graph-ruled p fit file bytes)
 
 -- ── the call ──
 count-most : {A : Type 0} (t : A → Bool) (xs : List A) → countBy t xs ≤ length xs
@@ -203,22 +189,23 @@ OutcomeSmall (passed c) = CountsSmall c
 OutcomeSmall (refused n k) = (n ≤ mostNumber) × (k ≤ mostItem)
 
 module _ (protocol property graph : List ℕ) (bytes : Bytes protocol) (property-bytes : Bytes property) (graph-bytes : Bytes graph) where
-  files-small : Small (filesRows protocol property graph)
+  files-small : Few (filesRows protocol property graph)
   files-small =
-      small-join (protocolRows protocol) (rowsAfter (protocolRuling protocol) (λ p. underRows p property graph)) (protocol-small protocol bytes)
-      (small-after (protocolRuling protocol) (λ p. underRows p property graph) (λ p h.
-      small-join (propertyUnderRows p property) (rowsAfter (propertyUnder p property) (λ f. graphFileRows p graph))
+      small-join mostNumber mostItem (protocolRows protocol) (rowsAfter (protocolRuling protocol) (λ p. underRows p property graph))
+      (protocol-small protocol bytes)
+      (small-after mostNumber mostItem (protocolRuling protocol) (λ p. underRows p property graph) (λ p h.
+      small-join mostNumber mostItem (propertyUnderRows p property) (rowsAfter (propertyUnder p property) (λ f. graphFileRows p graph))
       (property-small (layouts.property property (factArities (p .symbols))))
-      (small-after (propertyUnder p property) (λ f. graphFileRows p graph) (λ f i. graph-small p graph graph-bytes))))
+      (small-after mostNumber mostItem (propertyUnder p property) (λ f. graphFileRows p graph) (λ f i. graph-small p graph graph-bytes))))
 
-  rows-small : (work : ℕ) → Small (checkRows protocol property graph work)
+  rows-small : (work : ℕ) → Few (checkRows protocol property graph work)
   rows-small work = (
-    small-fixed 1 0 _ (omega arith) (omega arith),
+    small-fixed mostNumber mostItem 1 0 _ (omega arith) (omega arith),
     (
-      small-fixed 2 1 _ (omega arith) (omega arith),
+      small-fixed mostNumber mostItem 2 1 _ (omega arith) (omega arith),
       (
-        small-fixed 2 2 _ (omega arith) (omega arith),
-        (small-fixed 2 3 _ (omega arith) (omega arith), files-small),
+        small-fixed mostNumber mostItem 2 2 _ (omega arith) (omega arith),
+        (small-fixed mostNumber mostItem 2 3 _ (omega arith) (omega arith), files-small),
       ),
     ),
   )
@@ -236,5 +223,5 @@ module _ (protocol property graph : List ℕ) (bytes : Bytes protocol) (property
       go : (r : Ruling Checked) → checkOutcome protocol property graph work ≡ r → OutcomeSmall r
       go (passed c) e = counts-small c (passed-answers protocol property graph bytes property-bytes graph-bytes work c e)
       go (refused n k) e =
-          refused-small (Answers protocol property graph) (checkRows protocol property graph work) (checkOutcome protocol property graph work)
-          (rows-small work) (check-ruled protocol property graph bytes property-bytes graph-bytes work) n k e
+          refused-small mostNumber mostItem (Answers protocol property graph) (checkRows protocol property graph work)
+          (checkOutcome protocol property graph work) (rows-small work) (check-ruled protocol property graph bytes property-bytes graph-bytes work) n k e

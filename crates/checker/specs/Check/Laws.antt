@@ -23,12 +23,16 @@ use Rattle.checker.specs.Check.{filesRuling, checkSizes, checkOutcome, u
 use Rattle.checker.specs.Check.Fit.{FitProperty, fit-property-passed, passing-fit}
 
 -- a value that is worked out of the one that passes
-ruled-map :
-    {A B : Type 0} (Good : A → Type 0) (Fine : B → Type 0) (f : A → B) → ((a : A) → Good a → Fine (f a)) → (cs : List Row) (r : Ruling A)
-    → Ruled cs Good r → Ruled cs Fine (andThen r (λ a. passed (f a)))
-ruled-map Good Fine f h [] r (a, g, e) = (f a, h a g, ap (λ q. andThen q (λ a. passed (f a))) e)
-ruled-map Good Fine f h (c ∷ cs) r (inl (n, g)) = inl (n, ruled-map Good Fine f h cs r g)
-ruled-map Good Fine f h (c ∷ cs) r (inr (k, l, e)) = inr (k, l, ap (λ q. andThen q (λ a. passed (f a))) e)
+pub ruled-map :
+    {A B : Type 0} (Good : A → Type 0) (Fine : B → Type 0) (f : A → B) (cs : List Row) (r : Ruling A)
+    → ((a : A) → Good a → r ≡ passed a → Fine (f a)) → Ruled cs Good r → Ruled cs Fine (andThen r (λ a. passed (f a)))
+ruled-map Good Fine f [] r h (a, g, e) = (f a, h a g e, ap (λ q. andThen q (λ a. passed (f a))) e)
+ruled-map Good Fine f (c ∷ cs) r h (inl (n, g)) = inl (n, ruled-map Good Fine f cs r h g)
+ruled-map Good Fine f (c ∷ cs) r h (inr (k, l, e)) = inr (k, l, ap (λ q. andThen q (λ a. passed (f a))) e)
+
+-- a limit that is not passed
+pub at-most : (m n : ℕ) → (m < n → ⊥) → n ≤ m
+at-most m n f = by-size m n (λ l. absurd (f l)) (λ l. l)
 
 module _ (protocol property graph : List ℕ) where
   -- the files hold a fit protocol, a fit property under it and a dependency graph of it
@@ -82,13 +86,13 @@ module _ (protocol property graph : List ℕ) where
         (p : Protocol) (f : Formula) → FitFile protocol p → FitProperty p property f → length graph ≤ graphLimit
         → Ruled (graphFileRows p graph) Answers (graphUnder p f graph)
     graph-answers p f fit fit-property l =
-        ruled-map (DependencyGraph p graph) Answers (checked p f) (λ g d. record {
+        ruled-map (DependencyGraph p graph) Answers (checked p f) (graphFileRows p graph) (graphRuling p graph) (λ g d e. record {
           is-protocol = p;
           is-property = f;
           is-graph = g;
           files = record { fit = fit; fit-property = fit-property; short = l; is-graph = d };
           answer = refl;
-        }) (graphFileRows p graph) (graphRuling p graph) (graph-ruled p (fit-within protocol bytes p fit) graph graph-bytes)
+        }) (graph-ruled p (fit-within protocol bytes p fit) graph graph-bytes)
 
     property-answers :
         (p : Protocol) → FitFile protocol p → length property ≤ propertyLimit → length graph ≤ graphLimit
@@ -107,12 +111,9 @@ module _ (protocol property graph : List ℕ) where
         ruled-then Answers (checkSizes protocol property graph work) (filesRows protocol property graph) (filesRuling protocol property graph)
         (λ a. ruled-and-then (IsFit protocol) Answers (protocolRows protocol) (protocolRuling protocol) (λ p. underRows p property graph)
         (λ p. underProtocol p property graph) (protocol-ruled protocol)
-        (λ p h e. property-answers p (is-fit-file protocol bytes p (within protocolLimit (length protocol) (λ l. a .1 .0 1 (refl, l))) h)
-        (within propertyLimit (length property) (λ l. a .1 .1 .0 2 (refl, l)))
-        (within graphLimit (length graph) (λ l. a .1 .1 .1 .0 3 (refl, l)))))
-      where
-        within : (m n : ℕ) → (m < n → ⊥) → n ≤ m
-        within m n f = by-size m n (λ l. absurd (f l)) (λ l. l)
+        (λ p h e. property-answers p (is-fit-file protocol bytes p (at-most protocolLimit (length protocol) (λ l. a .1 .0 1 (refl, l))) h)
+        (at-most propertyLimit (length property) (λ l. a .1 .1 .0 2 (refl, l)))
+        (at-most graphLimit (length graph) (λ l. a .1 .1 .1 .0 3 (refl, l)))))
 
     -- the table says just this
     pub check-unique :
