@@ -3,7 +3,7 @@ use Prim.Native.Nat.{ℕ, _+_}
 use mathlib.Core.List.{List}
 use mathlib.Core.Path.{_≡_, refl, ap, sym, _∙_, subst}
 use mathlib.Core.Logic.{_≢_}
-use mathlib.Core.Bool.{Bool, true, false}
+use mathlib.Core.Bool.{true, false}
 use mathlib.Core.Option.{some}
 use native.Mathlib.Omega.{arith}
 use Rattle.term.specs.Sizes.{termRoom}
@@ -14,23 +14,26 @@ use Rattle.octets.specs.Splice.Prefix.{Wrote, widen}
 use Rattle.term.specs.Term.{Term, app, Terms, nil, _&_, count, encode}
 use Rattle.term.specs.Arity.{arity}
 use Rattle.message.specs.Table.{rules}
-use Rattle.message.specs.Canon.{asBinary, apply}
-use Rattle.message.specs.Gather.{multiplied, raised}
-use Rattle.message.specs.Made.{made-free, made-exp}
+use Rattle.message.specs.Functions.{exp}
+use Rattle.message.specs.Canon.{apply}
+use Rattle.message.specs.Gather.{multiplied}
+use Rattle.message.specs.Made.{made-free}
 use Rattle.product.specs.Contracts as product
+use Rattle.product.specs.Tower.{towered}
+use Rattle.product.specs.Writing.{as-written}
 use Rattle.canonical.specs.Builtins.{group}
 use Rattle.canonical.specs.Size.{bytes-few}
-use Rattle.canonical.specs.Loose.{isProduct, closed}
-use Rattle.canonical.specs.Loose.Laws.{closed-stays, closed-product, closed-other}
+use Rattle.canonical.specs.Loose.{isProduct, stays, worked, closed}
+use Rattle.canonical.specs.Loose.Laws.{worked-product, worked-other, worked-exp, closed-stays, closed-worked}
 use Rattle.canonical.specs.Inner.{Built}
-use Rattle.canonical.proofs.Parts.{two-args, stays}
+use Rattle.canonical.proofs.Parts.{two-args}
 
 module _ (arities out : List ℕ) (o e : ℕ) where
   -- the function as it stands
   as-it-stands : (f : ℕ) (us : Terms) (t : Term) → t ≡ app f us → Built arities out o e f us → Wrote (e + termRoom) out o out e (encode t)
   as-it-stands f us t q b =
       subst (λ (z : Term). Wrote (e + termRoom) out o out e (encode z)) (sym q)
-      (widen (e + termRoom) (omega arith) (stays out o e (encode (app f us)) (b .here .stands)))
+      (widen (e + termRoom) (omega arith) (as-written out o e (encode (app f us)) (b .here .stands)))
 
   -- as products and powers are asked for
   as-asked : (f : ℕ) (us : Terms) → Built arities out o e f us → product.Whole arities out o e (app f us)
@@ -52,16 +55,18 @@ module _ (arities out : List ℕ) (o e : ℕ) where
     pub as-tag : Asks (Built arities out o e tag) → Asks (Built arities out o e g)
     as-tag w = subst (λ (f : ℕ). (Asks (Built arities out o e f))) is w
 
-    pub by-tag : (out′ : List ℕ) (r : ℕ) → Promises (Built arities out o e g) (λ (us : Terms). Wrote (e + termRoom) out o out′ r (encode (apply rules g us))) →
-        Promises
-        (Built arities out o e tag) (λ (us : Terms). Wrote (e + termRoom) out o out′ r (encode (apply rules tag us)))
-    by-tag out′ r h = subst (λ (f : ℕ). (Promises (Built arities out o e f) (λ (us : Terms). Wrote (e + termRoom) out o out′ r (encode (apply rules f us)))))
-        (sym is) h
+    pub by-tag : (out′ : List ℕ) (r : ℕ) → Promises (Built arities out o e g) (λ (us : Terms). Wrote (e + termRoom) out o out′ r (encode (worked g us)))
+        → Promises (Built arities out o e tag) (λ (us : Terms). Wrote (e + termRoom) out o out′ r (encode (worked tag us)))
+    by-tag out′ r h =
+        subst (λ (f : ℕ). (Promises (Built arities out o e f) (λ (us : Terms). Wrote (e + termRoom) out o out′ r (encode (worked f us))))) (sym is) h
 
   -- a rule leaves the room behind as it was
-  pub in-place : (g : ℕ) (out′ : List ℕ) (r : ℕ) → Promises (Built arities out o e g) (λ (us : Terms). Wrote e out o out′ r (encode (apply rules g us)))
-      → Promises (Built arities out o e g) (λ (us : Terms). Wrote (e + termRoom) out o out′ r (encode (apply rules g us)))
-  in-place g out′ r h us b = widen (e + termRoom) (omega arith) (h us b)
+  pub in-place :
+      (g : ℕ) → isProduct g ≡ false → g ≢ expTag → (out′ : List ℕ) (r : ℕ)
+      → Promises (Built arities out o e g) (λ (us : Terms). Wrote e out o out′ r (encode (apply rules g us)))
+      → Promises (Built arities out o e g) (λ (us : Terms). Wrote (e + termRoom) out o out′ r (encode (worked g us)))
+  in-place g p n out′ r h us b =
+      subst (λ (t : Term). Wrote (e + termRoom) out o out′ r (encode t)) (sym (worked-other g us p n)) (widen (e + termRoom) (omega arith) (h us b))
 
   -- ── exp ──
   record Exp (us : Terms) : Type 0 where
@@ -80,54 +85,50 @@ module _ (arities out : List ℕ) (o e : ℕ) where
   exp-asks (us, b) = let p = exp-of us b in (p .x, p .y, as-asked expTag (p .x & (p .y & nil)) (p .built))
 
   pub exp-done : (out′ : List ℕ) (r : ℕ) → Promises₂ (product.WholePower arities out o e)
-      (λ (x y : Term). Wrote (e + termRoom) out o out′ r (encode (raised (asBinary expTag x) x y)))
-      → Promises (Built arities out o e expTag) (λ (us : Terms). Wrote (e + termRoom) out o out′ r (encode (apply rules expTag us)))
+      (λ (x y : Term). Wrote (e + termRoom) out o out′ r (encode (towered (exp x y))))
+      → Promises (Built arities out o e expTag) (λ (us : Terms). Wrote (e + termRoom) out o out′ r (encode (worked expTag us)))
   exp-done out′ r h us b =
       let p = exp-of us b in
-      let w = p .built .here .formed .1 in
-      let q : apply rules expTag us ≡ raised (asBinary expTag (p .x)) (p .x) (p .y) =
-      ap (apply rules expTag) (p .is) ∙ made-exp (arity arities) (group arities (b .table)) (p .x) (p .y) (w .0) (w .1 .0) in
+      let q : worked expTag us ≡ towered (exp (p .x) (p .y)) = worked-exp us ∙ ap (λ (z : Terms). towered (app expTag z)) (p .is) in
       subst (λ (t : Term). Wrote (e + termRoom) out o out′ r (encode t)) (sym q) (h (p .x) (p .y) (as-asked expTag (p .x & (p .y & nil)) (p .built)))
 
-  -- ── a function without a rule ──
-  pub free-done :
-      (tag : ℕ) → isProduct tag ≡ false → tag ≢ decTag → tag ≢ fstTag → tag ≢ sndTag → tag ≢ expTag → Promises (Built arities out o e tag)
-      (λ (us : Terms). Wrote (e + termRoom) out o out e (encode (apply rules tag us)))
-  free-done tag p a b c d us h =
-      let other : (g : ℕ) → isProduct g ≡ true → tag ≢ g =
-      λ g t q. let z : true ≡ false = sym t ∙ ap isProduct (sym q) ∙ p in clash (cc) in
-      as-it-stands tag us (apply rules tag us)
-      (made-free (arity arities) (group arities (h .table)) tag us (record {
-        no-one = other oneTag refl;
-        no-exp = d;
-        no-inv = other invTag refl;
-        no-mul = other
-            mulTag refl;
-      }) a
-      b c) h
-
-  -- ── inside a product and outside ──
-  module _ (tag : ℕ) (inside : Bool) where
-    pub inner-done : isProduct tag ≡ true → inside ≡ true → Promises (Built arities out o e tag)
-        (λ (us : Terms). Wrote (e + termRoom) out o out e (encode (closed inside tag us)))
-    inner-done p i us b =
-        as-it-stands tag us (closed inside tag us) (ap (λ (z : Bool). closed z tag us) i ∙ closed-stays true tag us p) b
-
+  module _ (tag : ℕ) where
+    -- ── a product function ──
     pub product-asks : Asks (Built arities out o e tag) → Asks (product.Whole arities out o e)
     product-asks (us, b) = (app tag us, as-asked tag us b)
 
     pub product-done :
-        isProduct tag ≡ true → inside ≡ false → (out′ : List ℕ) (r : ℕ) → Promises (product.Whole arities out o e)
+        isProduct tag ≡ true → (out′ : List ℕ) (r : ℕ) → Promises (product.Whole arities out o e)
         (λ (t : Term). Wrote (e + termRoom) out o out′ r (encode (multiplied (t & nil))))
-        → Promises (Built arities out o e tag) (λ (us : Terms). Wrote (e + termRoom) out o out′ r (encode (closed inside tag us)))
-    product-done p i out′ r h us b =
-        let q : closed inside tag us ≡ multiplied (app tag us & nil) =
-        ap (λ (z : Bool). closed z tag us) i ∙ closed-product false tag us p in
-        subst (λ (t : Term). Wrote (e + termRoom) out o out′ r (encode t)) (sym q) (h (app tag us) (as-asked tag us b))
+        → Promises (Built arities out o e tag) (λ (us : Terms). Wrote (e + termRoom) out o out′ r (encode (worked tag us)))
+    product-done p out′ r h us b =
+        subst (λ (t : Term). Wrote (e + termRoom) out o out′ r (encode t)) (sym (worked-product tag us p)) (h (app tag us) (as-asked tag us b))
 
-    pub other-done :
-        isProduct tag ≡ false → (out′ : List ℕ) (r : ℕ) → Promises (Built arities out o e tag)
-        (λ (us : Terms). Wrote (e + termRoom) out o out′ r (encode (apply rules tag us)))
-        → Promises (Built arities out o e tag) (λ (us : Terms). Wrote (e + termRoom) out o out′ r (encode (closed inside tag us)))
-    other-done p out′ r h us b =
-        subst (λ (t : Term). Wrote (e + termRoom) out o out′ r (encode t)) (sym (closed-other inside tag us p)) (h us b)
+    -- ── a function without a rule ──
+    pub free-done :
+        isProduct tag ≡ false → tag ≢ decTag → tag ≢ fstTag → tag ≢ sndTag → tag ≢ expTag → Promises (Built arities out o e tag)
+        (λ (us : Terms). Wrote (e + termRoom) out o out e (encode (worked tag us)))
+    free-done p a b c d us h =
+        let other : (g : ℕ) → isProduct g ≡ true → tag ≢ g =
+        λ g t q. let z : true ≡ false = sym t ∙ ap isProduct (sym q) ∙ p in clash (cc) in
+        as-it-stands tag us (worked tag us)
+        (worked-other tag us p d
+        ∙ made-free (arity arities) (group arities (h .table)) tag us (record {
+          no-one = other oneTag refl;
+          no-exp = d;
+          no-inv = other invTag refl;
+          no-mul = other mulTag refl;
+        }) a b c) h
+
+    -- ── inside the function around ──
+    module _ (around : ℕ) where
+      pub stays-done : stays around tag ≡ true → Promises (Built arities out o e tag)
+          (λ (us : Terms). Wrote (e + termRoom) out o out e (encode (closed around tag us)))
+      stays-done p us b = as-it-stands tag us (closed around tag us) (closed-stays tag us around p) b
+
+      pub worked-done :
+          stays around tag ≡ false → (out′ : List ℕ) (r : ℕ) → Promises (Built arities out o e tag)
+          (λ (us : Terms). Wrote (e + termRoom) out o out′ r (encode (worked tag us)))
+          → Promises (Built arities out o e tag) (λ (us : Terms). Wrote (e + termRoom) out o out′ r (encode (closed around tag us)))
+      worked-done p out′ r h us b =
+          subst (λ (t : Term). Wrote (e + termRoom) out o out′ r (encode t)) (sym (closed-worked tag us around p)) (h us b)
