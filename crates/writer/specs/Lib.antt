@@ -7,3 +7,6 @@ pub mod Free
 pub mod Search
 -- 14: a source for each premise
 pub mod Sources
+-- ── writing ──
+-- the bytes of the edges
+pub mod Edges
