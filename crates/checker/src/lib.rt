@@ -1,6 +1,7 @@
 // The exported calls.
 
 pub mod checking; // the call check, where the work area is long enough
+pub mod drawing; // the call draw, where the work area is long enough
 pub mod line; // the line of a ruling
 
 ghost use mathlib.Core.Path.{_≡_};
@@ -20,6 +21,7 @@ ghost use Rattle.graph.specs.Graph.{mostEdges};
 ghost use Rattle.checker.specs.Check.{ruled, packedRuling, checkOutcome, checkWork};
 ghost use Rattle.checker.specs.Check.Bounds.{OutcomeSmall};
 ghost use Rattle.checker.specs.Canonical.{canonicalOutcome, canonicalOutput, canonicalWork};
+ghost use Rattle.checker.specs.Draw.{drawOutcome, drawOutput, drawWork};
 ghost use Rattle.checker.specs.Canonical.Contracts.{Form, Formed, Under, Judges, Inside};
 use protocol::figures;
 use rules::fit::FitVerdict;
@@ -217,6 +219,34 @@ pub extern "C" fn levtosziv_canonical(
     ensures cleared { λ r. ⌜ now (work .exit) ≡ canonicalWork (now (protocol .entry)) (now (term .entry)) (length (now (output .entry))) (now (work .entry)) ⌝ }
 {
     pack(canonical_form(protocol, term, output, work))
+}
+
+// Draws the graph of the steps, read under the protocol, to the start of the output.
+pub fn draw(protocol: &[u8], steps: &[u8], output: &mut [u8], work: &mut [u8]) -> Written
+    ensures answer { λ r. ⌜ written r ≡ drawOutcome (now (protocol .entry)) (now (steps .entry)) (length (now (output .entry))) (length (now (work .entry))) ⌝ }
+    ensures wrote { λ r. ⌜ now (output .exit) ≡ drawOutput (now (protocol .entry)) (now (steps .entry)) (now (output .entry)) (length (now (work .entry))) ⌝ }
+    ensures cleared { λ r. ⌜ now (work .exit) ≡ drawWork (now (protocol .entry)) (now (steps .entry)) (length (now (output .entry))) (now (work .entry)) ⌝ }
+{
+    if work.len() < WORK_NEED {
+        return refused(WORK_SHORT, NO_ITEM);
+    }
+    let r = drawing::draw_files(protocol, steps, output, &mut work[..WORK_NEED]);
+    octets::clear(work);
+    r
+}
+
+#[no_mangle]
+pub extern "C" fn levtosziv_draw(
+    protocol: &[u8],
+    steps: &[u8],
+    output: &mut [u8],
+    work: &mut [u8],
+) -> u64
+    ensures answer { λ r. ⌜ r ≡ packed (drawOutcome (now (protocol .entry)) (now (steps .entry)) (length (now (output .entry))) (length (now (work .entry)))) ⌝ }
+    ensures wrote { λ r. ⌜ now (output .exit) ≡ drawOutput (now (protocol .entry)) (now (steps .entry)) (now (output .entry)) (length (now (work .entry))) ⌝ }
+    ensures cleared { λ r. ⌜ now (work .exit) ≡ drawWork (now (protocol .entry)) (now (steps .entry)) (length (now (output .entry))) (now (work .entry)) ⌝ }
+{
+    pack(draw(protocol, steps, output, work))
 }
 
 // Rules on a graph: refused, or the property is judged of its trace.

@@ -8,8 +8,8 @@ ghost use Rattle.octets.specs.Splice.{splice};
 ghost use Rattle.lists.specs.Asks.{Asks, Promises};
 ghost use Rattle.number.specs.Layout.{listed};
 ghost use Rattle.rewriting.specs.Graph.{Edge};
-ghost use Rattle.graph.specs.Graph.{encodeEdge};
-ghost use Rattle.graph.specs.Table.{EdgesIn};
+ghost use Rattle.graph.specs.Graph.{mostEdges, encodeEdge};
+ghost use Rattle.graph.specs.Table.{edgeFields, EdgesIn};
 ghost use Rattle.writer.specs.Edges.{numberRoom, numberBytes};
 use graph::edges;
 
@@ -30,7 +30,8 @@ fn numbers_len(edges: &[u32], k: usize) -> usize
 // How many bytes m edges take, with their count.
 pub fn edges_len(edges: &[u32], m: usize) -> usize
     requires { ⌜ Asks (EdgesIn (now edges) m) ⌝ }
-    ensures { λ r. ⌜ Promises (EdgesIn (now (edges .entry)) m) (λ (es : List Edge). r ≡ length (listed encodeEdge es)) ⌝ }
+    ensures counted { λ r. ⌜ Promises (EdgesIn (now (edges .entry)) m) (λ (es : List Edge). r ≡ length (listed encodeEdge es)) ⌝ }
+    ensures few { λ r. ⌜ r ≤ numberRoom * (edgeFields * mostEdges + 1) ⌝ }
 {
     number::number_len(m as u32) + numbers_len(edges, edges::FIELDS * m)
 }

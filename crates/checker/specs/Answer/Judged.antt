@@ -40,3 +40,12 @@ module _ {A : Type 0} (code : A → List ℕ) where
           let n : ℕ = length (code a) in
           let r = less-no 15 n (length output) n [] (passed n) l in
           judges-passed (splice output 0 (code a)) record { answer = q ∙ sym r; left = sym (ap (λ (x : Ruling ℕ). outputAfter x (code a) output) r) }
+
+-- the same bytes of another thing that passes
+pub judges-as :
+    {A B : Type 0} (code : A → List ℕ) (code′ : B → List ℕ) (a : A) (b : B) → code a ≡ code′ b → (output output′ : List ℕ) (w : Written)
+    → Judges code (passed a) output output′ w → Judges code′ (passed b) output output′ w
+judges-as code code′ a b e output output′ w j = record {
+  answer = j .answer ∙ ap (λ (l : List ℕ). roomFor (length output) (length l)) e;
+  left = j .left ∙ ap (λ (l : List ℕ). outputAfter (roomFor (length output) (length l)) l output) e;
+}

@@ -1,7 +1,7 @@
 -- The steps under a protocol, case by case: what is read, what 7, 8 and 9 rule of it, and then the edges.
 use Prim.Native.Nat.{ℕ}
 use mathlib.Core.List.{List, []}
-use mathlib.Core.Bool.{Bool, false}
+use mathlib.Core.Bool.{Bool}
 use mathlib.Core.Option.{Option, some, none}
 use mathlib.Core.Path.{_≡_, refl, ap, sym, _∙_}
 use lib.ListN.{length}
@@ -14,16 +14,15 @@ use Rattle.rewriting.specs.Table.{Ruling, passed, refused, Finds, andThen, orRe
 use Rattle.rewriting.specs.Table.Laws.{refused-passed}
 use Rattle.rewriting.specs.Graph.{Edge}
 use Rattle.rewriting.specs.Names.{once-names}
-use Rattle.rewriting.specs.Writer.{firstNameTwice, drawFrom, markedFrom}
+use Rattle.rewriting.specs.Writer.{firstNameTwice, drawFrom}
 use Rattle.protocol.specs.Protocol.{Protocol}
-use Rattle.steps.specs.Nodes.{Node, NodeWithin, Reading, read, broken, no-rule, allOf}
+use Rattle.steps.specs.Nodes.{Node, NodeWithin, Reading, read, broken, no-rule, allOf, encodeNodes}
 use Rattle.steps.specs.Nodes as nodes
-use Rattle.steps.specs.Nodes.Exact.{nodes-form, steps-form}
+use Rattle.steps.specs.Nodes.Exact.{steps-form}
 use Rattle.steps.specs.Values.{NodeRight, WrongValue, TermLong}
 use Rattle.steps.specs.Values.Tests.{nodeValuesOk, nodeTermsOk}
 use Rattle.steps.specs.Values.Passes.{valuePass, termPass, absent-right}
 use Rattle.steps.specs.Runs.{protocolFacts, rewrittens}
-use Rattle.steps.specs.Runs.Theorems.{marked-draws}
 use Rattle.steps.specs.Causes.{stepsItem, readRuling, valueRuling, nodeRuling, listRuling}
 use Rattle.steps.specs.Causes.Laws.{Passing}
 use Rattle.steps.specs.Causes.Good.{GoodNodes}
@@ -45,12 +44,9 @@ module _ (p : Protocol) (xs : List Node) where
   abbrev pub withEdges : Ruling (List Edge) → Ruling Graph
   withEdges r = andThen r (λ es. passed (graph-of xs es))
 
-  -- 14 and the edges, by the conclusions that are free; by all of them and marks
+  -- 14 and the edges
   abbrev pub freely : Ruling (List Edge)
   freely = drawFrom (protocolFacts p) 1 [] (rewrittens p xs)
-
-  abbrev pub byMarks : Ruling (List Edge)
-  byMarks = markedFrom (protocolFacts p) 1 (λ a. false) [] (rewrittens p xs)
 
   abbrev values : Option ℕ
   values = firstBad (λ k x. nodeValuesOk p x) 1 xs
@@ -85,12 +81,6 @@ module _ (p : Protocol) (xs : List Node) where
     passing-through =
         right-through within (passing .right) (graphOf p xs) ∙ ap (λ (o : Option ℕ). withEdges (orRefuse 9 o freely)) none-twice
 
-    pub passing-marked : nodesUnder p xs ≡ withEdges byMarks
-    passing-marked =
-        right-through within (passing .right) (graphOf p xs)
-        ∙ ap withEdges (sym (marked-draws p xs))
-        ∙ ap (λ (o : Option ℕ). withEdges (orRefuse 9 o byMarks)) none-twice
-
 -- ── the file ──
 module _ (p : Protocol) (file : List ℕ) where
   -- what is read is ruled
@@ -112,13 +102,19 @@ module _ (p : Protocol) (file : List ℕ) where
 
   module _ (bytes : Bytes file) where
     -- a list that the ruling of its nodes calls good
-    pub steps-good :
-        (q table : List ℕ) (n : ℕ) (g : GoodNodes p q file 0 table n (length file)) → stepsUnder p file ≡ withEdges p (g .items) (byMarks p (g .items))
-    unfolding nodes.steps
-    steps-good q table n g =
-        steps-read (g .items) (length file)
-        (ap (allOf file) (g .there) ∙ ap (λ (t : Bool). pick t (read (g .items) (length file)) broken) (eq-eqb (length file) (length file) refl))
-        ∙ passing-marked p (g .items) (nodes-form p file bytes (g .items) 0 (length file) (g .there) .0 .each) (g .passing)
+    module _ (q table : List ℕ) (n : ℕ) (g : GoodNodes p q file 0 table n (length file)) where
+      good-read : nodes.steps p file ≡ read (g .items) (length file)
+      unfolding nodes.steps
+      good-read =
+          ap (allOf file) (g .there) ∙ ap (λ (t : Bool). pick t (read (g .items) (length file)) broken) (eq-eqb (length file) (length file) refl)
+
+      pub good-bytes : file ≡ encodeNodes (g .items)
+      good-bytes = steps-form p file bytes (g .items) (length file) good-read .1
+
+      pub steps-good : stepsUnder p file ≡ withEdges p (g .items) (freely p (g .items))
+      steps-good =
+          steps-read (g .items) (length file) good-read
+          ∙ passing-through p (g .items) (steps-form p file bytes (g .items) (length file) good-read .0 .each) (g .passing)
 
     -- a list that is well formed
     pub well-under : (w : WellFormed p file) → stepsUnder p file ≡ graphOf p (w .nodes)
