@@ -1,3 +1,4 @@
+-- By recursion over the source that is left: the first term is made, a leaf or a function of made arguments, then the k - 1 behind it.
 use borrow.Author.Needs.{needs}
 use native.Mathlib.Omega.{arith}
 use mathlib.Core.Path.{_∙_}

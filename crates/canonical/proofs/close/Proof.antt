@@ -1,3 +1,4 @@
+-- Inside a product a product function stays; the outermost is multiplied out; any other function is reduced.
 use mathlib.Core.Path.{sym, _∙_}
 use Rattle.canonical.proofs.Closing.{inner-done, product-asks, product-done, other-done}
 use borrow.Author.Needs.{needs}

@@ -1,3 +1,4 @@
+-- The tag decides which equation could apply; a function that has none stays as it stands.
 use Rattle.canonical.proofs.Closing.{as-tag, by-tag, exp-asks, exp-done, in-place, free-done}
 use borrow.Author.Needs.{needs}
 use Rattle.canonical.proofs.reduce.Statement.{statement}
