@@ -5,6 +5,10 @@ use std::path::Path;
 fn main() {
     let folder = Path::new(env!("CARGO_MANIFEST_DIR")).join("../../target/staticlib");
     let archive = folder.join("libchecker.a");
+    if !archive.exists() {
+        eprintln!("There is no target/staticlib/libchecker.a. `rt staticlib checker`, in the repository's folder, proves the calls and makes it.");
+        std::process::exit(1);
+    }
     println!("cargo:rerun-if-changed={}", archive.display());
     println!("cargo:rustc-link-search=native={}", folder.display());
     println!("cargo:rustc-link-lib=static=checker");

@@ -4,7 +4,7 @@ ghost use mathlib.Core.Bool.{true, false};
 ghost use Prim.Native.Nat.{_+_, _≤_, _<_, ℕ};
 ghost use lib.ListN.{length};
 ghost use mathlib.Core.List.{List};
-ghost use mathlib.Core.Logic.{_↔_};
+ghost use mathlib.Core.Logic.{_↔_, _≢_};
 ghost use Rattle.octets.specs.Limits.{longest};
 ghost use Rattle.octets.specs.Compare.{isEqual, compareBytes};
 ghost use Rattle.octets.specs.Head.{Stands};
@@ -12,7 +12,7 @@ ghost use Rattle.canonical.specs.First.{FirstAt};
 ghost use Rattle.message.specs.Equations.{Same};
 ghost use Rattle.message.specs.Filled.{filleds};
 ghost use Rattle.message.specs.Substitution.{sub, subs};
-ghost use Rattle.term.specs.Tags.{decTag, fstTag, sndTag};
+ghost use Rattle.term.specs.Tags.{decTag, fstTag, sndTag, expTag};
 ghost use Rattle.term.specs.Arity.{arity};
 ghost use Rattle.term.specs.Sizes.{termRoom};
 ghost use Rattle.term.specs.Term.{Kind, Term, Terms, leaf, encode, encodes};
@@ -21,7 +21,7 @@ ghost use Rattle.octets.specs.Splice.Prefix.{Wrote};
 ghost use Rattle.number.specs.Groups.{groups, numberLimit};
 ghost use Rattle.message.specs.Table.{rules};
 ghost use Rattle.message.specs.Canon.{apply, canon};
-ghost use Rattle.canonical.specs.Loose.{isProduct, stays, beside, worked, closed, mades};
+ghost use Rattle.canonical.specs.Loose.{isProduct, beside, closed, mades};
 ghost use Rattle.canonical.specs.Contract.{Job, Out, MessageAt, MessageIn, formRoom};
 ghost use Rattle.canonical.specs.Inner.{LeafJob, Here, Built};
 use term::Part;
@@ -111,14 +111,6 @@ fn is_product(tag: usize) -> bool
     (tag == term::ONE) | ((tag == term::INV) | (tag == term::MUL))
 }
 
-// Whether the function of a tag stays as it stands right inside another: one, inv and mul inside such a function, and an exp as the base of an exp.
-fn stays(around: usize, tag: usize) -> bool
-    ensures { λ r. ⌜ r ≡ stays around tag ⌝ }
-{
-    let product = is_product(around) & is_product(tag);
-    product | ((around == term::EXP) & (tag == term::EXP))
-}
-
 // What counts as the function around the arguments behind the first: an exponent is made as a factor.
 fn beside(around: usize) -> usize
     ensures { λ r. ⌜ r ≡ beside around ⌝ }
@@ -205,10 +197,10 @@ fn right(out: &mut [u8], o: usize, e: usize, arities: &[u8]) -> usize
     move_to(out, o, y, e)
 }
 
-// The function of a tag, of made arguments, worked out.
+// The function of a tag, no product function and no exp, of canonical arguments.
 fn reduce(out: &mut [u8], o: usize, e: usize, tag: usize, arities: &[u8]) -> usize
-    requires { ⌜ Asks (Built (now arities) (now out) o e tag) ⌝ }
-    ensures { λ r. ⌜ Promises (Built (now (arities .entry)) (now (out .entry)) o e tag) (λ (us : Terms). Wrote (e + termRoom) (now (out .entry)) o (now (out .exit)) r (encode (worked tag us))) ⌝ }
+    requires { ⌜ (isProduct tag ≡ false) × (tag ≢ expTag) × Asks (Built (now arities) (now out) o e tag) ⌝ }
+    ensures { λ r. ⌜ Promises (Built (now (arities .entry)) (now (out .entry)) o e tag) (λ (us : Terms). Wrote e (now (out .entry)) o (now (out .exit)) r (encode (apply rules tag us))) ⌝ }
 {
     if tag == term::DEC {
         return unlock(out, o, e, arities);
@@ -219,22 +211,26 @@ fn reduce(out: &mut [u8], o: usize, e: usize, tag: usize, arities: &[u8]) -> usi
     if tag == term::SND {
         return right(out, o, e, arities);
     }
-    if tag == term::EXP {
-        return product::exponent(out, o, e, arities);
-    }
-    if is_product(tag) {
-        return product::multiply(out, o, e, arities);
-    }
     e
 }
 
-// The same, unless the function stays as it stands inside the one around: only the outermost of a product or a tower of exps is worked out.
+// The function of a tag, of made arguments. A product function inside a product stays as it stands, and so does an exp that is the base of an
+// exp: only the outermost is multiplied out.
 fn close(out: &mut [u8], o: usize, e: usize, tag: usize, around: usize, arities: &[u8]) -> usize
     requires { ⌜ Asks (Built (now arities) (now out) o e tag) ⌝ }
     ensures { λ r. ⌜ Promises (Built (now (arities .entry)) (now (out .entry)) o e tag) (λ (us : Terms). Wrote (e + termRoom) (now (out .entry)) o (now (out .exit)) r (encode (closed around tag us))) ⌝ }
 {
-    if stays(around, tag) {
-        return e;
+    if is_product(tag) {
+        if is_product(around) {
+            return e;
+        }
+        return product::multiply(out, o, e, arities);
+    }
+    if tag == term::EXP {
+        if around == term::EXP {
+            return e;
+        }
+        return product::exponent(out, o, e, arities);
     }
     reduce(out, o, e, tag, arities)
 }

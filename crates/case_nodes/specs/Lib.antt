@@ -1,4 +1,6 @@
--- what is left of a case whose protocol is fit
+-- What is left of a case once its files are ruled.
+
+-- its protocol is fit
 pub mod Fit
--- and of one whose step list is good
+-- its step list is good
 pub mod Good

@@ -1,2 +1,4 @@
--- what is left of a case whose property is good
+-- What is left of a case once its property is ruled.
+
+-- its property is good
 pub mod Passes

@@ -161,7 +161,9 @@ pub fn program(name: &str, input: &[u8]) -> String {
         .stdin(Stdio::piped())
         .stdout(Stdio::piped())
         .spawn()
-        .expect("a program that rt check made");
+        .unwrap_or_else(|error| {
+            panic!("target/bin/{name}: {error}. `rt check {name}`, in the repository's folder, proves and makes it.")
+        });
     // It reads all of its input before it writes.
     let mut stdin = child.stdin.take().expect("its input");
     stdin.write_all(input).expect("its input is read");

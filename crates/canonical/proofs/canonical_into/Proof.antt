@@ -1,3 +1,4 @@
+-- The output's part from o on is lent as a whole slice; what is made at its start lies at o of the output.
 use native.Mathlib.Omega.{arith}
 use denote.Ref.{now}
 use Rattle.canonical.proofs.Lent.{part-ready, part-ends, part-done}

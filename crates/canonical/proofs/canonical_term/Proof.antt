@@ -1,3 +1,4 @@
+-- A message has no variable, so no value is looked for, and filled in it is itself.
 use Rattle.canonical.proofs.Messages.{message-ready, message-canon}
 use borrow.Author.Needs.{needs}
 use Rattle.canonical.proofs.canonical_term.Statement.{statement}

@@ -1,3 +1,4 @@
+-- What term_end tells where a term stands; where none does, nothing is promised.
 use mathlib.Core.Path.{sym, _∙_}
 use denote.Ref.{now}
 use Rattle.canonical.proofs.Parts.{end-is, end-none}

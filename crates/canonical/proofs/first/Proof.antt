@@ -1,3 +1,4 @@
+-- The symbol that symbol_at tells is the term's first, a leaf or a function.
 use denote.Ref.{now}
 use mathlib.Core.Path.{sym, _∙_}
 use Rattle.canonical.specs.First.{first-of, of-leaf, of-op, of-none}

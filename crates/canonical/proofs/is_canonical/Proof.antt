@@ -1,3 +1,4 @@
+-- The form's bytes are the message's exactly if the form is the message, since bytes tell terms apart.
 use mathlib.Core.Path.{ap₂, _∙_}
 use mathlib.Core.List.{List}
 use Prim.Native.Nat.{ℕ}

@@ -1,3 +1,4 @@
+-- The argument is a pair or not: its first part is moved down, or nothing changes, as the fst equation says.
 use Rattle.canonical.proofs.Rules.{place-fits, side-bounds, side-stays, side-one}
 use Rattle.canonical.specs.Builtins.{fst-arity, group}
 use Rattle.message.specs.Made.{made-fst, made-fst-stays}

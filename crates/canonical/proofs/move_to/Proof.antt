@@ -1,3 +1,4 @@
+-- The bytes that stood from one place to another stand at o, and nothing before o is touched.
 use mathlib.Core.Path.{refl}
 use Rattle.canonical.proofs.Writes.{moved}
 use borrow.Author.Needs.{needs}

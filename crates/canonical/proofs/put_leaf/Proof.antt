@@ -1,3 +1,4 @@
+-- A variable's value lies between two starts and is copied; a name is its tag and number.
 use native.Mathlib.Omega.{arith}
 use denote.Ref.{now}
 use mathlib.Core.Path.{refl}

@@ -1,3 +1,4 @@
+-- The number fits 32 bits, so write_number writes its groups.
 use denote.Ref.{now}
 use native.Mathlib.Omega.{arith}
 use Rattle.number.specs.Groups.{groups}

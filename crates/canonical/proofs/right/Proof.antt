@@ -1,3 +1,4 @@
+-- The argument is a pair or not: its second part is moved down, or nothing changes, as the snd equation says.
 use Rattle.canonical.proofs.Rules.{place-fits, side-bounds, side-stays, side-two}
 use Rattle.canonical.specs.Builtins.{snd-arity, group}
 use Rattle.message.specs.Made.{made-snd, made-snd-stays}

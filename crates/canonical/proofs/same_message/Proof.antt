@@ -1,3 +1,4 @@
+-- Equal bytes of the canonical forms are equality by the equations.
 use native.Mathlib.Omega.{arith}
 use mathlib.Core.Path.{ap₂, _∙_}
 use mathlib.Core.List.{List}

@@ -1,3 +1,4 @@
+-- The two parts are the terms' bytes.
 use Rattle.canonical.proofs.Parts.{bytes-are}
 use Rattle.octets.specs.Compare.{compareBytes, isEqual}
 use denote.Ref.{now}

@@ -1,3 +1,4 @@
+-- The message is an enc with the same key or not: its first part is moved down, or nothing changes, as the dec equation says.
 use Rattle.canonical.proofs.Rules.{place-fits, dec-shut, dec-bounds, dec-opens, dec-stays}
 use mathlib.Core.Path.{sym, _∙_}
 use native.Mathlib.Omega.{arith}

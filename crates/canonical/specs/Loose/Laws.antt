@@ -42,6 +42,9 @@ use Rattle.canonical.specs.Loose.Powers.{SamePowers, powers-own, powers-
 pub ordinary-product : (f : ℕ) → Ordinary f → isProduct f ≡ false
 ordinary-product f o = simp (ne-eqb f 3 (o .no-one), ne-eqb f 11 (o .no-inv), ne-eqb f 12 (o .no-mul))
 
+product-not-exp : (f : ℕ) → isProduct f ≡ true → f ≢ expTag
+product-not-exp f p e = let z : isProduct expTag ≡ true = ap isProduct (sym e) ∙ p in clash (cc)
+
 -- ── by the function and the one around ──
 module _ (f : ℕ) (us : Terms) where
   pub worked-product : isProduct f ≡ true → worked f us ≡ multiplied (app f us & nil)
@@ -66,6 +69,33 @@ pub worked-exp : (us : Terms) → worked expTag us ≡ towered (app expTag us)
 unfolding worked
 worked-exp us = refl
 
+-- ── where a function stays as it stands ──
+pub stays-product : (g f : ℕ) → isProduct g ≡ true → isProduct f ≡ true → stays g f ≡ true
+stays-product g f p q = ap₂ (λ (a b : Bool). (a && b) || (eqb g expTag && eqb f expTag)) p q
+
+pub stays-base : (g f : ℕ) → g ≡ expTag → f ≡ expTag → stays g f ≡ true
+stays-base g f p q = ap₂ stays p q
+
+-- the outermost
+and-false : (a : Bool) → a && false ≡ false
+and-false true = refl
+and-false false = refl
+
+module _ (g f : ℕ) where
+  pub worked-out-product : isProduct g ≡ false → isProduct f ≡ true → stays g f ≡ false
+  worked-out-product p q =
+      ap₂ (λ (a d : Bool). (a && isProduct f) || (eqb g expTag && d)) p (ne-eqb f expTag (product-not-exp f q)) ∙ and-false (eqb g expTag)
+
+  pub worked-out-exp : g ≢ expTag → f ≡ expTag → stays g f ≡ false
+  worked-out-exp n q =
+      ap₂ (λ (b c : Bool). (isProduct g && b) || (c && eqb f expTag)) (ap isProduct q) (ne-eqb g expTag n)
+      ∙ ap (λ (a : Bool). a || false) (and-false (isProduct g))
+
+  pub worked-out-other : isProduct f ≡ false → f ≢ expTag → stays g f ≡ false
+  worked-out-other p n =
+      ap₂ (λ (b d : Bool). (isProduct g && b) || (eqb g expTag && d)) p (ne-eqb f expTag n)
+      ∙ ap₂ _||_ (and-false (isProduct g)) (and-false (eqb g expTag))
+
 -- a function stays inside a product, being a product function, or as the base of an exp, being an exp
 stays-so : (g f : ℕ) → stays g f ≡ true → ((isProduct g ≡ true) × (isProduct f ≡ true)) ⊎ ((g ≡ expTag) × (f ≡ expTag))
 stays-so g f e = go (isProduct g) (isProduct f) (eqb g expTag) (eqb f expTag) e (eqb-true g expTag) (eqb-true f expTag)
@@ -80,9 +110,6 @@ stays-so g f e = go (isProduct g) (isProduct f) (eqb g expTag) (eqb f expTag) e 
     go false b true true e p q = inr (p refl, q refl)
     go false b true false e p q = clash (cc)
     go false b false d e p q = clash (cc)
-
-product-not-exp : (f : ℕ) → isProduct f ≡ true → f ≢ expTag
-product-not-exp f p e = let z : isProduct expTag ≡ true = ap isProduct (sym e) ∙ p in clash (cc)
 
 pub beside-base : (g : ℕ) → g ≡ expTag → beside g ≡ mulTag
 beside-base g e = ap (λ (b : Bool). cond b mulTag g) (eq-eqb g expTag e)

@@ -1,3 +1,4 @@
+-- A protocol within its limit that is sound is prepared; nothing is promised of a refused one.
 use denote.Ref.{now}
 use Rattle.case_nodes.specs.Fit.{prepared-case}
 use borrow.Author.Needs.{needs}

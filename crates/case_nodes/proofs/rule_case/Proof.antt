@@ -1,3 +1,4 @@
+-- What prepare_case leaves of a fit protocol is what rule_list asks.
 use mathlib.Core.Path.{subst}
 use Rattle.case_nodes.specs.Fit.{WhereFit}
 use borrow.Author.Needs.{needs}

@@ -1,3 +1,4 @@
+-- The nodes of a list that passes are right in their table.
 use native.Mathlib.Omega.{arith}
 use Rattle.case_nodes.specs.Good.{right-nodes}
 use borrow.Author.Needs.{needs}

@@ -1,3 +1,4 @@
+-- A good case has right nodes, which is what show_nodes asks.
 use borrow.Author.Needs.{needs}
 use Rattle.case_nodes.specs.Good.{WhereGood}
 use mathlib.Core.Path.{subst}

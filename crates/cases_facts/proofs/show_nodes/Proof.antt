@@ -1,3 +1,4 @@
+-- The tables are of right nodes, and the output has room for two facts throughout.
 use borrow.Author.Needs.{needs}
 use Rattle.cases_facts.proofs.show_nodes.Statement.{statement}
 use Rattle.cases_facts.proofs.show_nodes.Tie as tie

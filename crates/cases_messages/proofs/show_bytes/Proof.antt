@@ -1,3 +1,4 @@
+-- The place stays within the slice and grows.
 use borrow.Author.Needs.{needs}
 use lib.ListN.{length}
 use Prim.Native.Nat.{_≤_, _-_}

@@ -1,3 +1,4 @@
+-- What prepare_case leaves of a fit protocol is what show_property asks.
 use Rattle.case_nodes.specs.Fit.{WhereFit}
 use mathlib.Core.Path.{subst}
 use borrow.Author.Needs.{needs}

@@ -1,3 +1,4 @@
+-- The nodes of a list that passes are right in their table, which is what show_truth asks.
 use Rattle.case_nodes.specs.Good.{WhereGood}
 use denote.Ref.{now}
 use mathlib.Core.Path.{subst}

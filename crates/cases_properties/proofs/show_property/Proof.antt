@@ -1,3 +1,4 @@
+-- A prepared protocol has what rule_property asks, and a file that it lets pass is what show_nodes asks.
 use Rattle.cases_properties.specs.Passes.{good-passes}
 use denote.Ref.{now}
 use borrow.Author.Needs.{needs}

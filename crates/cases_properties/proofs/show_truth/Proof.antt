@@ -1,3 +1,4 @@
+-- A property that passes and right nodes are what judge_nodes asks.
 use Rattle.cases_properties.specs.Passes.{posed}
 use borrow.Author.Needs.{needs}
 use Rattle.cases_properties.proofs.show_truth.Statement.{statement}

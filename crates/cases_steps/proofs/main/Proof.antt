@@ -1,3 +1,4 @@
+-- Each case lies inside the input, and the next one begins later, so the walk ends.
 use borrow.Author.Needs.{needs}
 use Prim.Native.Nat.{_-_}
 use Rattle.case_file.specs.Case.{CaseAt, room}

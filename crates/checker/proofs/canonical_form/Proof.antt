@@ -1,3 +1,4 @@
+-- A short work area is refused and nothing touched; else canonical_inside answers over its front, and clearing leaves zeros throughout.
 use Rattle.checker.specs.Canonical.Cases.{work-short, output-kept, work-kept}
 use Rattle.checker.specs.Canonical.Inside.{work-cleared}
 use mathlib.Core.Path.{ap, sym, _∙_}

@@ -1,3 +1,4 @@
+-- The causes in the table's order: two lengths, the protocol's verdict, then the term under a sound protocol.
 use Rattle.checker.specs.Canonical.Inside.{inside-refused}
 use Rattle.checker.specs.Canonical.Cases.{protocol-over, term-over, no-protocol}
 use Rattle.rules.specs.Fit.Meaning.Verdicts.{broken-place}

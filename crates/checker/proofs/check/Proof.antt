@@ -1,3 +1,4 @@
+-- A short work area is refused and nothing touched; else check_files answers over its front, and clearing leaves zeros throughout.
 use denote.Ref.{now}
 use lib.Seq.{length-take-le}
 use native.Mathlib.Omega.{arith}

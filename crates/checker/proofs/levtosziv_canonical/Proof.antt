@@ -1,3 +1,4 @@
+-- The packed answer of canonical_form, whose memory is left as it is.
 use mathlib.Core.Path.{ap, _∙_}
 use Rattle.checker.specs.Answer.{packed}
 use borrow.Author.Needs.{needs}

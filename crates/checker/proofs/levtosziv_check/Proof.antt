@@ -1,3 +1,4 @@
+-- The packed answer of check, which is within the bounds that packing asks.
 use denote.Ref.{now}
 use lib.ListN.{length}
 use mathlib.Core.Path.{ap, sym, _∙_, subst}

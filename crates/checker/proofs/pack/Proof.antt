@@ -1,3 +1,4 @@
+-- The two cases of an answer; the sums stay below 2 to the 64th.
 use mathlib.Core.Path.{ap, sym}
 use Rattle.checker.specs.Answer.{written, packed}
 use borrow.Author.Needs.{needs}

@@ -1,3 +1,4 @@
+-- The three cases of a ruling; the counts' bounds keep the fields apart.
 use native.Mathlib.Omega.{arith}
 use mathlib.Core.Path.{ap, sym, _∙_, subst}
 use Rattle.checker.specs.Check.Bounds.{OutcomeSmall}

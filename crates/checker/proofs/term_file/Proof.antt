@@ -1,3 +1,4 @@
+-- Leftover bytes, a variable, too many symbols, none of these, or no term: the clauses of `termRuling`.
 use Rattle.number.specs.Groups.{numberLimit}
 use denote.Ref.{now}
 use mathlib.Core.Path.{sym, _∙_}

@@ -1,3 +1,4 @@
+-- A small term is written; one that does not read, or is too large, is refused as `termRuling` says.
 use Rattle.checker.specs.Canonical.Inside.{holds-term, no-layout, too-large, form-of, judges-refused, judges-formed}
 use Rattle.checker.specs.Files.{termRuling}
 use mathlib.Core.Path.{sym, _∙_}

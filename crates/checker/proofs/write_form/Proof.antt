@@ -1,3 +1,4 @@
+-- The form stands in the work area; it is copied where the output holds it, else its length is the need of 15.
 use Rattle.checker.specs.Canonical.Forms.{message-asks, form-stands, form-fits, formed-short, formed-written}
 use mathlib.Core.Path.{sym, subst}
 use native.Mathlib.Omega.{arith}

@@ -1,3 +1,4 @@
+-- Together, the slice that is left falling: what is gathered and the pending terms' factors are all the terms' factors, and a turned sign negates.
 use borrow.Author.Needs.{needs}
 use Rattle.factors.proofs.CollectPaths.{on-gone, turn-asks, turn-gone, leaf-gone, factor-gone, Walk}
 use Rattle.factors.proofs.CollectPaths.{walk-first, walk-done, term-asks, walk-more, walk-next}

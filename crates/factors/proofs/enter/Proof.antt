@@ -1,3 +1,4 @@
+-- A factor that stands in the table gains or loses one exponent; one that does not gets a row where its bytes belong, so the rows still ascend.
 use lib.ListN.{length-set}
 use Rattle.factors.proofs.EnterPaths.{enter-few, enter-asks, enter-within, enter-fits, row-fits, entered-same, entered-new}
 use native.Mathlib.Omega.{arith}

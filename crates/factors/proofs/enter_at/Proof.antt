@@ -1,3 +1,4 @@
+-- The part that term_part hands back is the factor's bytes, which is what `enter` asks of its key.
 use Rattle.factors.proofs.EnterPaths.{one-asks, one-short, one-entered, walked, walked-end}
 use native.Mathlib.Omega.{arith}
 use mathlib.Core.Path.{refl}

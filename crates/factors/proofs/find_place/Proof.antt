@@ -1,3 +1,4 @@
+-- The invariant is that the key comes before all entries from i on; the entries ascend, so the first that is not behind it tells the place.
 use borrow.Author.Needs.{needs}
 use Rattle.factors.proofs.EnterPaths.{Behind, found-same, found-after, found-first, behind-less}
 use native.Mathlib.Omega.{arith}

@@ -1,3 +1,4 @@
+-- The invariant is that the elements from j on have moved up by one and the others stand; each turn moves one.
 use borrow.Author.Needs.{needs}
 use Rattle.factors.proofs.EnterPaths.{Moving, moving-first, moving-next, moved}
 use native.Mathlib.Omega.{arith}

@@ -1,3 +1,4 @@
+-- The two cases of `sign`.
 use mathlib.Core.Path.{sym, ap}
 use Rattle.message.specs.Gather.{sign}
 use Rattle.factors.proofs.unit.Statement.{statement}

@@ -1,3 +1,4 @@
+-- The tag decides: one and mul go on, inv turns, any other function and a leaf are factors.
 use Rattle.factors.specs.Way.{wayOf}
 use Rattle.factors.specs.Way.Laws.{way-one, way-mul, way-inv, way-other}
 use mathlib.Core.Path.{ap, sym, _∙_}

@@ -1,3 +1,4 @@
+-- By recursion over the groups left: each return is a clause of `readIn`, and the rest of the number is what the call reads.
 use borrow.Author.Needs.{needs}
 use denote.Ref.{now}
 use native.Mathlib.Omega.{arith}

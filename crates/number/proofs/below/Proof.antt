@@ -1,3 +1,4 @@
+-- The clauses of `below` at what read_number read, and at its fault.
 use denote.Ref.{now}
 use mathlib.Core.Path.{ap, sym, _∙_}
 use Rattle.number.specs.Reading.Numbers.{below-yes, below-no, below-none}

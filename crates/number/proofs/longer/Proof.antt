@@ -1,3 +1,4 @@
+-- The two cases of `longer`: no further group may be zero, else it counts BASE times.
 use mathlib.Core.Path.{sym}
 use Rattle.number.specs.Reading.Numbers.{longer-zero, longer-some}
 use borrow.Author.Needs.{needs}

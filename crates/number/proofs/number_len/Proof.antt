@@ -1,3 +1,4 @@
+-- Each turn takes one group off the rest; the bytes counted and the groups of the rest are together one more than the number's groups.
 use Rattle.number.specs.Groups.Laws.{groups-one, groups-more, groups-short}
 use Rattle.number.specs.Groups.{groups}
 use native.Mathlib.Omega.{arith}

@@ -1,3 +1,4 @@
+-- A number of one or two groups is read as `readIn` says of these; a longer one is the recursion's.
 use denote.Ref.{now}
 use native.Mathlib.Omega.{arith}
 use mathlib.Core.Path.{sym, _∙_}

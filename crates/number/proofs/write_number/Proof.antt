@@ -1,3 +1,4 @@
+-- The invariant is that writing the rest's groups at i would give what is promised; each turn writes the lowest of them.
 use borrow.Author.Needs.{needs}
 use Rattle.number.specs.Groups.Laws.{groups-one, groups-more, groups-some}
 use Rattle.number.specs.Groups.{groups}

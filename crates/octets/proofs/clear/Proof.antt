@@ -1,3 +1,4 @@
+-- Each turn writes one zero; the invariant is that the first i bytes are zeros, and at the end these are all.
 use borrow.Author.Needs.{needs}
 use Rattle.octets.specs.Zeros.{zeros-more, zeros-all}
 use native.Mathlib.Omega.{arith}

@@ -1,3 +1,4 @@
+-- The invariant is that the rests from i on compare as the whole strings do; each return is a case of the order at i.
 use Rattle.octets.specs.Compare.Laws.{less-at, greater-at, same-at, b-ends, a-ends, both-end}
 use Rattle.octets.specs.Compare.{compareBytes}
 use lib.ListN.{length, drop}

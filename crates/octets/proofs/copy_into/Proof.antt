@@ -1,3 +1,4 @@
+-- The invariant is that the slice is its entry with the first i bytes of the source spliced in; each turn adds one.
 use denote.Ref.{now}
 use lib.Seq.{take-all}
 use lib.ListN.{set, getD, length-set, length, take}

@@ -1,3 +1,4 @@
+-- The invariant is the entry with the first i bytes spliced in; the byte read next lies behind all that is written, so it is still the entry's.
 use denote.Ref.{now}
 use lib.Seq.{getD-drop, length-take-le}
 use lib.ListN.{set, getD, length-set, length-drop, length, take, drop}

@@ -1,3 +1,4 @@
+-- As move_down from the other end: the bytes from i on are spliced in, and the byte read next lies before all that is written.
 use borrow.Author.Needs.{needs}
 use Rattle.octets.specs.Splice.Laws.{splice-copy-back, splice-nil, splice-before}
 use Rattle.octets.specs.Splice.{splice}

@@ -1,3 +1,4 @@
+-- The part that term_part hands back is as long as the term.
 use native.Mathlib.Omega.{arith}
 use Rattle.product.proofs.PowerPaths.{behind-is, behind-within}
 use borrow.Author.Needs.{needs}

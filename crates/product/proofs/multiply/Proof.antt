@@ -1,3 +1,4 @@
+-- The product is made behind the term and moved down over it; where no factor is left, one is written.
 use Rattle.product.proofs.ProductPaths.{multiply-asks, multiply-inside, multiply-end, multiplied-none, multiplied-some}
 use mathlib.Core.Path.{refl}
 use native.Mathlib.Omega.{arith}

@@ -1,3 +1,4 @@
+-- The invariant is that no entry from i up to j stands on the side.
 use borrow.Author.Needs.{needs}
 use lib.IntN.{pos}
 use lib.ListN.{getD}

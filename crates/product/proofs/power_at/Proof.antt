@@ -1,3 +1,4 @@
+-- The exponent's product is made behind all, then base and product are moved down behind the tag; an empty one leaves the base alone.
 use Rattle.product.proofs.PowerPaths.{power-asks, power-order, power-end, powered-none, powered-some}
 use mathlib.Core.Path.{refl}
 use native.Mathlib.Omega.{arith}

@@ -1,3 +1,4 @@
+-- Where more comes all copies have the tag of mul before them; else the last has none.
 use Rattle.product.proofs.PutPaths.{all-asks, all-wrote, but-last-asks, last-asks, last-wrote}
 use mathlib.Core.Path.{refl}
 use native.Mathlib.Omega.{arith}

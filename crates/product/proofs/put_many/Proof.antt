@@ -1,3 +1,4 @@
+-- The invariant is that i copies are written up to p; the source lies before them, so it is not touched.
 use borrow.Author.Needs.{needs}
 use Rattle.product.proofs.PutPaths.{many-first, many-room, many-behind, many-more}
 use Rattle.product.specs.Chain.{repeated}

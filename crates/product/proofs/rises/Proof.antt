@@ -1,3 +1,4 @@
+-- The four cases of a sign and a side; the bound lets the exponent be turned and cast.
 use Rattle.product.proofs.RisePaths.{turn-fits, down-casts, down-is, down-not, up-casts, up-is, up-not}
 use Rattle.product.proofs.rises.Statement.{statement}
 use Rattle.product.proofs.rises.Tie as tie

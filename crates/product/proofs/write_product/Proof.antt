@@ -1,3 +1,4 @@
+-- The table that `collect` fills over the terms is the one whose product is written behind them.
 use Rattle.product.proofs.ProductPaths.{collect-asks, table-asks, table-wrote}
 use lib.Seq.{length-take-le}
 use mathlib.Core.Path.{sym}

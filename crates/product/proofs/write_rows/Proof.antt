@@ -1,3 +1,4 @@
+-- The invariant is that what is written and the rows from i on are the whole side; each turn writes a factor as often as it rises.
 use borrow.Author.Needs.{needs}
 use Rattle.product.proofs.LayPaths.{lay-held, next-asks, Laying, laying-first, laying-done, lay-put, laying-next}
 use Rattle.product.proofs.RisePaths.{rises-asks}

@@ -1,3 +1,4 @@
+-- No row below zero, none above, or both: P, inv(N), or mul(P, inv(N)).
 use Rattle.product.proofs.LayPaths.{both-held, next-asks, up-asks, up-wrote, down-asks, down-wrote, first-asks, second-asks, second-wrote}
 use native.Mathlib.Omega.{arith}
 use borrow.Author.Needs.{needs}

@@ -1,3 +1,4 @@
+-- The tag, then the rows: the two writes lie end to end.
 use mathlib.Core.Path.{_∙_}
 use lib.ListN.{length-set}
 use Rattle.product.proofs.LayPaths.{tag-inside, tagged-asks, tagged-wrote}

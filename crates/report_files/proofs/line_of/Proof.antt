@@ -1,3 +1,4 @@
+-- The line of the ruling is that of its outcome, which is check's over a work area of just the length needed.
 use denote.Ref.{now}
 use Prim.Native.Nat.{_≤_}
 use mathlib.Core.Path.{_≡_, subst}

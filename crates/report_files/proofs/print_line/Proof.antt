@@ -1,3 +1,4 @@
+-- The line's length is within the buffer, so the part that is written is there.
 use mathlib.Core.List.{List}
 use mathlib.Core.Path.{_≡_, ap, sym, _∙_}
 use Prim.Native.Nat.{ℕ, _≤_}

@@ -1,3 +1,4 @@
+-- What read_number answers, a number or a fault, is carried over to `nameAt`.
 use mathlib.Core.Path.{ap, sym, _∙_}
 use Rattle.number.specs.Reading.{asRead}
 use Rattle.term.specs.Reader.{nameAt}

@@ -1,3 +1,4 @@
+-- The three kinds of symbol, one by one: what symbol_at told, and for a leaf what hit told of it.
 use Rattle.term.specs.Walk.Laws.{stepOf}
 use Rattle.term.specs.declared.Step.the-variants.{Takes}
 use mathlib.Core.Path.{ap, sym, _∙_}

@@ -1,3 +1,4 @@
+-- The slot is 255 exactly where `arity` gives none.
 use denote.Ref.{now}
 use Prim.Native.Nat.{ℕ}
 use Rattle.term.specs.declared.Symbol.the-variants.{Op}

@@ -1,3 +1,4 @@
+-- Inside the table the slot is read; outside of it the default of `getD` is the value of an undeclared tag.
 use denote.Ref.{now}
 use Rattle.term.specs.Arity.Laws.{slot-inside, slot-outside}
 use borrow.Author.Needs.{needs}

@@ -1,3 +1,4 @@
+-- A tag below the first function's is a leaf's, any other a function's: the three clauses of `symbolAt`.
 use denote.Ref.{now}
 use mathlib.Core.Path.{ap, sym, _∙_}
 use Rattle.number.specs.Reading.{asRead}

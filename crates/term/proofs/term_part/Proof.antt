@@ -1,3 +1,4 @@
+-- The term's end lies within the slice, so the part is there, and its bytes are those between place and end.
 use denote.Ref.{now}
 use mathlib.Core.Path.{sym, _∙_}
 use Rattle.term.specs.Walk.Exact.{end-within, part-bytes, none-bytes}

@@ -1,3 +1,4 @@
+-- The walk with a test that no leaf meets; its end and its symbols are kept.
 use denote.Ref.{now}
 use mathlib.Core.Path.{ap, sym, _∙_}
 use Rattle.number.specs.Reading.{many}

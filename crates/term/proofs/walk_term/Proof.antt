@@ -1,3 +1,4 @@
+-- One term is a list of one.
 use denote.Ref.{now}
 use mathlib.Core.Path.{_∙_}
 use Rattle.term.specs.Reader.{term}

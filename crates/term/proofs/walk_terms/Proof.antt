@@ -1,3 +1,4 @@
+-- The invariant is that the tally so far, put to the walk of the pending terms, is the whole walk; each turn takes a symbol off, so the file bounds the turns.
 use borrow.Author.Needs.{needs}
 use Rattle.term.specs.Walk.Laws.{tally, tally-begins, step-ahead, walk-turn, walk-fault, walk-done}
 use Rattle.term.specs.Walk.{walks}

@@ -1,3 +1,4 @@
+-- The tables are those of the nodes' trace, so what the judge answers of their numbers it answers of the trace.
 use Rattle.verdict.specs.Judged.Joined.{posed-property, lent-shape, lent-truth}
 use Rattle.protocol.specs.Protocol.{factArities}
 use mathlib.Core.Path.{sym}

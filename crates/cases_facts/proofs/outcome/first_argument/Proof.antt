@@ -1,3 +1,4 @@
+-- Both arguments are of right nodes, and the output keeps its length: that is what same_argument asks.
 use borrow.Author.Needs.{needs}
 use Rattle.facts.specs.Owed.{asks-facts, room-kept}
 use lib.ListN.{length}

@@ -1,3 +1,4 @@
+-- The argument is of a right node, and the output keeps its length over the three calls.
 use Rattle.facts.specs.Owed.{asks-fact, room-kept}
 use borrow.Author.Needs.{needs}
 use Rattle.cases_facts.proofs.outcome.public_name.Statement.{statement}

@@ -1,3 +1,4 @@
+-- The output keeps its length from turn to turn, and k stays below the count of facts.
 use borrow.Author.Needs.{needs}
 use Rattle.facts.specs.Owed.{room-kept}
 use lib.ListN.{length}

@@ -1,3 +1,4 @@
+-- The invariant is that all that is in the table are facts of the nodes; an empty table is so.
 use borrow.Author.Needs.{needs}
 use Rattle.cases_facts.specs.Table.{IsFact, FactsListed, noFactId, filled-none}
 use Prim.Native.Nat.{_-_, _≤_}

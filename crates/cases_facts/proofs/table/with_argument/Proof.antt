@@ -1,3 +1,4 @@
+-- A full table stays as it is; else the argument is one more of its kind.
 use Rattle.cases_facts.specs.Table.{noArgument, IsArgument, filled-more}
 use native.Mathlib.Omega.{arith}
 use borrow.Author.Needs.{needs}

@@ -1,3 +1,4 @@
+-- The invariant is that all that is in the table are arguments; a number below the arity is one of the fact's.
 use borrow.Author.Needs.{needs}
 use Rattle.facts.specs.Owed.{asks-listed, has-one}
 use Rattle.cases_facts.specs.Table.{ArgumentsListed}

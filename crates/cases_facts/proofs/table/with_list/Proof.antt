@@ -1,3 +1,4 @@
+-- The invariant is that all that is in the table are facts; a number below the list's count is one of the node's.
 use borrow.Author.Needs.{needs}
 use Rattle.facts.specs.Owed.{asks-node, has-fact}
 use Rattle.cases_facts.specs.Table.{FactsListed}

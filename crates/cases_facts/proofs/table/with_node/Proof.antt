@@ -1,3 +1,4 @@
+-- The invariant is that all that is in the table are facts; with_list keeps it for each of the three lists.
 use borrow.Author.Needs.{needs}
 use Rattle.cases_facts.specs.Table.{FactsListed}
 use Prim.Native.Nat.{_-_, _≤_}

@@ -1,3 +1,4 @@
+-- The three lengths in order, then the files: the clauses of the sizes' rows.
 use denote.Ref.{now}
 use mathlib.Core.Path.{sym, _∙_}
 use Rattle.checker.specs.Check.Cases.{protocol-over, property-over, graph-over, sized}

@@ -1,3 +1,4 @@
+-- A graph that passes has right nodes in their table, so it is judged; a refusal is handed on, its number and item in range.
 use denote.Ref.{now}
 use Rattle.facts.specs.Owed.{room-kept}
 use Rattle.checker.specs.Check.Inside.{good-graph, good-posed, graph-judged, graph-turned, graph-limits}

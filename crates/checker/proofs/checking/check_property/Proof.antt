@@ -1,3 +1,4 @@
+-- A property that passes is what check_graph asks; a refusal is handed on.
 use denote.Ref.{now}
 use Rattle.checker.specs.Check.Inside.{property-passed, property-under, property-judged, property-turned, property-limits}
 use borrow.Author.Needs.{needs}

@@ -1,3 +1,4 @@
+-- A sound protocol is prepared, and the rest is ruled under it; a broken one is 4, a fault 3.
 use denote.Ref.{now}
 use native.Mathlib.Omega.{arith}
 use mathlib.Core.Path.{ap, sym, _∙_}

@@ -1,3 +1,4 @@
+-- The verdict's truth decides between run and attack, and its count and the two sizes are the line's counts.
 use mathlib.Core.Path.{sym, _∙_}
 use Rattle.checker.specs.Check.Inside.{told}
 use borrow.Author.Needs.{needs}

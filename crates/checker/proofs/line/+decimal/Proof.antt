@@ -1,3 +1,4 @@
+-- By recursion over the number: the figures of the tenth part, then the last figure behind them.
 use mathlib.Core.Path.{_∙_}
 use lib.ListN.{length-set}
 use Rattle.checker.specs.Line.Laws.{decimal-some, last-room, put-figure, put-last}

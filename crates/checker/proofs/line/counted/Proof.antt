@@ -1,3 +1,4 @@
+-- Word, three numbers and line feed lie end to end, within the line's room.
 use Rattle.checker.specs.Line.Laws.{put-word, put-then}
 use native.Mathlib.Omega.{arith}
 use borrow.Author.Needs.{needs}

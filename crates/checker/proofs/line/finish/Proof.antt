@@ -1,3 +1,4 @@
+-- One byte, the line feed.
 use Rattle.checker.specs.Line.Laws.{put-one}
 use Rattle.checker.specs.Line.{lineFeed}
 use native.Mathlib.Omega.{arith}

@@ -1,3 +1,4 @@
+-- The three cases of a ruling, each its word and its numbers.
 use Rattle.checker.specs.Line.Laws.{put-line}
 use borrow.Author.Needs.{needs}
 use Rattle.checker.proofs.line.line.Statement.{statement}

@@ -1,3 +1,4 @@
+-- A blank and the figures lie end to end; a number of 64 bits has at most twenty.
 use mathlib.Core.Path.{_∙_}
 use Prim.Native.Nat.{ℕ}
 use lib.ListN.{length-set}

@@ -1,3 +1,4 @@
+-- Word, two numbers and line feed lie end to end, within the line's room.
 use Rattle.checker.specs.Line.Laws.{put-word, put-then}
 use Rattle.checker.specs.Line.{refusedWord}
 use native.Mathlib.Omega.{arith}

@@ -1,3 +1,4 @@
+-- The second fact is written behind the first, which stays, so the two parts compared are their bytes.
 use mathlib.Core.Path.{ap₂}
 use lib.Dec.{eqb}
 use Rattle.facts.specs.Calls.Two.{next-room, parts-inside, parts-test}

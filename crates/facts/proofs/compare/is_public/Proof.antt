@@ -1,3 +1,4 @@
+-- The name is written behind the argument; a name is its own canonical form, so equal parts are the same message.
 use Rattle.facts.specs.Calls.Two.{next-room, parts-inside, parts-test}
 use Rattle.facts.specs.Calls.Bytes.{public-test}
 use borrow.Author.Needs.{needs}

@@ -1,3 +1,4 @@
+-- Tag and number are written end to end; the room holds any name.
 use Rattle.facts.specs.Calls.Names.{tag-room, name-room, name-put}
 use borrow.Author.Needs.{needs}
 use Rattle.facts.proofs.compare.put_public.Statement.{statement}

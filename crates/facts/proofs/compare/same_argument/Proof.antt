@@ -1,3 +1,4 @@
+-- Equal canonical bytes are the test of equal arguments.
 use Rattle.facts.specs.Calls.Bytes.{arguments-test}
 use borrow.Author.Needs.{needs}
 use Rattle.facts.proofs.compare.same_argument.Statement.{statement}

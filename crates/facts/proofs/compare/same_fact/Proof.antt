@@ -1,3 +1,4 @@
+-- The test of two facts is equal symbols and equal bytes, since facts of one symbol have as many arguments.
 use Rattle.facts.specs.Calls.Bytes.{same-by-bytes}
 use Rattle.facts.specs.Calls.Meaning.{fact-formed}
 use borrow.Author.Needs.{needs}

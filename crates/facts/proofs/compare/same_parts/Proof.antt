@@ -1,3 +1,4 @@
+-- The two parts are the lists that the contract names.
 use lib.Seq.{length-take-le}
 use mathlib.Core.Path.{sym}
 use borrow.Author.Needs.{needs}

@@ -1,3 +1,4 @@
+-- The count that stands at the list's place is the number of the rule's facts, and so of the node's.
 use Rattle.facts.specs.Rules.{list-counted}
 use borrow.Author.Needs.{needs}
 use Rattle.facts.proofs.counts.fact_count.Statement.{statement}

@@ -1,3 +1,4 @@
+-- The row's rule number has an entry in the table of list places.
 use native.Mathlib.Omega.{arith}
 use Rattle.steps.specs.Table.Laws.{node-listed}
 use borrow.Author.Needs.{needs}

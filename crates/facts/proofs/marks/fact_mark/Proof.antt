@@ -1,3 +1,4 @@
+-- The fact is written at the start of the output, so the mark of that part, from its symbol on, is the fact's.
 use Rattle.facts.specs.Marks.{fact-marked, symbol-small, put-inside}
 use Rattle.facts.specs.Calls.{factAt}
 use Rattle.facts.specs.Calls.Meaning.{fact-formed}

@@ -1,3 +1,4 @@
+-- The invariant is that h is the mark of the first i bytes; it stays below the limit, so no product overflows.
 use borrow.Author.Needs.{needs}
 use lib.ListN.{length}
 use Prim.Native.Nat.{_-_, _≤_, _<_}

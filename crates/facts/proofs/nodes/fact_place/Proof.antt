@@ -1,3 +1,4 @@
+-- The list's place, then the fact's in it.
 use native.Mathlib.Omega.{arith}
 use Rattle.facts.specs.Rules.{list-known, fact-start}
 use denote.Ref.{now}

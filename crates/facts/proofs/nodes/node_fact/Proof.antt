@@ -1,3 +1,4 @@
+-- The node's row has the places of its values, so the rule's fact is written with them filled in: the node's fact.
 use native.Mathlib.Omega.{arith}
 use Rattle.facts.specs.Calls.Laws.{fact-listed, wanted-ready, wanted-done}
 use Rattle.facts.specs.Rules.{symbol-is}

@@ -1,3 +1,4 @@
+-- A fact has as many arguments as its symbol's arity.
 use mathlib.Core.Path.{_∙_}
 use native.Mathlib.Omega.{arith}
 use Rattle.facts.specs.Calls.Laws.{symbol-known, arity-is}

@@ -1,3 +1,4 @@
+-- Filling in values leaves the symbol, so the rule's fact tells it.
 use native.Mathlib.Omega.{arith}
 use Rattle.facts.specs.Rules.{symbol-is}
 use borrow.Author.Needs.{needs}

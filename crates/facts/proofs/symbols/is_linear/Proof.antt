@@ -1,3 +1,4 @@
+-- The prepared protocol's entry for the symbol is 1 exactly where it is linear.
 use native.Mathlib.Omega.{arith}
 use Rattle.facts.specs.Calls.Laws.{symbol-known, linear-is}
 use borrow.Author.Needs.{needs}

@@ -1,3 +1,4 @@
+-- One term at its place: canonical_into with k = 1, and its bytes are those of the argument.
 use mathlib.Core.Path.{sym}
 use native.Mathlib.Omega.{arith}
 use Rattle.prepared.specs.Prepared.Laws.{slots-length}

@@ -1,3 +1,4 @@
+-- The fact's terms stand one behind the other, so one call of canonical_into with k the arity writes them all.
 use mathlib.Core.Path.{sym}
 use native.Mathlib.Omega.{arith}
 use Rattle.prepared.specs.Prepared.Laws.{slots-length}

@@ -1,3 +1,4 @@
+-- The two cases of `Wanted`.
 use Rattle.facts.specs.Writing.Whole.{ready-as, done-as}
 use borrow.Author.Needs.{needs}
 use Rattle.facts.proofs.writing.wanted_into.Statement.{statement}

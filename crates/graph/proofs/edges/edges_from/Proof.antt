@@ -1,3 +1,4 @@
+-- Four numbers are an edge, so 4m numbers read are m edges.
 use denote.Ref.{now}
 use native.Mathlib.Omega.{arith}
 use Rattle.graph.specs.Table.Reading.{edges-end, edges-fault}

@@ -1,3 +1,4 @@
+-- A count up to 4,096 and that many edges, or a fault: the cases of `edgeList`.
 use denote.Ref.{now}
 use native.Mathlib.Omega.{arith}
 use mathlib.Core.Path.{ap, sym, _∙_}

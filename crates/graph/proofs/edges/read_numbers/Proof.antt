@@ -1,3 +1,4 @@
+-- The invariant is that j numbers are read up to i and stand in the table; each turn adds one.
 use borrow.Author.Needs.{needs}
 use Rattle.number.specs.Reading.{asRead}
 use native.Mathlib.Omega.{arith}

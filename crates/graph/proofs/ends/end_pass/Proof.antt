@@ -1,3 +1,4 @@
+-- The invariant is that searching on from edge j finds what searching all finds; the first bad edge ends it.
 use borrow.Author.Needs.{needs}
 use mathlib.Core.List.{List}
 use Prim.Native.Nat.{ℕ}

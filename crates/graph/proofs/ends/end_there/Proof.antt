@@ -1,3 +1,4 @@
+-- No node 0, none past the last, no fact 0; else the fact is there exactly if its number is at most the count.
 use native.Mathlib.Omega.{arith}
 use Prim.Native.Nat.{_-_, _<_, _≤_}
 use lib.ListN.{length, getD}

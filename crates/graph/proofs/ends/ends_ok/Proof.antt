@@ -1,3 +1,4 @@
+-- The edge's four numbers are read off the table, and `endsOk` is the conjunction of the three tests.
 use denote.Ref.{now}
 use Prim.Native.Nat.{_+_, _*_}
 use Rattle.graph.specs.Table.{endAt}

@@ -1,3 +1,4 @@
+-- The invariant is that searching on from edge j finds what searching all finds; the first edge that differs ends it.
 use borrow.Author.Needs.{needs}
 use lib.ListN.{length}
 use mathlib.Core.Path.{_≡_}

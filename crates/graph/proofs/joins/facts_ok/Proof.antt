@@ -1,3 +1,4 @@
+-- Both ends are there, so none of their numbers is 0, and same_fact compares the two facts that they name.
 use native.Mathlib.Omega.{arith}
 use mathlib.Core.Path.{_∙_}
 use Prim.Native.Nat.{_-_}

@@ -1,3 +1,4 @@
+-- The sources of the edges are counted, and these counts are what least_spent asks.
 use Rattle.graph.specs.Uses.Ends.{sources-inside, sources-counted}
 use native.Mathlib.Omega.{arith}
 use borrow.Author.Needs.{needs}

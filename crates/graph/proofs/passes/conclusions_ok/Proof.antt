@@ -1,3 +1,4 @@
+-- The invariant is that the first i conclusions are free or used once at most; the first that is not makes it false.
 use borrow.Author.Needs.{needs}
 use native.Mathlib.Omega.{arith}
 use denote.Ref.{now}

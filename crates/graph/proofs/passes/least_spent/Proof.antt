@@ -1,3 +1,4 @@
+-- The invariant is that searching on from node j finds what searching all finds; the first bad node ends it.
 use borrow.Author.Needs.{needs}
 use lib.ListN.{getD}
 use mathlib.Core.List.{List}

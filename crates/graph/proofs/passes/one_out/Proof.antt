@@ -1,3 +1,4 @@
+-- A count of at most one needs no more; above it being linear decides.
 use mathlib.Core.Bool.{Bool, not, _||_}
 use mathlib.Core.Path.{ap₂, sym, _∙_}
 use Rattle.facts.specs.Calls.{factAt}

@@ -1,3 +1,4 @@
+-- The targets of the edges are counted, and these counts are what least_unfed asks.
 use Rattle.graph.specs.Uses.Ends.{targets-inside, targets-counted}
 use native.Mathlib.Omega.{arith}
 use borrow.Author.Needs.{needs}

@@ -1,3 +1,4 @@
+-- The invariant is that the first i premises have one edge each; the first that has not makes it false.
 use borrow.Author.Needs.{needs}
 use native.Mathlib.Omega.{arith}
 use denote.Ref.{now}

@@ -1,3 +1,4 @@
+-- The edges end where the file does, or bytes are left over, or they do not read.
 use denote.Ref.{now}
 use Rattle.graph.specs.Reading.{behind-end, behind-leftover, behind-fault}
 use borrow.Author.Needs.{needs}

@@ -1,3 +1,4 @@
+-- The answer for the nodes is the graph's where they do not read; where they do, what is behind them decides.
 use denote.Ref.{now}
 use Rattle.graph.specs.Reading.{graph-told, graph-broken, graph-unknown}
 use borrow.Author.Needs.{needs}

@@ -1,3 +1,4 @@
+-- 10, then 11, then 12 and 13: the first pass that finds an item is the ruling; 11 and later may use that all ends are there.
 use native.Mathlib.Omega.{arith}
 use lib.Seq.{length-take-le}
 use denote.Ref.{now}

@@ -1,3 +1,4 @@
+-- A file that reads has its nodes and edges in the tables, so rule_read rules on it; a fault is 3, an unknown rule 6.
 use native.Mathlib.Omega.{arith}
 use denote.Ref.{now}
 use Rattle.graph.specs.Ruling.{file-broken, file-unknown, file-read, file-in, file-answered}

@@ -1,3 +1,4 @@
+-- The ruling of the nodes is the graph's where it refuses; where it does not, they are right, and the edges decide.
 use Rattle.graph.specs.Ruling.{nodes-refused, nodes-passed, read-right}
 use borrow.Author.Needs.{needs}
 use Rattle.graph.proofs.ruling.rule_read.Statement.{statement}

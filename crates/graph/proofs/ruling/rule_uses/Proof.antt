@@ -1,3 +1,4 @@
+-- 12, then 13: the first pass that finds a node is the ruling, and none is the pass.
 use Rattle.rewriting.specs.Table.{passed}
 use mathlib.Core.Path.{refl, sym, _∙_}
 use Rattle.steps.specs.Values.Scan.{found-refused, found-passed}

@@ -1,3 +1,4 @@
+-- The invariant is that each byte counts the ends among the first j edges, capped at 2; each turn adds one end.
 use borrow.Author.Needs.{needs}
 use native.Mathlib.Omega.{arith}
 use lib.ListN.{length, length-set}

@@ -1,3 +1,4 @@
+-- Below 2 it is one more, else it stays: the two cases of the cap.
 use Prim.Native.Nat.{_+_}
 use mathlib.Core.Bool.{Bool}
 use mathlib.Core.Path.{ap, sym}

@@ -1,3 +1,4 @@
+-- The invariant is that no entry between `from` and e has the symbol.
 use borrow.Author.Needs.{needs}
 use Rattle.judge.specs.Tables.Entries.{Scanning, scanning-begins, scanning-next, scanning-found, scanning-ends}
 use native.Mathlib.Omega.{arith}

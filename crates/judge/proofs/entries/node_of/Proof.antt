@@ -1,3 +1,4 @@
+-- The invariant is that entry e is not before the node's first; it is the node's where the next one's begin behind it.
 use Rattle.judge.specs.Tables.Entries.{node-inside, node-next, node-found}
 use Rattle.judge.specs.Tables.{Past}
 use borrow.Author.Needs.{needs}

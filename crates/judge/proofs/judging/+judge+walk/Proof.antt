@@ -1,3 +1,4 @@
+-- Together, the formula left falling: judge has a case for each tag; walk's invariant is that `truth` folds the matches among the entries before e.
 use Rattle.judge.specs.Judging.Returns.{body-formed, body-fits, body-ends}
 use Rattle.judge.specs.Judging.Returns.{fits-inside, says-false, says-atom, fits-left, fits-right, says-pair, fits-body, says-quant}
 use Rattle.judge.specs.Judging.Walking.{Walking, walking-begins, walking-behind, walking-ends, walking-miss, walking-match}

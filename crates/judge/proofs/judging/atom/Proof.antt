@@ -1,3 +1,4 @@
+-- The ranges of the tag are those of `atomAt`; each call says that atom's truth.
 use Rattle.judge.specs.Judging.Atoms.{as-equal, as-times, as-action, said-action}
 use Rattle.judge.specs.Judging.{traced}
 use borrow.Author.Needs.{needs}

@@ -1,3 +1,4 @@
+-- Two codes stand for the same message exactly if their class numbers are equal.
 use Rattle.judge.specs.Judging.Atoms.{said-equal}
 use Rattle.judge.specs.Reading.Parts.{code-fits}
 use native.Mathlib.Omega.{arith}

@@ -1,3 +1,4 @@
+-- The whole file is a fit formula with no variable in scope, so the judge's answer at its start is the property's.
 use Rattle.judge.specs.Judging.Returns.{property-fits, property-says}
 use Rattle.judge.proofs.judging.holds.Statement.{statement}
 use Rattle.judge.proofs.judging.holds.Tie as tie

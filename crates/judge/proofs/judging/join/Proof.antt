@@ -1,3 +1,4 @@
+-- The two cases of `join`.
 use Rattle.judge.specs.Folding.{join}
 use mathlib.Core.Bool.{Bool}
 use mathlib.Core.Path.{ap, sym}

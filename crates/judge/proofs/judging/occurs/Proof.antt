@@ -1,3 +1,4 @@
+-- The invariant is that `found` tells of the entries before e; entries of another symbol cannot be the fact.
 use Rattle.judge.specs.Judging.Walking.{Occurring, occurring-begins, occurring-next, occurring-ends}
 use Rattle.judge.specs.Tables.{total, Next}
 use native.Mathlib.Omega.{arith}

@@ -1,3 +1,4 @@
+-- Both variables are bound to node numbers, so their order or equality is the atom's.
 use Rattle.judge.specs.Judging.Atoms.{said-times}
 use borrow.Author.Needs.{needs}
 use Rattle.judge.proofs.judging.times.Statement.{statement}

@@ -1,3 +1,4 @@
+-- The invariant is that `same` tells of the first j terms.
 use Rattle.judge.specs.Bindings.Tests.{all-step}
 use Rattle.judge.specs.Bindings.{allUp, value}
 use borrow.Author.Needs.{needs}

@@ -1,3 +1,4 @@
+-- The invariant is that binding the terms below j to what is bound so far gives what binding all gives; each turn binds the last.
 use Rattle.judge.specs.Bindings.Slots.{finish-step, finish-none, put-new, put-old, new-inside}
 use Rattle.judge.specs.Bindings.{finish, put}
 use borrow.Author.Needs.{needs}

@@ -1,3 +1,4 @@
+-- A code below 16 is a variable's slot, any other a public name's number above the base.
 use Rattle.judge.specs.Bindings.Slots.{value-slot, value-name}
 use Rattle.property.specs.Figures.{mostScope}
 use lib.ListN.{getD}

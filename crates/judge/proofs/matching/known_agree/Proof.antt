@@ -1,3 +1,4 @@
+-- The invariant is that `same` tells of those of the first j terms that are no new variables.
 use Rattle.judge.specs.Bindings.Tests.{all-step}
 use Rattle.judge.specs.Bindings.{allUp, value, isNew}
 use borrow.Author.Needs.{needs}

@@ -1,3 +1,4 @@
+-- Where what is known differs nothing matches; else the new variables are bound, and agreement under these values decides.
 use Rattle.judge.specs.Judging.Guards.{matching-known, matching-made}
 use Rattle.lists.specs.Tests.{not-split}
 use lib.ListN.{length-map}

@@ -1,3 +1,4 @@
+-- A new variable's slot is written; one that is bound, or none at all, is left.
 use Rattle.judge.specs.Bindings.Slots.{put-new, put-old, new-inside}
 use native.Mathlib.Omega.{arith}
 use Rattle.judge.proofs.matching.put.Statement.{statement}

@@ -1,3 +1,4 @@
+-- Past the table, or above 8, it is 0, as in `arityIn`; else it is the entry.
 use Rattle.protocol.specs.Figures.{mostFactArity}
 use Rattle.lists.specs.Tests.{le-leb, gt-leb}
 use Rattle.lists.specs.Choice.{pick}

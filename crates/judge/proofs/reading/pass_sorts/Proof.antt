@@ -1,3 +1,4 @@
+-- The invariant is that i lies behind the first j sorts, where they read.
 use Rattle.judge.specs.Reading.Lists.{Sorting, sorting-begins, sorting-next, sorting-ends}
 use Prim.Native.Nat.{_-_}
 use native.Mathlib.Omega.{arith}

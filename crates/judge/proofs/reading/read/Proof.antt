@@ -1,3 +1,4 @@
+-- What read_number answers; at its fault nothing is promised.
 use Rattle.judge.specs.Reading.Parts.{number-is, number-none}
 use Rattle.number.specs.Reading.{asRead}
 use mathlib.Core.Path.{refl, sym, ap, _∙_}

@@ -1,3 +1,4 @@
+-- Symbol, terms and time variable one behind the other: whatever fact reads there, these are its parts.
 use Rattle.judge.specs.Reading.Parts.{tells-fact, arity-small}
 use Rattle.judge.specs.Reading.{FactIs, TermsAre}
 use native.Mathlib.Omega.{arith}

@@ -1,3 +1,4 @@
+-- Count, sorts, fact and time one behind the other: whatever head reads there, these are its parts.
 use Rattle.judge.specs.Reading.Parts.{tells-guard}
 use mathlib.Core.Path.{refl}
 use borrow.Author.Needs.{needs}

@@ -1,3 +1,4 @@
+-- Tag and number: a variable's code is its number, a name's lies 16 above.
 use Rattle.judge.specs.Reading.Parts.{tells-term, number-room}
 use Rattle.judge.specs.Reading.{TermIs}
 use Rattle.property.specs.Figures.{mostScope}

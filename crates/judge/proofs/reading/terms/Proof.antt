@@ -1,3 +1,4 @@
+-- The invariant is that the first j codes are those of the terms read up to i; each turn adds one.
 use Rattle.judge.specs.Reading.Parts.{code-fits}
 use Rattle.judge.specs.Reading.Lists.{Coding, coding-begins, coding-next, coding-ends}
 use lib.ListN.{length-replicate}

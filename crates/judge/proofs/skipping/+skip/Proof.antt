@@ -1,3 +1,4 @@
+-- By recursion over the file that is left: each case of the formula's tag ends where its parts do.
 use borrow.Author.Needs.{needs}
 use Rattle.judge.specs.Judging.Returns.{formed-inside, past-false, past-atom, formed-left, formed-right, past-pair, formed-body, past-quant}
 use Prim.Native.Nat.{_-_}

@@ -1,3 +1,4 @@
+-- The ranges of the tag tell which two parts, or which fact, are passed over.
 use Rattle.judge.specs.Judging.Atoms.{ends-equal, ends-times, ends-action}
 use borrow.Author.Needs.{needs}
 use Rattle.judge.proofs.skipping.skip_atom.Statement.{statement}

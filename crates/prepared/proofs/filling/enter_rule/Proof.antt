@@ -1,3 +1,4 @@
+-- What find_rule answers, written, placed or nothing, is entered as such: the three cases of `Enters`.
 use Rattle.prepared.specs.Filling.Numbers.{written-few, place-small, as-written, as-placed, as-none, enters-written, enters-own, enters-none}
 use lib.Seq.{length-take-le}
 use mathlib.Core.Path.{sym}

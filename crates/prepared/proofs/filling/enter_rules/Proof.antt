@@ -1,3 +1,4 @@
+-- The invariant is that the first n rows are entered and what lies before the places is as at entry; each turn adds a row.
 use borrow.Author.Needs.{needs}
 use Rattle.prepared.specs.Filling.Numbers.{rows-none, rows-more}
 use Rattle.prepared.specs.Filling.{Source, Rows}

@@ -1,3 +1,4 @@
+-- Five writes to sections that lie apart; one theorem over all of them says what stands there at the end.
 use Rattle.prepared.specs.Filling.Whole.{laid-slots, laid-symbols, laid-flags, laid-file, body-laid}
 use native.Mathlib.Omega.{arith}
 use denote.Ref.{now}

@@ -1,3 +1,4 @@
+-- The test of zero is `linear`'s.
 use borrow.Author.Tests.{eq-eqb, ne-eqb}
 use Rattle.prepared.proofs.filling.linear_of.Statement.{statement}
 use Rattle.prepared.proofs.filling.linear_of.Tie as tie

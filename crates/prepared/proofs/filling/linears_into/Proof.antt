@@ -1,3 +1,4 @@
+-- The invariant is that the first i flags are turned and spliced in; each turn adds one.
 use borrow.Author.Needs.{needs}
 use Rattle.prepared.specs.Filling.Lists.{linear-more}
 use Rattle.prepared.specs.Prepared.{linear}

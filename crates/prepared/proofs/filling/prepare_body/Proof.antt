@@ -1,3 +1,4 @@
+-- The verdict is judge's own; where it is sound, its index is what `lay` asks, and its body what is promised.
 use Rattle.prepared.specs.Filling.Whole.{sound-symbols, sound-rules, sound-laid, sound-body}
 use Rattle.rules.specs.Fit.Laws.{verdictOf}
 use lib.ListN.{length-take}

@@ -1,3 +1,4 @@
+-- The table's first bytes are the turned flags, and they are written padded.
 use Rattle.prepared.specs.Filling.Lists.{linears-front}
 use Rattle.term.specs.Arity.{padded}
 use Rattle.octets.specs.Splice.{splice}

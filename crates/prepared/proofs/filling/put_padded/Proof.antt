@@ -1,3 +1,4 @@
+-- A table over an array of 255s is the padded table.
 use Rattle.prepared.specs.Filling.Lists.{splice-padded}
 use Rattle.octets.specs.Splice.{splice}
 use mathlib.Core.Path.{ap, _∙_}

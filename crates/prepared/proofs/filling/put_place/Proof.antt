@@ -1,3 +1,4 @@
+-- The two bytes lie within the section of places, and are written as `placed` says.
 use lib.ListN.{length-set}
 use native.Mathlib.Omega.{arith}
 use borrow.Author.Needs.{needs}

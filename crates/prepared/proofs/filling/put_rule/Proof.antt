@@ -1,3 +1,4 @@
+-- The rule's bytes and then its place: the second write is `placed` of the first.
 use Rattle.prepared.specs.Filling.{placed}
 use Rattle.prepared.specs.Sections.{builtinAt}
 use Prim.Native.Nat.{ℕ}

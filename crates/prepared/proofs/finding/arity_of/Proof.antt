@@ -1,3 +1,4 @@
+-- The byte at a place of the slice is the element of the section that begins before it.
 use Rattle.prepared.specs.Prepared.Laws.{part-at}
 use Rattle.prepared.specs.Sections.{aritiesAt}
 use Rattle.protocol.specs.Figures.{symbolCount}

@@ -1,3 +1,4 @@
+-- A number past the last, an entry of 0, any other entry: the three cases of what `Body` says of the places.
 use Rattle.prepared.specs.Finding.{rule-past, found-none, found-some}
 use native.Mathlib.Omega.{arith}
 use borrow.Author.Needs.{needs}

@@ -1,3 +1,4 @@
+-- The two tables are parts of the slice; with these the call's promise is the one here.
 use Rattle.prepared.specs.Prepared.Laws.{slots-length}
 use denote.Ref.{now}
 use mathlib.Core.Path.{sym}

@@ -1,3 +1,4 @@
+-- The three lists are found one behind the other, so each entry is its list's place; the earlier rows stay.
 use Rattle.prepared.specs.Lists.{three-lists, lists-more}
 use denote.Ref.{now}
 use native.Mathlib.Omega.{arith}

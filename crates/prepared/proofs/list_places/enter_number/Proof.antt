@@ -1,3 +1,4 @@
+-- A number with a rule has its three lists entered; one without has none to enter.
 use Rattle.prepared.specs.Lists.{lists-of, none-found, lists-none}
 use denote.Ref.{now}
 use borrow.Author.Needs.{needs}

@@ -1,3 +1,4 @@
+-- The invariant is that the entries of the first n rules are right; each turn adds a rule's three.
 use borrow.Author.Needs.{needs}
 use Rattle.prepared.specs.Lists.{Listing}
 use Rattle.prepared.specs.Sections.{ruleCount, entryCount}

@@ -1,3 +1,4 @@
+-- The two bytes of the entry lie within the table, and are written as `entered` says.
 use lib.ListN.{length-set}
 use native.Mathlib.Omega.{arith}
 use borrow.Author.Needs.{needs}

@@ -1,3 +1,4 @@
+-- A fault stays one, and an end keeps its place with both tests joined.
 use Rattle.property.specs.Walk.{also}
 use mathlib.Core.Path.{ap, sym}
 use borrow.Author.Needs.{needs}

@@ -1,3 +1,4 @@
+-- Past the table the default of `getD` is the value of an undeclared symbol; inside of it the slot is read.
 use Rattle.property.specs.Walk.Facts.{arity-out, arity-in}
 use mathlib.Core.Path.{refl}
 use borrow.Author.Needs.{needs}

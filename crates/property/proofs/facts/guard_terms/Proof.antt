@@ -1,3 +1,4 @@
+-- An undeclared symbol is a fault; a declared one has its arity's many terms, then its time variable, or a fault in them.
 use Rattle.property.specs.Walk.Facts.{from-undeclared, from-end, from-fault}
 use Rattle.property.specs.Walk.{scopeOf}
 use mathlib.Core.Path.{sym, _∙_}

@@ -1,3 +1,4 @@
+-- The number behind the terms is the time variable, and its sort joins the test; no number is a fault.
 use Rattle.property.specs.Walk.Facts.{timed-end, timed-none}
 use Rattle.property.specs.Walk.{scopeOf}
 use Rattle.number.specs.Reading.{asRead, readNumber}

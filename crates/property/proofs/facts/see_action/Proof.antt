@@ -1,3 +1,4 @@
+-- What see_guard tells, without the place of the terms, is the atom's reading and test.
 use Rattle.property.specs.Walk.Facts.{action-end, action-none}
 use Rattle.property.specs.Walk.{scopeOf}
 use mathlib.Core.Path.{sym, _∙_}

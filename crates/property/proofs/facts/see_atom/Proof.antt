@@ -1,3 +1,4 @@
+-- The ranges of the tag are those of `atomAt`: equal, times, action.
 use Rattle.property.specs.Walk.Facts.{atom-equal, atom-times, atom-action}
 use Rattle.property.specs.Walk.{scopeOf}
 use borrow.Author.Needs.{needs}

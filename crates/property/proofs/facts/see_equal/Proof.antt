@@ -1,3 +1,4 @@
+-- Two terms one behind the other, their tests joined; a fault in the first is the atom's.
 use Rattle.property.specs.Walk.Facts.{equal-end, equal-none}
 use Rattle.property.specs.Walk.{scopeOf}
 use mathlib.Core.List.{[]}

@@ -1,3 +1,4 @@
+-- A symbol that reads, then its terms and time; or a fault.
 use Rattle.property.specs.Walk.Facts.{guard-got, guard-none}
 use Rattle.property.specs.Walk.{scopeOf}
 use Rattle.number.specs.Reading.{asRead}

@@ -1,3 +1,4 @@
+-- The number that is read, and the test of its scope and sort.
 use Rattle.property.specs.Walk.{scopeOf}
 use Rattle.property.specs.Fit.{inScope}
 use Rattle.property.specs.Formula.{tmp}

@@ -1,3 +1,4 @@
+-- Two time variables one behind the other; whether the atom is before or same time changes neither reading nor test.
 use Rattle.property.specs.Walk.Facts.{times-end, times-none}
 use Rattle.property.specs.Walk.{scopeOf}
 use mathlib.Core.List.{[]}

@@ -1,3 +1,4 @@
+-- Together, by recursion over the levels left: each clause of `formulaAt` and `fit` is the answer of the call for that tag.
 use borrow.Author.Needs.{needs}
 use Rattle.property.specs.Walk.Formulas.{pair-end, pair-fault, quant-room, quant-end, quant-fault, body-false}
 use Rattle.property.specs.Walk.Formulas.{body-atom, body-pair, body-quant, level-none, level-tag, level-fault}

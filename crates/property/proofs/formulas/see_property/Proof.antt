@@ -1,3 +1,4 @@
+-- The formula ends where the file does, or bytes are left over, or it does not read.
 use Rattle.property.specs.Walk.Formulas.{property-end, property-left, property-none}
 use mathlib.Core.Path.{sym, _∙_}
 use borrow.Author.Needs.{needs}

@@ -1,3 +1,4 @@
+-- The invariant is that `ok` tells of the first j new variables; each turn joins one.
 use borrow.Author.Needs.{needs}
 use Rattle.property.specs.Walk.Heads.{Guarding, guarding-begins, guarding-next, guarding-ends}
 use Rattle.property.specs.Layout.{termAt}

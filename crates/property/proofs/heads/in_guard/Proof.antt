@@ -1,3 +1,4 @@
+-- The sort that stands at x decides which of the two tests `inGuard` is.
 use Rattle.property.specs.Walk.Heads.{in-message, in-time}
 use borrow.Author.Needs.{needs}
 use Rattle.property.proofs.heads.in_guard.Statement.{statement}

@@ -1,3 +1,4 @@
+-- The walk's test where the terms read; where they do not, nothing is promised.
 use Rattle.property.specs.Walk.Heads.{among, among-none}
 use Rattle.property.specs.Layout.{termAt}
 use Rattle.property.specs.Fit.{isVar}

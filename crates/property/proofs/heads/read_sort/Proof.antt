@@ -1,3 +1,4 @@
+-- 0 and 3 are sorts, any other number is not, and no number is a fault.
 use Rattle.property.specs.Walk.Heads.{sort-message, sort-time, sort-other, sort-none}
 use Rattle.number.specs.Reading.{asRead}
 use mathlib.Core.Path.{ap, sym, _∙_}

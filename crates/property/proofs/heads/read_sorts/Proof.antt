@@ -1,3 +1,4 @@
+-- The invariant is that j sorts are read up to i and stand behind those in scope, which stay; each turn adds one.
 use borrow.Author.Needs.{needs}
 use Rattle.property.specs.Walk.Heads.{Sorting, sorting-begins, sorting-next, sorting-ends, sorting-stops}
 use Rattle.property.specs.Walk.{SortIs}

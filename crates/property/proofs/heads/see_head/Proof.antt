@@ -1,3 +1,4 @@
+-- The count of new variables: more than 16 in scope is a fault, else sorts and guard follow; or it does not read.
 use Rattle.property.specs.Walk.Heads.{scoped-by, scoped-many, scoped-fault}
 use Rattle.number.specs.Reading.{asRead}
 use mathlib.Core.Path.{ap, sym, _∙_}

@@ -1,3 +1,4 @@
+-- The guard in the scope with the new variables, and each of these in it; a fault of the guard is the head's.
 use Rattle.property.specs.Walk.Heads.{new-end, new-none}
 use mathlib.Core.Path.{refl, sym, _∙_}
 use borrow.Author.Needs.{needs}

@@ -1,3 +1,4 @@
+-- The sorts that were read are the scope in which the guard is seen.
 use Rattle.property.specs.Walk.Heads.{sorts-by, sorts-none}
 use Rattle.property.specs.Walk.{SortsAre}
 use mathlib.Core.Path.{subst}

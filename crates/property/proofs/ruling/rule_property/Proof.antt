@@ -1,3 +1,4 @@
+-- The walk's three answers, fit, unfit and fault, are the ruling: passed, 5, 3.
 use Rattle.property.specs.Causes.Code.{body-tabled, ruled-good, ruled-unfit, ruled-fault}
 use Rattle.property.specs.Layout.{property}
 use Rattle.protocol.specs.Protocol.{factArities}

@@ -1,3 +1,4 @@
+-- The invariant is that the first j terms were seen to end at i with this answer; each turn sees one more.
 use borrow.Author.Needs.{needs}
 use Rattle.property.specs.Layout.{termAt}
 use Rattle.property.specs.Fit.{isVar}

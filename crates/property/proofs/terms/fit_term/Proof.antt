@@ -1,3 +1,4 @@
+-- The three answers of see_term, the scope asked of a variable.
 use Rattle.property.specs.Walk.Terms.{test-variable, test-name, test-none}
 use Rattle.property.specs.Walk.{scopeOf}
 use Rattle.property.specs.Layout.{termAt}

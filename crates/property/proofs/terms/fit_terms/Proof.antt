@@ -1,3 +1,4 @@
+-- The invariant is that the first j terms were seen to end at i, and whether all of them fit; each turn sees one more.
 use borrow.Author.Needs.{needs}
 use Rattle.property.specs.Walk.Chain.{each-none, each-more, each-stop}
 use Rattle.property.specs.Walk.{scopeOf}

@@ -1,3 +1,4 @@
+-- Outside the scope nothing is; inside, sort 0 is message.
 use Rattle.property.specs.Walk.Terms.{scope-out, scope-message}
 use Rattle.property.specs.Formula.{msg}
 use borrow.Author.Needs.{needs}

@@ -1,3 +1,4 @@
+-- The three answers of see_term, a variable compared with x.
 use Rattle.property.specs.Walk.Terms.{test-variable, test-name, test-none}
 use Rattle.property.specs.Layout.{termAt}
 use Rattle.property.specs.Fit.{isVar}

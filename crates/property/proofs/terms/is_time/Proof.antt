@@ -1,3 +1,4 @@
+-- Outside the scope nothing is; inside, any sort but message is time.
 use Rattle.property.specs.Walk.Terms.{scope-out, scope-time}
 use Rattle.property.specs.Formula.{tmp}
 use borrow.Author.Needs.{needs}

@@ -1,3 +1,4 @@
+-- The tag tells whether the number is a variable's or a name's.
 use Rattle.property.specs.Walk.Terms.{leaf-variable, leaf-name, leaf-none}
 use Rattle.number.specs.Reading.{asRead, readNumber}
 use mathlib.Core.Path.{ap, sym, _∙_}

@@ -1,3 +1,4 @@
+-- A tag below 2, then its number; any other tag is no term.
 use Rattle.property.specs.Walk.Terms.{term-leaf, term-none}
 use Rattle.number.specs.Reading.{asRead}
 use mathlib.Core.Path.{ap, sym, _∙_}

@@ -1,3 +1,4 @@
+-- The table begins as that of no free functions; then a count that reads, or a fault, is the two cases of `counted`.
 use Rattle.protocol.specs.Figures.{arityLimit}
 use Rattle.protocol.specs.Index.{Slotted}
 use Rattle.protocol.specs.Index.Fill.{told-as, splice-all, slots-none}

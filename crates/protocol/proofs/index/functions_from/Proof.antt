@@ -1,3 +1,4 @@
+-- The invariant is that the first j arities are read and that the table is `tagArities` of them; each turn sets one slot.
 use borrow.Author.Needs.{needs}
 use Rattle.protocol.specs.Index.Fill.{Slotting, slots-begin, slots-next}
 use Rattle.number.specs.Reading.Many.{many-stop}

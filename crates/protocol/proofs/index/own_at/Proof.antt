@@ -1,3 +1,4 @@
+-- The two numbers one behind the other: a fault at the first, at the second, or both read.
 use Rattle.protocol.specs.Index.Fill.{own-got, own-first, own-second}
 use Rattle.number.specs.Reading.{asRead}
 use mathlib.Core.Path.{ap, sym, _∙_}

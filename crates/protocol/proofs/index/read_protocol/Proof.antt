@@ -1,3 +1,4 @@
+-- The three counted lists one behind the other: each fault is the file's; where all read, the end of the file decides.
 use Rattle.protocol.specs.Figures.{mostOwn, mostRules, arityLimit}
 use Rattle.protocol.specs.Index.Laws.{no-functions, no-symbols, no-rules, leftover, entries}
 use Rattle.protocol.specs.Index.Fill.{told-value, told-fault}

@@ -1,3 +1,4 @@
+-- The invariant is that j rules are read up to i and each earlier place is that of its rule; a turn enters one place.
 use borrow.Author.Needs.{needs}
 use Rattle.protocol.specs.Index.Fill.{places-more, places-end}
 use Rattle.protocol.specs.Protocol.{Rule, emptyRule, rule}

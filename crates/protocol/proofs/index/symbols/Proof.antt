@@ -1,3 +1,4 @@
+-- A count that reads, or a fault: the two cases of `counted`.
 use Rattle.protocol.specs.Index.{Tabled}
 use Rattle.protocol.specs.Index.Fill.{told-as}
 use Rattle.protocol.specs.Protocol.{own}

@@ -1,3 +1,4 @@
+-- The invariant is that j own symbols are read and stand in both tables behind the four built-in ones; each turn adds one.
 use borrow.Author.Needs.{needs}
 use Rattle.protocol.specs.Index.Fill.{Owned, asOwn, own-begins, own-more, own-small}
 use Rattle.number.specs.Reading.Many.{many-stop, many-length}

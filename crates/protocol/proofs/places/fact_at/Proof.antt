@@ -1,3 +1,4 @@
+-- Fact 0 stands behind the count; fact i behind i facts, which some_facts walks.
 use denote.Ref.{now}
 use mathlib.Core.Path.{ap, sym, _∙_}
 use Rattle.lists.specs.Lists.{anyBy}

@@ -1,3 +1,4 @@
+-- The lists before this one are walked from behind the sorts; where the walk ends, the list begins.
 use Rattle.protocol.specs.Places.Ends.{end-walk, list-got, list-none}
 use Rattle.protocol.specs.Protocol.Walks.{asks}
 use Rattle.protocol.specs.Protocol.{facts}

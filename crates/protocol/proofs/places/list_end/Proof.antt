@@ -1,3 +1,4 @@
+-- Walking one list with a test that nothing meets tells its end.
 use denote.Ref.{now}
 use Rattle.lists.specs.Lists.{anyBy}
 use Rattle.protocol.specs.Protocol.{facts}

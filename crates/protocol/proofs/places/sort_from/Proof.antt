@@ -1,3 +1,4 @@
+-- Behind v sorts stands the sort of variable v.
 use Rattle.protocol.specs.Places.Ends.{from-got, from-none}
 use Rattle.protocol.specs.Places.{valueOf}
 use Rattle.number.specs.Reading.{asRead}

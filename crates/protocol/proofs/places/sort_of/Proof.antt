@@ -1,3 +1,4 @@
+-- The sorts begin behind the count of variables.
 use Rattle.protocol.specs.Places.Ends.{sort-got, sort-none}
 use Rattle.protocol.specs.Places.{valueOf}
 use Rattle.number.specs.Reading.{asRead}

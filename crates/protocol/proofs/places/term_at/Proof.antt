@@ -1,3 +1,4 @@
+-- Term 0 stands behind the symbol; term j behind j terms, which rule_terms walks.
 use denote.Ref.{now}
 use mathlib.Core.Path.{ap, sym, _∙_}
 use Rattle.lists.specs.Lists.{anyBy}

@@ -1,3 +1,4 @@
+-- The number that `below` reads, and 0 at its fault.
 use Rattle.protocol.specs.Places.{valueOf}
 use Rattle.number.specs.Reading.{asRead}
 use mathlib.Core.Path.{ap, sym, _∙_}

@@ -1,3 +1,4 @@
+-- A variable from n on is met or not: the two answers of the walk decide whether the lists are closed.
 use Rattle.number.specs.Groups.{numberLimit}
 use Rattle.protocol.specs.Protocol.Walks.{closed, parts-closed, parts-by}
 use Rattle.protocol.specs.Protocol.{facts}

@@ -1,3 +1,4 @@
+-- The kind tells which test of the fact it is: of its terms, as walked, or of its symbol, as computed.
 use Rattle.protocol.specs.Protocol.Walks.{from-leaves, from-symbol, from-none}
 use mathlib.Core.Path.{sym, _∙_}
 use native.Mathlib.Omega.{arith}

@@ -1,3 +1,4 @@
+-- A symbol below the count of symbols, then the terms that its arity asks; else a fault.
 use Rattle.protocol.specs.Protocol.Walks.{asks, fact-got, fact-fault}
 use Rattle.number.specs.Reading.Numbers.{below-inside}
 use Rattle.number.specs.Reading.{seen, asRead}

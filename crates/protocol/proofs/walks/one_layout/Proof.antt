@@ -1,3 +1,4 @@
+-- The lists behind the sorts are walked; a fault in the sorts is the rule's.
 use Rattle.protocol.specs.Protocol.Walks.{ruleAsks, layout-got, layout-fault}
 use Rattle.number.specs.Reading.{seen, asRead}
 use mathlib.Core.Path.{ap, sym, _∙_}

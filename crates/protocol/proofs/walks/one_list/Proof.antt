@@ -1,3 +1,4 @@
+-- A count, then that many facts: the two cases of `counted`.
 use Rattle.protocol.specs.Protocol.Walks.{asks, facts-got, facts-fault}
 use Rattle.number.specs.Reading.{seen, asRead}
 use Rattle.lists.specs.Lists.{anyBy}

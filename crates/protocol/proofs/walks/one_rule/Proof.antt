@@ -1,3 +1,4 @@
+-- `rule` is the layout with no variable from the declared count on; closed_lists tells both.
 use Rattle.protocol.specs.Protocol.Walks.{ended, rule-got, rule-fault, layout-fault}
 use Rattle.number.specs.Reading.{asRead}
 use mathlib.Core.Path.{ap, sym, _∙_}

@@ -1,3 +1,4 @@
+-- The walk of a term, and then whether its symbols are below 65.
 use Rattle.protocol.specs.Protocol.Walks.{rule-term-end, rule-term-long, rule-term-seen}
 use mathlib.Core.Path.{sym, _∙_}
 use denote.Ref.{now}

@@ -1,3 +1,4 @@
+-- The invariant is that the first j terms were seen to end at i with this answer; each turn sees one more.
 use borrow.Author.Needs.{needs}
 use Rattle.number.specs.Reading.Many.{walk-none, walk-more, walk-stop}
 use Rattle.number.specs.Reading.{many, seen}

@@ -1,3 +1,4 @@
+-- A count of variables, then their sorts; a fault of the count is the fault of both.
 use Rattle.protocol.specs.Protocol.Walks.{sorts-got, sorts-fault}
 use Rattle.number.specs.Reading.{asRead}
 use mathlib.Core.Path.{ap, sym, _∙_}

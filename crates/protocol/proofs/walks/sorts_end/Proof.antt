@@ -1,3 +1,4 @@
+-- The invariant is that j sorts were read up to i; each turn reads one more.
 use borrow.Author.Needs.{needs}
 use Rattle.protocol.specs.Figures.{sortCount}
 use Rattle.protocol.specs.Protocol.Walks.{sorts-came, sorts-stop}

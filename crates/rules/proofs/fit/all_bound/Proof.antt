@@ -1,3 +1,4 @@
+-- The invariant is that the first j variables are bound; the first that is not ends it with false.
 use borrow.Author.Needs.{needs}
 use Rattle.rules.specs.Fit.Laws.{OfRule}
 use Rattle.lists.specs.Below.{all-none, all-more, all-stop, allBelow}

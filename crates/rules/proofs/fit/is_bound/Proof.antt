@@ -1,3 +1,4 @@
+-- The three parts of `bound` are told by sort_of and by two walks over premises and conclusions.
 use Rattle.rules.specs.Fit.Laws.{bound-is}
 use mathlib.Core.Path.{refl}
 use denote.Ref.{now}

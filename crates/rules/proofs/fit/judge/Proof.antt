@@ -1,3 +1,4 @@
+-- The index tells the layout; of a file that reads, no rule is least unfit, or rule k is: the three verdicts of `judged`.
 use Rattle.rules.specs.Fit.Laws.{indexed-counts, indexed-fault, judged-is, none-broken, some-broken}
 use mathlib.Core.Path.{sym, _∙_}
 use lib.ListN.{length-take}

@@ -1,3 +1,4 @@
+-- The invariant is that none of the first j rules is unfit, so the first that rule_fits denies is the least.
 use borrow.Author.Needs.{needs}
 use Rattle.rules.specs.Fit.Laws.{unfit, placed-fits}
 use Rattle.lists.specs.Below.{least-none, least-more, least-hit, least}

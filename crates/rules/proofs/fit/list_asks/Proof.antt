@@ -1,3 +1,4 @@
+-- The list is found at its place, and the walk over it tells the test.
 use Rattle.rules.specs.Fit.Laws.{list-asked}
 use denote.Ref.{now}
 use borrow.Author.Needs.{needs}

@@ -1,3 +1,4 @@
+-- The walk over the whole layout tells the test of the rule.
 use Rattle.rules.specs.Fit.Laws.{rule-asked}
 use denote.Ref.{now}
 use borrow.Author.Needs.{needs}

@@ -1,3 +1,4 @@
+-- P1 to P4 are five answers of the calls, and `fits` is their conjunction in this order.
 use Rattle.number.specs.Groups.{numberLimit}
 use Rattle.rules.specs.Fit.Laws.{fresh-asked}
 use mathlib.Core.Path.{ap, ap₂}

@@ -1,3 +1,4 @@
+-- Where the rule reads, its variables are as many as the sorts; where it does not, nothing is promised.
 use Rattle.rules.specs.Fit.Laws.{all-is, none-there}
 use Rattle.rules.specs.Fit.{p4}
 use Rattle.protocol.specs.Protocol.{Rule}

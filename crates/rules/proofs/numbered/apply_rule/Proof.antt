@@ -1,3 +1,4 @@
+-- A slot above the most arguments is undeclared, and there is no rule; any other is the arity, and its rule is written.
 use Rattle.rules.specs.Numbered.Found.{slot-taken, slot-left}
 use Rattle.rules.specs.Numbered.Bytes.{applies-room}
 use Rattle.rules.specs.Numbered.Writing.{put-holds}

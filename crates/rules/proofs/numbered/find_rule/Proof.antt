@@ -1,3 +1,4 @@
+-- The ranges of the match are those of `ruleOf`, and each arm's answer is that range's.
 use Rattle.rules.specs.Numbered.Found.{of-fixed, finds-applied, finds-own}
 use Rattle.rules.specs.Numbered.Writing.{put-holds}
 use Rattle.rules.specs.Numbered.{fixed}

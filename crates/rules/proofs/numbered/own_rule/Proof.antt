@@ -1,3 +1,4 @@
+-- The place of rule k where there are more than k, else none.
 use Rattle.rules.specs.Numbered.Found.{place-found, place-none}
 use mathlib.Core.Path.{sym}
 use denote.Ref.{now}

@@ -1,3 +1,4 @@
+-- The rule's bytes are its premises', three fixed bytes, the tag and the variables: the writes lie end to end.
 use Rattle.rules.specs.Numbered.Writing.{apply-put}
 use Rattle.rules.specs.Numbered.Bytes.{premise-length, applies-length}
 use lib.ListN.{length-set}

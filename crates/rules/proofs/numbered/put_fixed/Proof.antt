@@ -1,3 +1,4 @@
+-- The literal of each number is its rule's encoding, by computation.
 use Rattle.rules.specs.Numbered.Writing.{put-as, put-copied}
 use Rattle.rules.specs.Numbered.Bytes.{bytes-0, bytes-1, bytes-2, bytes-3, bytes-4}
 use mathlib.Core.Path.{_≡_, sym}

@@ -1,3 +1,4 @@
+-- Count, k zeros for the sorts, count and the K of each variable: the writes lie end to end.
 use Rattle.rules.specs.Numbered.Writing.{withSorts, sorts-length, premises-put}
 use lib.ListN.{length-set}
 use Prim.Native.Nat.{_+_}

@@ -1,3 +1,4 @@
+-- The invariant is that i variables are written up to `end`, each behind the lead; there is room for the rest.
 use borrow.Author.Needs.{needs}
 use Rattle.rules.specs.Numbered.Writing.{VariablesPut, variables-none, variables-all, variables-room, variables-more}
 use Prim.Native.Nat.{_-_}

@@ -1,3 +1,4 @@
+-- An entry of 0 makes no name; any other is that of a name, which made_before looks for.
 use Rattle.steps.specs.Names.Laws.{again-of, again-none}
 use mathlib.Core.Path.{refl}
 use native.Mathlib.Omega.{arith}

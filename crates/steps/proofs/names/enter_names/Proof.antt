@@ -1,3 +1,4 @@
+-- The invariant is that the first j entries are those of the nodes' names; each turn enters one.
 use borrow.Author.Needs.{needs}
 use Rattle.steps.specs.Names.Laws.{entered-none, entered-more, entry-made}
 use Rattle.steps.specs.Names.{Entered}

@@ -1,3 +1,4 @@
+-- The two cases of `entryOf`.
 use Rattle.steps.specs.Names.{entryOf}
 use mathlib.Core.Path.{ap, sym, _∙_}
 use borrow.Author.Needs.{needs}

@@ -1,3 +1,4 @@
+-- Of the names that name_at tells, only a fresh one is kept.
 use denote.Ref.{now}
 use Rattle.term.specs.Reader.{symbolAt}
 use Rattle.steps.specs.Names.Code.{of-fresh, of-public, of-other}

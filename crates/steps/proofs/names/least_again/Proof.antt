@@ -1,3 +1,4 @@
+-- The invariant is that searching on from node j finds what searching all finds; the first node that again_at tells ends it.
 use borrow.Author.Needs.{needs}
 use Rattle.steps.specs.Names.Laws.{NamesLeft, names-all, names-more, names-twice, names-none}
 use Rattle.steps.specs.Names.{Entered}

@@ -1,3 +1,4 @@
+-- A node of rule 0 has one value, a fresh name at its place; a node of another rule makes none.
 use Rattle.steps.specs.Names.Code.{zero-name, other-name}
 use Rattle.prepared.specs.Prepared.Laws.{slots-length}
 use mathlib.Core.Path.{sym}

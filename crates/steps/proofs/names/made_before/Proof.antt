@@ -1,3 +1,4 @@
+-- The invariant is that `found` tells of the first i nodes; equal entries are equal names.
 use borrow.Author.Needs.{needs}
 use Rattle.steps.specs.Names.Laws.{made-turn}
 use Rattle.steps.specs.Names.{Entered, isMade}

@@ -1,3 +1,4 @@
+-- The entries that enter_names made are what least_again asks.
 use native.Mathlib.Omega.{arith}
 use borrow.Author.Needs.{needs}
 use Rattle.steps.proofs.names.name_pass.Statement.{statement}

@@ -1,3 +1,4 @@
+-- A rule that is found has as many variables as values are placed; a number that has none is told as such.
 use Rattle.steps.specs.Nodes.Filling.{as-found, as-none, variables-few, found-entered, none-entered}
 use Rattle.prepared.specs.Prepared.Laws.{slots-length}
 use lib.ListN.{length-set}

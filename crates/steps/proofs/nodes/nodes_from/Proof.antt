@@ -1,3 +1,4 @@
+-- The invariant is that j nodes are read up to i into their rows; a fault or an unknown rule there is that of the whole list.
 use borrow.Author.Needs.{needs}
 use Rattle.steps.specs.Nodes.Filling.{Passed, passed-none, passed-more, passed-broken, passed-unknown, passed-all}
 use Rattle.prepared.specs.Prepared.{Prepared}

@@ -1,3 +1,4 @@
+-- The invariant is that v values are read up to i, their places and sizes entered, their variables told; each turn adds a value.
 use borrow.Author.Needs.{needs}
 use Rattle.steps.specs.Nodes.Filling.{Placing, placing-none, placing-more, placing-fault, values-read, values-broken, ValuesRead}
 use Prim.Native.Nat.{ℕ, _+_, _-_, _≤_, _<_}

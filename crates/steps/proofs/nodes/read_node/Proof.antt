@@ -1,3 +1,4 @@
+-- The rule number is read first: a fault is the node's, else enter_node's answer is.
 use Rattle.steps.specs.Nodes.Filling.{number-entered, number-broken}
 use Rattle.number.specs.Reading.{asRead}
 use denote.Ref.{now}

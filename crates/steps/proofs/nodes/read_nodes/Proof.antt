@@ -1,3 +1,4 @@
+-- A count up to 512 and that many nodes, or a fault: the cases of `nodeList`.
 use Rattle.steps.specs.Nodes.Code.{told-as, nodes-got, nodes-fault}
 use Rattle.number.specs.Reading.Numbers.{below-inside}
 use Rattle.number.specs.Reading.{asRead}

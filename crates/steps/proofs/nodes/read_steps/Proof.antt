@@ -1,3 +1,4 @@
+-- The list's end is the file's, or bytes are left over, or the list's own answer: the four cases of `steps`.
 use Rattle.steps.specs.Nodes.Code.{steps-end, steps-leftover, steps-broken, steps-unknown}
 use denote.Ref.{now}
 use borrow.Author.Needs.{needs}

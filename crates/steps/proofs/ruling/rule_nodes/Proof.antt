@@ -1,3 +1,4 @@
+-- The three passes in the table's order: the first that finds a node is the ruling, and none is the pass.
 use Rattle.steps.specs.Causes.Code.{wrong-value, too-large, made-twice, all-good}
 use borrow.Author.Needs.{needs}
 use Rattle.steps.proofs.ruling.rule_nodes.Statement.{statement}

@@ -1,3 +1,4 @@
+-- The row has the sizes of the node's values, so the rule's test with these sizes is the node's.
 use Rattle.steps.specs.Values.Filled.{sizes-small, terms-test}
 use Rattle.steps.specs.Table.Laws.{node-listed, node-variables, node-rule-of}
 use Rattle.protocol.specs.Figures.{mostVariables}

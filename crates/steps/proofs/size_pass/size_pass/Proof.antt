@@ -1,3 +1,4 @@
+-- The invariant is that searching on from node j finds what searching all finds; the first bad node ends it.
 use borrow.Author.Needs.{needs}
 use Rattle.steps.specs.Values.Scan.{Rest, rest-all, rest-more, rest-bad, rest-none}
 use Rattle.steps.specs.Values.Tests.{nodeTermsOk}

@@ -1,3 +1,4 @@
+-- The invariant is that the terms from j on decide; the arity's many terms stand at the places that term_at gives.
 use borrow.Author.Needs.{needs}
 use Rattle.steps.specs.Values.Parts.{AllLeft, all-start, all-more, all-bad, all-done, termSmall, noTerm, symbol-inside, terms-many, term-there}
 use Rattle.steps.specs.Values.Weights.{sizeIn}

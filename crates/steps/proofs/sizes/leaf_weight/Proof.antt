@@ -1,3 +1,4 @@
+-- A variable weighs its value's size, any other leaf one: the two clauses of `leafWeight`.
 use denote.Ref.{now}
 use Rattle.steps.specs.Values.Weights.{leaf-variable, leaf-other}
 use borrow.Author.Needs.{needs}

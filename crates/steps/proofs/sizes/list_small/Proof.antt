@@ -1,3 +1,4 @@
+-- The invariant is that the facts from j on decide; each stands at the place that fact_at gives.
 use borrow.Author.Needs.{needs}
 use Rattle.steps.specs.Values.Parts.{AllLeft, all-start, all-more, all-bad, all-done, factSmall, facts-many, fact-there}
 use Rattle.steps.specs.Values.Weights.{sizeIn}

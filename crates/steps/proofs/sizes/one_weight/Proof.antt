@@ -1,3 +1,4 @@
+-- The three kinds of symbol, one by one, each as `weightOf` says.
 use denote.Ref.{now}
 use mathlib.Core.Path.{ap, sym, _∙_}
 use Prim.Native.Nat.{ℕ}

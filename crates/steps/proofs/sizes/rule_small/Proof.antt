@@ -1,3 +1,4 @@
+-- The invariant is that the lists from j on decide; the prepared protocol has each list's place.
 use borrow.Author.Needs.{needs}
 use Rattle.steps.specs.Values.Parts.{AllLeft, all-start, all-more, all-bad, all-done, listSmall}
 use Rattle.steps.specs.Table.Laws.{RuleOf, of-listed, of-list, of-three}

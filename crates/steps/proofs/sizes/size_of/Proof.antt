@@ -1,3 +1,4 @@
+-- Inside the table the size is read; outside of it a variable counts one symbol.
 use denote.Ref.{now}
 use Rattle.steps.specs.Values.Weights.{size-in, size-out}
 use borrow.Author.Needs.{needs}

@@ -1,3 +1,4 @@
+-- The invariant is that the sum so far and the weight of the pending terms are the term's; a sum past the limit only grows.
 use borrow.Author.Needs.{needs}
 use denote.Ref.{now}
 use native.Mathlib.Omega.{arith}

@@ -1,3 +1,4 @@
+-- Over 128 symbols is too long; else is_canonical decides the rest, and a value without variables needs no more.
 use Rattle.steps.specs.Values.Code.{not-long, by-canonical, message, canonical-is}
 use mathlib.Core.Path.{refl}
 use native.Mathlib.Omega.{arith}

@@ -1,3 +1,4 @@
+-- The tag of the symbol tells the kind of name; any other symbol is none.
 use mathlib.Core.Path.{sym, _∙_}
 use Rattle.steps.specs.Values.Code.{tagged, other-leaf, other-op, other-fault}
 use borrow.Author.Needs.{needs}

@@ -1,3 +1,4 @@
+-- A value that holds a variable makes the node bad; without one values_fit decides.
 use native.Mathlib.Omega.{arith}
 use Rattle.steps.specs.Values.Loops.{held-bad}
 use Rattle.steps.specs.Table.Laws.{node-listed}

@@ -1,3 +1,4 @@
+-- A name is canonical and small, so its sort alone decides; any other value fits the sort message only, by message_ok.
 use Rattle.steps.specs.Values.Code.{fresh-ok, public-ok, other-sort, not-sorted}
 use Rattle.steps.specs.Values.Tests.{valueOk}
 use Prim.Native.Nat.{ℕ}

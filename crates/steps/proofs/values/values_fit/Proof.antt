@@ -1,3 +1,4 @@
+-- The invariant is that sorts and values from v on decide; each turn tests one value against its variable's sort.
 use borrow.Author.Needs.{needs}
 use Rattle.steps.specs.Values.Loops.{value-there, Left, left-all, left-more, left-bad, left-none}
 use Rattle.steps.specs.Values.Code.{room-kept}

@@ -1,3 +1,4 @@
+-- The invariant is that `active` counts those of the first k nodes; a node has an action exactly if the next one's begin later.
 use borrow.Author.Needs.{needs}
 use native.Mathlib.Omega.{arith}
 use mathlib.Core.Logic.{⊎-elim}

@@ -1,3 +1,4 @@
+-- The first numbers are made, and over empty chains their classes, which are what is promised.
 use native.Mathlib.Omega.{arith}
 use Prim.Native.Nat.{_+_}
 use Rattle.facts.specs.Owed.{room-kept}

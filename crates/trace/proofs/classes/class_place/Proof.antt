@@ -1,3 +1,4 @@
+-- A public name keeps its number; a place found in the chain gives its class; one not found begins a class and its chain's new head.
 use native.Mathlib.Omega.{arith}
 use denote.Ref.{now}
 use lib.Seq.{lt-length-set}

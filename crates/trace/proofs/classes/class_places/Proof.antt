@@ -1,3 +1,4 @@
+-- The invariant is that the places below q are classed and the chains hold those that begin a class; each turn adds one.
 use borrow.Author.Needs.{needs}
 use denote.Ref.{now}
 use native.Mathlib.Omega.{arith}

@@ -1,3 +1,4 @@
+-- The invariant is that no place of the chain passed so far is the same argument; links lead to lower places, so it ends.
 use borrow.Author.Needs.{needs}
 use native.Mathlib.Omega.{arith}
 use lib.ListN.{length}

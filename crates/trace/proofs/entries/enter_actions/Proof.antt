@@ -1,3 +1,4 @@
+-- The invariant is that the actions up to from + i are entered; each turn enters symbol and code of one.
 use native.Mathlib.Omega.{arith}
 use lib.ListN.{length, getD}
 use mathlib.Core.Path.{_≡_}

@@ -1,3 +1,4 @@
+-- The invariant is that the first k nodes are entered up to `from`, where the next node's actions begin.
 use native.Mathlib.Omega.{arith}
 use lib.ListN.{length}
 use mathlib.Core.Path.{_≡_}

@@ -1,3 +1,4 @@
+-- The argument's canonical form is written at the start of the work area, and its number is that part's.
 use lib.Seq.{length-take-le}
 use mathlib.Core.Path.{sym}
 use native.Mathlib.Omega.{arith}

@@ -1,3 +1,4 @@
+-- A canonical form that begins as a public name is that name; any other has the mark of its bytes.
 use denote.Ref.{now}
 use native.Mathlib.Omega.{arith}
 use mathlib.Core.Path.{sym, refl}

@@ -1,3 +1,4 @@
+-- The invariant is that the places up to 8e + j are numbered; each turn numbers one, a missing argument with the base.
 use borrow.Author.Needs.{needs}
 use denote.Ref.{now}
 use native.Mathlib.Omega.{arith}

@@ -1,3 +1,4 @@
+-- The invariant is that the first e actions are numbered; each turn numbers one action's places.
 use borrow.Author.Needs.{needs}
 use native.Mathlib.Omega.{arith}
 use lib.ListN.{length}

@@ -1,3 +1,4 @@
+-- Below the count there is such an argument, and it is numbered; from there on the place is empty.
 use native.Mathlib.Omega.{arith}
 use Rattle.trace.specs.Numbers.Places.{counted-one, argument-there, argument-missing}
 use borrow.Author.Needs.{needs}

@@ -1,3 +1,4 @@
+-- The entries list all actions, so the classes made of them are those of the trace.
 use denote.Ref.{now}
 use Rattle.trace.specs.Entries.Laws.{all-listed}
 use Rattle.trace.specs.Tables.Made.{tables-made}
