@@ -19,7 +19,7 @@ use Rattle.message.specs.Substitution.Laws.{sub-formed}
 use Rattle.message.specs.Canon.{canon}
 use Rattle.product.specs.Writing.{wrote-over}
 use Rattle.canonical.specs.Builtins.{group}
-use Rattle.canonical.specs.Loose.{isProduct, closed, mades}
+use Rattle.canonical.specs.Loose.{beside, closed, mades}
 use Rattle.canonical.specs.Loose.Laws.{sub-range, app-size, sound, sounds}
 use Rattle.canonical.specs.Contract.{Job, Out}
 use Rattle.canonical.specs.Inner.{Built, Here}
@@ -49,25 +49,24 @@ module _ (arities vals starts src : List ℕ) (at k : ℕ) (out : List ℕ) (o :
     pub args-asks : Asks₂ (Job arities vals starts src at k (length out) o) → Asks₂ (Job arities vals starts src next number (length out₁) a)
     args-asks R = by-op _ R (λ θ args us c e J. (θ, args, arguments θ args us c e J))
 
-    module _ (p : Bool) (is : p ≡ isProduct tag) (out₂ : List ℕ) (at₂ e : ℕ) (same₂ : length out₂ ≡ length out)
+    module _ (out₂ : List ℕ) (at₂ e : ℕ) (same₂ : length out₂ ≡ length out)
         (M : Promises₂ (Job arities vals starts src next number (length out₁) a) (λ (θ : ℕ → Term) (ts : Terms). Out
         (a + length (encodes (subs θ ts)) + termRoom) next
         out₁
-        a out₂ at₂ e (encodes ts) (encodes (mades p θ ts)))) where
+        a out₂ at₂ e (encodes ts) (encodes (mades tag θ ts)))) where
       record Inner (θ : ℕ → Term) (args us : Terms) : Type 0 where
-        built : Built arities out₂ o e tag (mades (isProduct tag) θ args)
-        wrote : Wrote (o + length (encodes (subs θ (app tag args & us))) + termRoom) out o out₂ e (encode (app tag (mades (isProduct tag) θ args)))
+        built : Built arities out₂ o e tag (mades tag θ args)
+        wrote : Wrote (o + length (encodes (subs θ (app tag args & us))) + termRoom) out o out₂ e (encode (app tag (mades tag θ args)))
         read : at₂ ≡ at + length (encode (app tag args))
-        smaller : (inside : Bool) → length (encode (closed inside tag (mades (isProduct tag) θ args))) ≤ length (encode (sub θ (app tag args)))
+        smaller : (around : ℕ) → length (encode (closed around tag (mades tag θ args))) ≤ length (encode (sub θ (app tag args)))
         ends : e ≤ o + length (encode (sub θ (app tag args)))
 
       inner :
           (θ : ℕ → Term) (args us : Terms) → count args ≡ number → next ≡ at + length (groups tag)
           → Job arities vals starts src at k (length out) o θ (app tag args & us) → Inner θ args us
       inner θ args us c d J =
-          let vs : Terms = mades (isProduct tag) θ args in
-          let m = subst (λ (i : Bool). Out (a + length (encodes (subs θ args)) + termRoom) next out₁ a out₂ at₂ e (encodes args) (encodes (mades i θ args))) is
-          (M θ args (arguments θ args us c d J)) in
+          let vs : Terms = mades tag θ args in
+          let m = M θ args (arguments θ args us c d J) in
           let w : ℕ = o + length (encodes (subs θ (app tag args & us))) + termRoom in
           let l : w ≡ o + (length (encode (sub θ (app tag args))) + length (encodes (subs θ us))) + termRoom =
           ap (λ (z : ℕ). o + z + termRoom) (length-append (encode (sub θ (app tag args))) (encodes (subs θ us))) in
@@ -78,7 +77,7 @@ module _ (arities vals starts src : List ℕ) (at k : ℕ) (out : List ℕ) (o :
           let range = sub-range θ (app tag args) (J .range .0) (λ v i. J .values v (inl i) .range) in
           let own : (v : ℕ) → Occurss variable v args → canon (θ v) ≡ θ v = λ v i. J .values v (inl i) .own in
           let g = group arities (J .table) in
-          let z = app-size (arity arities) tag vs (subs θ args) (sounds (arity arities) g θ args (isProduct tag) (formed .1) own .sizes) in
+          let z = app-size (arity arities) tag vs (subs θ args) (sounds (arity arities) g θ args tag (formed .1) own .sizes) in
           let s = J .small .0 in
           record {
             built = record {
@@ -94,48 +93,49 @@ module _ (arities vals starts src : List ℕ) (at k : ℕ) (out : List ℕ) (o :
             };
             wrote = wrote;
             read = omega (arith, m .read, d, length-append (groups tag) (encodes args));
-            smaller = λ inside. sound (arity arities) g θ (app tag args) inside formed own .size .bytes-less;
+            smaller = λ around. sound (arity arities) g θ (app tag args) around formed own .size .bytes-less;
             ends = omega (arith, wrote .ends, z .bytes-less);
           }
 
       pub close-asks : Asks₂ (Job arities vals starts src at k (length out) o) → Asks (Built arities out₂ o e tag)
-      close-asks R = by-op _ R (λ θ args us c d J. (mades (isProduct tag) θ args, inner θ args us c d J .built))
+      close-asks R = by-op _ R (λ θ args us c d J. (mades tag θ args, inner θ args us c d J .built))
 
       pub onward : Asks₂ (Job arities vals starts src at k (length out) o) → at < at₂
       onward R = by-op _ R (λ θ args us c d J. omega (arith, inner θ args us c d J .read, encode-some (app tag args)))
 
-      module _ (inside : Bool) (out₃ : List ℕ) (r : ℕ) (same₃ : length out₃ ≡ length out)
-          (C : Promises (Built arities out₂ o e tag) (λ (us : Terms). Wrote (e + termRoom) out₂ o out₃ r (encode (closed inside tag us)))) where
+      module _ (around : ℕ) (out₃ : List ℕ) (r : ℕ) (same₃ : length out₃ ≡ length out)
+          (C : Promises (Built arities out₂ o e tag) (λ (us : Terms). Wrote (e + termRoom) out₂ o out₃ r (encode (closed around tag us)))) where
         after-job :
             (θ : ℕ → Term) (args us : Terms) → count args ≡ number → next ≡ at + length (groups tag)
             → Job arities vals starts src at k (length out) o θ (app tag args & us) → Job arities vals starts src at₂ (k - 1) (length out₃) r θ us
         after-job θ args us c d J =
             let i = inner θ args us c d J in
-            let w = C (mades (isProduct tag) θ args) (i .built) in
+            let w = C (mades tag θ args) (i .built) in
             next-job arities vals starts src at k (length out) o θ (app tag args) us J at₂ (length out₃) r (i .read) same₃
-            (omega (arith, w .ends, i .smaller inside))
+            (omega (arith, w .ends, i .smaller around))
 
         pub rest-asks : Asks₂ (Job arities vals starts src at k (length out) o) → Asks₂ (Job arities vals starts src at₂ (k - 1) (length out₃) r)
         rest-asks R = by-op _ R (λ θ args us c d J. (θ, us, after-job θ args us c d J))
 
         pub op-done :
-            (out′ : List ℕ) (at′ o′ : ℕ) → Promises₂ (Job arities vals starts src at₂ (k - 1) (length out₃) r)
-            (λ (θ : ℕ → Term) (ts : Terms). Out (r + length (encodes (subs θ ts)) + termRoom) at₂ out₃ r out′ at′ o′ (encodes ts) (encodes (mades inside θ ts)))
+            (rest : ℕ) → rest ≡ beside around → (out′ : List ℕ) (at′ o′ : ℕ) → Promises₂ (Job arities vals starts src at₂ (k - 1) (length out₃) r)
+            (λ (θ : ℕ → Term) (ts : Terms). Out (r + length (encodes (subs θ ts)) + termRoom) at₂ out₃ r out′ at′ o′ (encodes ts) (encodes (mades rest θ ts)))
             → Promises₂ (Job arities vals starts src at k (length out) o) (λ (θ : ℕ → Term) (ts : Terms). Out (o + length (encodes (subs θ ts)) + termRoom) at
             out o out′
-            at′ o′ (encodes ts) (encodes (mades inside θ ts)))
-        op-done out′ at′ o′ N θ ts J =
+            at′ o′ (encodes ts) (encodes (mades around θ ts)))
+        op-done rest q out′ at′ o′ N θ ts J =
             op-case arities vals starts src at k (length out) o isLeaf tag number next F more
-            (λ ts. Out (o + length (encodes (subs θ ts)) + termRoom) at out o out′ at′ o′ (encodes ts) (encodes (mades inside θ ts))) θ ts b J
+            (λ ts. Out (o + length (encodes (subs θ ts)) + termRoom) at out o out′ at′ o′ (encodes ts) (encodes (mades around θ ts))) θ ts b J
             (λ args us c d J.
             let i = inner θ args us c d J in
-            let x = C (mades (isProduct tag) θ args) (i .built) in
-            let m = N θ us (after-job θ args us c d J) in
+            let x = C (mades tag θ args) (i .built) in
+            let m = subst (λ (j : ℕ). Out (r + length (encodes (subs θ us)) + termRoom) at₂ out₃ r out′ at′ o′ (encodes us) (encodes (mades j θ us))) q
+            (N θ us (after-job θ args us c d J)) in
             let w : ℕ = o + length (encodes (subs θ (app tag args & us))) + termRoom in
             let l : w ≡ o + (length (encode (sub θ (app tag args))) + length (encodes (subs θ us))) + termRoom =
             ap (λ (z : ℕ). o + z + termRoom) (length-append (encode (sub θ (app tag args))) (encodes (subs θ us))) in
             let y = wrote-over (omega arith) (omega (arith, J .room)) (i .wrote) (widen w (omega (arith, i .ends, l)) x) in
             record {
               read = omega (arith, m .read, i .read, length-append (encode (app tag args)) (encodes us));
-              wrote = wrote-then y (widen w (omega (arith, x .ends, i .smaller inside, l)) (m .wrote));
+              wrote = wrote-then y (widen w (omega (arith, x .ends, i .smaller around, l)) (m .wrote));
             })

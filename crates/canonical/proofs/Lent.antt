@@ -2,7 +2,6 @@
 use Prim.Native.Nat.{ℕ, _+_, _-_, _≤_}
 use mathlib.Core.List.{List}
 use mathlib.Core.Path.{refl, subst}
-use mathlib.Core.Bool.{false}
 use native.Mathlib.Omega.{arith}
 use lib.ListN.{length, take, drop}
 use borrow.Rule.Slice.PartMut.{putMid}
@@ -16,8 +15,8 @@ use Rattle.term.specs.Sizes.{termRoom}
 use Rattle.message.specs.Substitution.{subs}
 use Rattle.message.specs.Substitution.Laws.{subs-formed}
 use Rattle.canonical.specs.Builtins.{group}
-use Rattle.canonical.specs.Loose.{mades}
-use Rattle.canonical.specs.Loose.Laws.{Sounds, sounds}
+use Rattle.canonical.specs.Loose.{outside, mades}
+use Rattle.canonical.specs.Loose.Laws.{Sounds, sounds, all-are}
 use Rattle.canonical.specs.Contract.{Job, Out}
 
 abbrev part : List ℕ → ℕ → List ℕ
@@ -45,13 +44,13 @@ module _ (arities vals starts src : List ℕ) (at k : ℕ) (out : List ℕ) (o :
 
   made-sounds :
       (θ : ℕ → Term) (ts : Terms) (J : Job arities vals starts src at k (length out) o θ ts)
-      → Sounds (arity arities) (group arities (J .table)) θ false ts
+      → Sounds (arity arities) (group arities (J .table)) θ outside ts
   made-sounds θ ts J =
-      sounds (arity arities) (group arities (J .table)) θ ts false (subs-formed (arity arities) θ ts (J .formed) (λ v i. J .values v i .formed))
+      sounds (arity arities) (group arities (J .table)) θ ts outside (subs-formed (arity arities) θ ts (J .formed) (λ v i. J .values v i .formed))
       (λ v i. J .values v i .own)
 
   module _ (ys : List ℕ) (at′ r : ℕ) (M : Promises₂ (Job arities vals starts src at k (length (part out o)) 0)
-      (λ (θ : ℕ → Term) (ts : Terms). Out (0 + length (encodes (subs θ ts)) + termRoom) at (part out o) 0 ys at′ r (encodes ts) (encodes (mades false θ ts))))
+      (λ (θ : ℕ → Term) (ts : Terms). Out (0 + length (encodes (subs θ ts)) + termRoom) at (part out o) 0 ys at′ r (encodes ts) (encodes (mades outside θ ts))))
     where
       pub part-ends : Asks₂ (Job arities vals starts src at k (length out) o) → (o + r ≤ length out) × (length out ≤ longest)
       part-ends (θ, ts, J) =
@@ -64,10 +63,11 @@ module _ (arities vals starts src : List ℕ) (at k : ℕ) (out : List ℕ) (o :
       part-done θ ts J =
           let m = M θ ts (part-job θ ts J) in
           let n : ℕ = length (encodes (subs θ ts)) in
-          let w = wrote-lent out ys (0 + n + termRoom) o r (encodes (mades false θ ts)) (omega (arith, J .room)) (m .wrote) in
+          let w = wrote-lent out ys (0 + n + termRoom) o r (encodes (mades outside θ ts)) (omega (arith, J .room)) (m .wrote) in
           let out′ : List ℕ = putMid o (length out - o) out ys in
           record {
             read = m .read;
-            wrote = subst (λ (us : Terms). Wrote (o + n + termRoom) out o out′ (o + r) (encodes us)) (made-sounds θ ts J .are refl)
+            wrote = subst (λ (us : Terms). Wrote (o + n + termRoom) out o out′ (o + r) (encodes us))
+                (all-are (arity arities) (group arities (J .table)) θ ts outside refl (λ z. omega (arith, z)) (made-sounds θ ts J .are-made))
                 (widen (o + n + termRoom) (omega arith) w);
           }

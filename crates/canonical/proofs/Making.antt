@@ -19,7 +19,7 @@ use Rattle.term.specs.Term.Laws.{encode-some}
 use Rattle.term.specs.Reader.Exact.{behind-tag}
 use Rattle.message.specs.Substitution.{sub, subs}
 use Rattle.message.specs.Parts.Entries.{Each}
-use Rattle.canonical.specs.Loose.{made, mades}
+use Rattle.canonical.specs.Loose.{beside, made, mades}
 use Rattle.canonical.specs.Contract.{Job, Out}
 use Rattle.canonical.specs.Inner.{LeafJob, Here}
 
@@ -78,12 +78,12 @@ module _ (arities vals starts src : List ℕ) (at k n o : ℕ) (θ : ℕ → Ter
 
 -- no term is left
 pub none-done :
-    (arities vals starts src : List ℕ) (at k : ℕ) (inside : Bool) (out : List ℕ) (o : ℕ) → k ≡ 0
+    (arities vals starts src : List ℕ) (at k around : ℕ) (out : List ℕ) (o : ℕ) → k ≡ 0
     → Promises₂ (Job arities vals starts src at k (length out) o) (λ (θ : ℕ → Term) (ts : Terms). Out (o + length (encodes (subs θ ts)) + termRoom) at out o
     out at o
-    (encodes ts) (encodes (mades inside θ ts)))
-none-done arities vals starts src at k inside out o z θ nil J = record { read = omega arith; wrote = wrote-nothing _ o out }
-none-done arities vals starts src at k inside out o z θ (t & us) J = absurd (omega (arith, J .many))
+    (encodes ts) (encodes (mades around θ ts)))
+none-done arities vals starts src at k around out o z θ nil J = record { read = omega arith; wrote = wrote-nothing _ o out }
+none-done arities vals starts src at k around out o z θ (t & us) J = absurd (omega (arith, J .many))
 
 -- ── by the first symbol ──
 module _ (arities vals starts src : List ℕ) (at k n o : ℕ) (isLeaf : Bool) (tag number next : ℕ)
@@ -135,10 +135,10 @@ module _ (arities vals starts src : List ℕ) (at k n o : ℕ) (isLeaf : Bool) (
       (omega (arith, f .next-is, groups-some g), omega (arith, l, inside-source arities vals starts src at k n o θ (app g args) us J))
 
 -- ── a leaf ──
-leaf-made : (inside : Bool) (θ : ℕ → Term) (kd : Kind) (m : ℕ) → made inside θ (leaf kd m) ≡ sub θ (leaf kd m)
-leaf-made inside θ variable m = refl
-leaf-made inside θ public m = refl
-leaf-made inside θ fresh m = refl
+leaf-made : (around : ℕ) (θ : ℕ → Term) (kd : Kind) (m : ℕ) → made around θ (leaf kd m) ≡ sub θ (leaf kd m)
+leaf-made around θ variable m = refl
+leaf-made around θ public m = refl
+leaf-made around θ fresh m = refl
 
 leaf-job :
     (arities vals starts src : List ℕ) (at k n o tag number : ℕ) (θ : ℕ → Term) (kd : Kind) (us : Terms) → tag ≡ tagOf kd
@@ -176,22 +176,23 @@ module _ (arities vals starts src : List ℕ) (at k : ℕ) (out : List ℕ) (o :
         (λ kd us t e J. (θ, us, rest-job θ kd us t e J))
 
     pub leaf-done :
-        (inside : Bool) (out′ : List ℕ) (at′ o′ : ℕ) → Promises₂ (Job arities vals starts src next (k - 1) (length out₁) p)
-        (λ (θ : ℕ → Term) (ts : Terms). Out (p + length (encodes (subs θ ts)) + termRoom) next out₁ p out′ at′ o′ (encodes ts) (encodes (mades inside θ ts)))
+        (around rest : ℕ) → rest ≡ beside around → (out′ : List ℕ) (at′ o′ : ℕ) → Promises₂ (Job arities vals starts src next (k - 1) (length out₁) p)
+        (λ (θ : ℕ → Term) (ts : Terms). Out (p + length (encodes (subs θ ts)) + termRoom) next out₁ p out′ at′ o′ (encodes ts) (encodes (mades rest θ ts)))
         → Promises₂ (Job arities vals starts src at k (length out) o) (λ (θ : ℕ → Term) (ts : Terms). Out (o + length (encodes (subs θ ts)) + termRoom) at out
         o out′ at′
         o′
-        (encodes ts) (encodes (mades inside θ ts)))
-    leaf-done inside out′ at′ o′ M θ ts J =
+        (encodes ts) (encodes (mades around θ ts)))
+    leaf-done around rest q out′ at′ o′ M θ ts J =
         leaf-case arities vals starts src at k (length out) o isLeaf tag number next F more
-        (λ ts. Out (o + length (encodes (subs θ ts)) + termRoom) at out o out′ at′ o′ (encodes ts) (encodes (mades inside θ ts))) θ ts b J
+        (λ ts. Out (o + length (encodes (subs θ ts)) + termRoom) at out o out′ at′ o′ (encodes ts) (encodes (mades around θ ts))) θ ts b J
         (λ kd us t e J.
         let d = D θ kd (leaf-job arities vals starts src at k (length out) o tag number θ kd us t J) in
-        let m = M θ us (rest-job θ kd us t e J) in
+        let m = subst (λ (j : ℕ). Out (p + length (encodes (subs θ us)) + termRoom) next out₁ p out′ at′ o′ (encodes us) (encodes (mades j θ us))) q
+        (M θ us (rest-job θ kd us t e J)) in
         let w : ℕ = o + length (encodes (subs θ (leaf kd number & us))) + termRoom in
         let l = length-append (encode (sub θ (leaf kd number))) (encodes (subs θ us)) in
         record {
           read = omega (arith, m .read, e, length-append (encode (leaf kd number)) (encodes us));
-          wrote = subst (λ (x : Term). Wrote w out o out′ o′ (encode x ++ encodes (mades inside θ us))) (sym (leaf-made inside θ kd number))
+          wrote = subst (λ (x : Term). Wrote w out o out′ o′ (encode x ++ encodes (mades (beside around) θ us))) (sym (leaf-made around θ kd number))
               (wrote-then (widen w (omega (arith, d .ends, l)) d) (widen w (omega (arith, d .ends, l)) (m .wrote)));
         })

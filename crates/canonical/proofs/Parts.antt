@@ -6,8 +6,7 @@ use mathlib.Core.Logic.{_≢_}
 use mathlib.Core.Bool.{Bool, true, false}
 use mathlib.Core.Option.{some}
 use native.Mathlib.Omega.{arith}
-use lib.ListN.{length, take, drop, length-append}
-use lib.Seq.{take-add, take-append-seam}
+use lib.ListN.{length, drop, length-append}
 use Rattle.lists.specs.Asks.{Promises₂}
 use Rattle.lists.specs.Choice.{clash}
 use Rattle.octets.specs.Compare.{compareBytes, isEqual}
@@ -15,7 +14,6 @@ use Rattle.octets.specs.Compare.Laws.{compare-refl, compare-same}
 use Rattle.octets.specs.declared.Order.{Order}
 use Rattle.octets.specs.declared.Order.the-variants.{Less, Equal, Greater}
 use Rattle.octets.specs.Head.{Bytes, Stands, behind, stands-within}
-use Rattle.octets.specs.Splice.Prefix.{Wrote}
 use Rattle.number.specs.Groups.{groups}
 use Rattle.number.specs.Groups.Laws.{groups-one}
 use Rattle.number.specs.Reading.{got}
@@ -180,16 +178,6 @@ module _ (arities : List ℕ) (x y : Term) where
       let p : isEqual (compareBytes (encode x) (encode y)) ≡ true =
       ap (λ (z : Term). isEqual (compareBytes (encode x) (encode z))) (sym q) ∙ ap isEqual (compare-refl (encode x)) in
       clash (cc)
-
--- ── what stays as it stands ──
-pub stays : (out : List ℕ) (o e : ℕ) (q : List ℕ) → Stands out o q e → Wrote e out o out e q
-stays out o e q h = record {
-  ends = h .ends;
-  bytes =
-      ap (λ (k : ℕ). take k out) (h .ends) ∙ take-add o (length q) out
-      ∙ ap (λ (z : List ℕ). take o out ++ z) (ap (take (length q)) (h .there) ∙ take-append-seam q (drop e out));
-  kept = refl;
-}
 
 -- a term lies within the slice
 pub here-within : {arities src : List ℕ} {at e : ℕ} (t : Term) → Here arities src at e t → (at < e) × (e ≤ length src)

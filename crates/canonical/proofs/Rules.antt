@@ -22,7 +22,8 @@ use Rattle.message.specs.Canon.{apply}
 use Rattle.message.specs.Made.{made-dec, made-dec-stays}
 use Rattle.canonical.specs.Builtins.{enc-arity, dec-arity, pair-arity, group}
 use Rattle.canonical.specs.Inner.{Here, Built}
-use Rattle.canonical.proofs.Parts.{one-at, TwoArguments, two-at, shut, opened, same-term, other-term, stays, here-within}
+use Rattle.canonical.proofs.Parts.{one-at, TwoArguments, two-at, shut, opened, same-term, other-term, here-within}
+use Rattle.product.specs.Writing.{as-written}
 
 -- the arguments begin within the slice
 pub place-fits : (arities out : List ℕ) (o e f : ℕ) → Asks (Built arities out o e f) → (o < length out) × (length out ≤ longest)
@@ -86,7 +87,7 @@ module _ (arities out : List ℕ) (o e f : ℕ) (small : f < 128) (takes : arity
   side-stays law d us b =
       let w = side-shut us b d in
       let q : apply rules f us ≡ app f us = ap (apply rules f) (w .1) ∙ law (w .0) (w .2) ∙ ap (app f) (sym (w .1)) in
-      subst (λ (t : Term). Wrote e out o out e (encode t)) (sym q) (stays out o e (encode (app f us)) (b .here .stands))
+      subst (λ (t : Term). Wrote e out o out e (encode t)) (sym q) (as-written out o e (encode (app f us)) (b .here .stands))
 
   module _ (d : tag ≡ pairTag) (y : ℕ) (E : Promises₂ (Here arities out next) (λ (e : ℕ) (t : Term). y ≡ e)) (out′ : List ℕ) (r : ℕ) where
     pub side-one :
@@ -121,7 +122,7 @@ module _ (arities out : List ℕ) (o e : ℕ) (isLeaf : Bool) (tag number next :
       let q : apply rules decTag us ≡ app decTag us = ap (apply rules decTag) i ∙ made-dec-stays (arity arities) (group arities (b .table)) c k h ∙ ap
       (app decTag)
       (sym i) in
-      subst (λ (t : Term). Wrote e out o out e (encode t)) (sym q) (stays out o e (encode (app decTag us)) (b .here .stands))
+      subst (λ (t : Term). Wrote e out o out e (encode t)) (sym q) (as-written out o e (encode (app decTag us)) (b .here .stands))
 
   pub dec-shut : tag ≢ encTag → Promises (Built arities out o e decTag) (λ (us : Terms). Wrote e out o out e (encode (apply rules decTag us)))
   dec-shut d us b =

@@ -2,7 +2,7 @@
 
 -- the built-in functions have document 01's arities
 pub mod Builtins
--- the canonical form as it is made: inside a product nothing is worked out
+-- the canonical form as it is made: of a product and of a tower of exps only the outermost function is worked out
 pub mod Loose
 -- how long a term can be
 pub mod Size

@@ -4,7 +4,7 @@ ghost use mathlib.Core.Bool.{true, false};
 ghost use Prim.Native.Nat.{_+_, _≤_, _<_, ℕ};
 ghost use lib.ListN.{length};
 ghost use mathlib.Core.List.{List};
-ghost use mathlib.Core.Logic.{_↔_};
+ghost use mathlib.Core.Logic.{_↔_, _≢_};
 ghost use Rattle.octets.specs.Limits.{longest};
 ghost use Rattle.octets.specs.Compare.{isEqual, compareBytes};
 ghost use Rattle.octets.specs.Head.{Stands};
@@ -12,7 +12,7 @@ ghost use Rattle.canonical.specs.First.{FirstAt};
 ghost use Rattle.message.specs.Equations.{Same};
 ghost use Rattle.message.specs.Filled.{filleds};
 ghost use Rattle.message.specs.Substitution.{sub, subs};
-ghost use Rattle.term.specs.Tags.{decTag, fstTag, sndTag};
+ghost use Rattle.term.specs.Tags.{decTag, fstTag, sndTag, expTag};
 ghost use Rattle.term.specs.Arity.{arity};
 ghost use Rattle.term.specs.Sizes.{termRoom};
 ghost use Rattle.term.specs.Term.{Kind, Term, Terms, leaf, encode, encodes};
@@ -21,7 +21,7 @@ ghost use Rattle.octets.specs.Splice.Prefix.{Wrote};
 ghost use Rattle.number.specs.Groups.{groups, numberLimit};
 ghost use Rattle.message.specs.Table.{rules};
 ghost use Rattle.message.specs.Canon.{apply, canon};
-ghost use Rattle.canonical.specs.Loose.{isProduct, closed, mades};
+ghost use Rattle.canonical.specs.Loose.{isProduct, beside, closed, mades};
 ghost use Rattle.canonical.specs.Contract.{Job, Out, MessageAt, MessageIn, formRoom};
 ghost use Rattle.canonical.specs.Inner.{LeafJob, Here, Built};
 use term::Part;
@@ -29,6 +29,9 @@ use term::Symbol;
 
 // The room in which a message's form is made: for the term, and behind it for a product.
 pub const FORM_ROOM: usize = term::TERM_ROOM + term::TERM_ROOM;
+
+// The tag of no function: none is around.
+const OUTSIDE: usize = term::VARIABLE;
 
 // The places of the terms to be read next and of what is to be written next.
 pub struct Next {
@@ -108,6 +111,17 @@ fn is_product(tag: usize) -> bool
     (tag == term::ONE) | ((tag == term::INV) | (tag == term::MUL))
 }
 
+// What counts as the function around the arguments behind the first: an exponent is made as a factor.
+fn beside(around: usize) -> usize
+    ensures { λ r. ⌜ r ≡ beside around ⌝ }
+{
+    if around == term::EXP {
+        term::MUL
+    } else {
+        around
+    }
+}
+
 // Writes a number.
 fn put_number(out: &mut [u8], o: usize, n: usize) -> usize
     requires { ⌜ (n < numberLimit) × (o + length (groups n) ≤ length (now out)) ⌝ }
@@ -183,10 +197,10 @@ fn right(out: &mut [u8], o: usize, e: usize, arities: &[u8]) -> usize
     move_to(out, o, y, e)
 }
 
-// The function of a tag, no product function, of canonical arguments.
+// The function of a tag, no product function and no exp, of canonical arguments.
 fn reduce(out: &mut [u8], o: usize, e: usize, tag: usize, arities: &[u8]) -> usize
-    requires { ⌜ (isProduct tag ≡ false) × Asks (Built (now arities) (now out) o e tag) ⌝ }
-    ensures { λ r. ⌜ Promises (Built (now (arities .entry)) (now (out .entry)) o e tag) (λ (us : Terms). Wrote (e + termRoom) (now (out .entry)) o (now (out .exit)) r (encode (apply rules tag us))) ⌝ }
+    requires { ⌜ (isProduct tag ≡ false) × (tag ≢ expTag) × Asks (Built (now arities) (now out) o e tag) ⌝ }
+    ensures { λ r. ⌜ Promises (Built (now (arities .entry)) (now (out .entry)) o e tag) (λ (us : Terms). Wrote e (now (out .entry)) o (now (out .exit)) r (encode (apply rules tag us))) ⌝ }
 {
     if tag == term::DEC {
         return unlock(out, o, e, arities);
@@ -197,39 +211,43 @@ fn reduce(out: &mut [u8], o: usize, e: usize, tag: usize, arities: &[u8]) -> usi
     if tag == term::SND {
         return right(out, o, e, arities);
     }
-    if tag == term::EXP {
-        return product::exponent(out, o, e, arities);
-    }
     e
 }
 
-// The function of a tag, of made arguments. Inside a product a product function stays as it stands: only the outermost is multiplied out.
-fn close(out: &mut [u8], o: usize, e: usize, tag: usize, inside: bool, arities: &[u8]) -> usize
+// The function of a tag, of made arguments. A product function inside a product stays as it stands, and so does an exp that is the base of an
+// exp: only the outermost is multiplied out.
+fn close(out: &mut [u8], o: usize, e: usize, tag: usize, around: usize, arities: &[u8]) -> usize
     requires { ⌜ Asks (Built (now arities) (now out) o e tag) ⌝ }
-    ensures { λ r. ⌜ Promises (Built (now (arities .entry)) (now (out .entry)) o e tag) (λ (us : Terms). Wrote (e + termRoom) (now (out .entry)) o (now (out .exit)) r (encode (closed inside tag us))) ⌝ }
+    ensures { λ r. ⌜ Promises (Built (now (arities .entry)) (now (out .entry)) o e tag) (λ (us : Terms). Wrote (e + termRoom) (now (out .entry)) o (now (out .exit)) r (encode (closed around tag us))) ⌝ }
 {
     if is_product(tag) {
-        if inside {
+        if is_product(around) {
             return e;
         }
         return product::multiply(out, o, e, arities);
     }
+    if tag == term::EXP {
+        if around == term::EXP {
+            return e;
+        }
+        return product::exponent(out, o, e, arities);
+    }
     reduce(out, o, e, tag, arities)
 }
 
-// Makes the k terms at a place, inside a product or not.
+// Makes the k terms at a place, which are arguments of the function of the tag `around`, or of none.
 fn make(
     out: &mut [u8],
     src: &[u8],
     p: Next,
     k: usize,
-    inside: bool,
+    around: usize,
     arities: &[u8],
     vals: &[u8],
     starts: &[usize],
 ) -> Next
     requires { ⌜ Asks₂ (Job (now arities) (now vals) (now starts) (now src) (p .at) k (length (now out)) (p .o)) ⌝ }
-    ensures { λ r. ⌜ Promises₂ (Job (now (arities .entry)) (now (vals .entry)) (now (starts .entry)) (now (src .entry)) (p .at) k (length (now (out .entry))) (p .o)) (λ (θ : ℕ → Term) (ts : Terms). Out ((p .o) + length (encodes (subs θ ts)) + termRoom) (p .at) (now (out .entry)) (p .o) (now (out .exit)) (r .at) (r .o) (encodes ts) (encodes (mades inside θ ts))) ⌝ }
+    ensures { λ r. ⌜ Promises₂ (Job (now (arities .entry)) (now (vals .entry)) (now (starts .entry)) (now (src .entry)) (p .at) k (length (now (out .entry))) (p .o)) (λ (θ : ℕ → Term) (ts : Terms). Out ((p .o) + length (encodes (subs θ ts)) + termRoom) (p .at) (now (out .entry)) (p .o) (now (out .exit)) (r .at) (r .o) (encodes ts) (encodes (mades around θ ts))) ⌝ }
 {
     let at = p.at;
     let o = p.o;
@@ -244,18 +262,17 @@ fn make(
         if k == 1 {
             return next;
         }
-        return make(out, src, next, k - 1, inside, arities, vals, starts);
+        return make(out, src, next, k - 1, beside(around), arities, vals, starts);
     }
     let a = put_number(out, o, h.tag);
-    let within = is_product(h.tag);
     let first = Next { at: h.next, o: a };
-    let args = make(out, src, first, h.number, within, arities, vals, starts);
-    let r = close(out, o, args.o, h.tag, inside, arities);
+    let args = make(out, src, first, h.number, h.tag, arities, vals, starts);
+    let r = close(out, o, args.o, h.tag, around, arities);
     let next = Next { at: args.at, o: r };
     if k == 1 {
         return next;
     }
-    make(out, src, next, k - 1, inside, arities, vals, starts)
+    make(out, src, next, k - 1, beside(around), arities, vals, starts)
 }
 
 // Reads k terms at a place of src and writes their canonical forms, filled in with the canonical values of their variables, into the part
@@ -274,7 +291,7 @@ pub fn canonical_into(
     ensures { λ r. ⌜ Promises₂ (Job (now (arities .entry)) (now (vals .entry)) (now (starts .entry)) (now (src .entry)) at k (length (now (out .entry))) o) (λ (θ : ℕ → Term) (ts : Terms). Out (o + length (encodes (subs θ ts)) + termRoom) at (now (out .entry)) o (now (out .exit)) (r .at) (r .o) (encodes ts) (encodes (filleds θ ts))) ⌝ }
 {
     let first = Next { at: at, o: 0 };
-    let n = make(&mut out[o..], src, first, k, false, arities, vals, starts);
+    let n = make(&mut out[o..], src, first, k, OUTSIDE, arities, vals, starts);
     Next {
         at: n.at,
         o: o + n.o,

@@ -146,7 +146,7 @@ fn enter(
 }
 
 // The way of the term at a place.
-fn way_at(src: &[u8], arities: &[u8], at: usize) -> Way
+pub fn way_at(src: &[u8], arities: &[u8], at: usize) -> Way
     ensures { λ r. ⌜ r ≡ wayOf (symbolAt (now (src .entry)) (now (arities .entry)) at) ⌝ }
 {
     match term::symbol_at(src, arities, at) {

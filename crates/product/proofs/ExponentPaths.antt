@@ -1,160 +1,172 @@
--- What `exponent` asks and promises.
-use Prim.Native.Nat.{ℕ, _+_, _≤_, _<_}
-use mathlib.Core.Path.{_≡_, refl, sym, ap, subst, _∙_}
+-- What `base_of` and `exponent` ask and promise.
+use Prim.Native.Nat.{ℕ, _+_, _-_, _≤_, _<_}
+use mathlib.Core.Path.{_≡_, refl, sym, ap, ap₂, subst, _∙_}
+use mathlib.Core.Bool.{true, false}
 use mathlib.Core.List.{List, _++_}
 use native.Mathlib.Omega.{arith}
 use lib.ListN.{length, drop, getD, length-append}
 use Rattle.lists.specs.Asks.{Asks₂, Promises₂}
 use Rattle.term.specs.Sizes.{termRoom}
 use Rattle.term.specs.Tags.{expTag}
-use Rattle.octets.specs.Head.{head-at}
-use Rattle.octets.specs.Splice.Prefix.{Wrote}
-use Rattle.term.specs.Term.{Term, Terms, nil, _&_, count, encode, encodes, symbols, symbolss}
+use Rattle.octets.specs.Head.{head-at, stands-at}
+use Rattle.octets.specs.Splice.Prefix.{Wrote, widen}
+use Rattle.term.specs.Term.{Term, Terms, nil, _&_, count, encode, encodes}
 use Rattle.term.specs.Arity.{arity}
 use Rattle.term.specs.Reader.{symbolAt}
 use Rattle.message.specs.Functions.{exp}
-use Rattle.message.specs.Canon.{Binary, asBinary}
-use Rattle.message.specs.Gather.{powered, raised}
+use Rattle.message.specs.Gather.{powered}
 use Rattle.factors.specs.Laid.{Laid, OneAt}
-use Rattle.factors.specs.Laid.Laws.{one-after, one-within, laid-one, laid-more}
-use Rattle.product.specs.declared.Base.the-variants as base
-use Rattle.product.specs.Writing.{wrote-same}
+use Rattle.factors.specs.Laid.Laws.{first-of, one-after, one-within, laid-more}
+use Rattle.factors.specs.Way.{wayOf}
+use Rattle.product.specs.Writing.{wrote-same, as-written}
 use Rattle.product.specs.Chain.Laws.{encode-two}
+use Rattle.product.specs.Powers.{powered-factor}
 use Rattle.product.specs.Length.{power-short}
-use Rattle.product.specs.Base.{baseOf}
-use Rattle.product.specs.Base.Laws.{Args, args-two, Inner, base-power, base-plain}
+use Rattle.product.specs.Tower.{isExp, isFactor, bottom, exponents, towered}
+use Rattle.product.specs.Tower.Laws.{bottom-exp, exponents-exp, bottom-other, exponents-other, exponents-size, exp-there, none-there}
+use Rattle.product.specs.Tower.Laws.{single, factor-there}
 use Rattle.product.specs.Contracts.{Whole, WholePower}
-use Rattle.product.specs.Inner.{Power, Behind}
+use Rattle.product.specs.Inner.{Power, Behind, Tower}
 use Rattle.product.proofs.ProductPaths.{one}
 
+-- ── base_of ──
+-- so far down the tower t: at b stands its exp x, and behind that the exponents us of the exps above
+pub record Down (arities src : List ℕ) (at b e : ℕ) (t : Term) : Type 0 where
+  pub x : Term
+  pub us : Terms
+  pub stop : ℕ
+  pub here : OneAt arities src b stop x
+  pub factors : Laid arities src stop us
+  pub ends : e ≡ stop + length (encodes us)
+  pub tags : b ≡ at + count us
+  pub same-bottom : bottom t ≡ bottom x
+  pub same-exponents : exponents t nil ≡ exponents x us
+
+module _ (arities src : List ℕ) (at : ℕ) where
+  pub down-begins : Promises₂ (Behind arities src at) (λ (e : ℕ) (t : Term). Down arities src at at e t)
+  down-begins e t B = record {
+    x = t;
+    us = nil;
+    stop = e;
+    here = B .one;
+    factors = record { formed = tt; range = tt; there = stands-at src e (encodes nil) (drop e src) refl };
+    ends = omega arith;
+    tags = omega arith;
+    same-bottom = refl;
+    same-exponents = refl;
+  }
+
+  module _ (b : ℕ) (D : Promises₂ (Behind arities src at) (λ (e : ℕ) (t : Term). Down arities src at b e t)) where
+    pub down-inside : Asks₂ (Behind arities src at) → b < length src
+    down-inside J = let d = D (J .0) (J .1) (J .2) in omega (arith, one-after (d .here), one-within (d .here))
+
+    pub down-next : isExp (symbolAt src arities b) ≡ true → Promises₂ (Behind arities src at) (λ (e : ℕ) (t : Term). Down arities src at (b + 1) e t)
+    down-next h e t B =
+        let d = D e t B in
+        let I = exp-there (B .group) (d .x) (d .here) h in
+        record {
+          x = I .x;
+          us = I .y & d .us;
+          stop = I .args .middle;
+          here = I .args .first;
+          factors = laid-more (I .args .second) (d .factors);
+          ends = omega (arith, d .ends, I .args .second .there .ends, length-append (encode (I .y)) (encodes (d .us)));
+          tags = omega (arith, d .tags);
+          same-bottom = d .same-bottom ∙ ap bottom (I .is) ∙ bottom-exp (I .x) (I .y);
+          same-exponents = d .same-exponents ∙ ap (λ (u : Term). exponents u (d .us)) (I .is) ∙ exponents-exp (I .x) (I .y) (d .us);
+        }
+
+    pub down-ends : isExp (symbolAt src arities b) ≡ false → Promises₂ (Behind arities src at) (λ (e : ℕ) (t : Term). Tower arities src at b e t)
+    down-ends h e t B =
+        let d = D e t B in
+        let n = none-there (B .group) (d .x) (d .here) h in
+        let p : bottom t ≡ d .x = d .same-bottom ∙ bottom-other (d .x) n in
+        let q : exponents t nil ≡ d .us = d .same-exponents ∙ exponents-other (d .x) (d .us) n in
+        record {
+          stop = d .stop;
+          base = rw p (d .here);
+          factors = rw q (d .factors);
+          ends = rw q (d .ends);
+          tags = rw q (d .tags);
+        }
+
+-- ── exponent ──
 module _ (arities out : List ℕ) (o e : ℕ) where
   module _ (x y : Term) (R : Whole arities out o e (exp x y)) where
-    args : Args arities out o e x y
-    args = args-two x y (one arities out o e (exp x y) R)
+    tower : Behind arities out o e (exp x y)
+    tower = record { group = R .group; one = one arities out o e (exp x y) R; short = R .short }
 
     tag : getD out o 0 ≡ expTag
     tag = head-at out o 10 _ (R .stands .there ∙ ap (λ (l : List ℕ). l ++ drop e out) (encode-two 10 (omega arith) x y)) .here
 
-  pub raise-inside : Asks₂ (WholePower arities out o e) → o + 1 < length out
-  raise-inside J =
-      let A = args (J .0) (J .1) (J .2) in
-      omega (arith, one-after (A .first), one-within (A .first))
+  pub tower-asks : Asks₂ (WholePower arities out o e) → Asks₂ (Behind arities out o)
+  tower-asks J = (_, _, tower (J .0) (J .1) (J .2))
 
-  -- a power at o whose factors end at e
-  power :
-      (x y : Term) (R : Whole arities out o e (exp x y)) (b z k : ℕ) (t : Term) (ts : Terms) → o < b → OneAt arities out b z t → Laid arities out z ts
-      → count ts ≡ k → z + length (encodes ts) ≡ e → symbolss ts ≤ symbols (exp x y)
-      → raised (asBinary expTag x) x y ≡ powered t ts → Power arities out o b z k e t ts
-  power x y R b z k t ts h O L c q f s = record {
-    tag = tag x y R;
-    before = h;
-    base = O;
-    factors = L;
-    ends = sym q;
-    many = c;
-    few = omega (arith, R .few);
-    room = R .room;
-    short = R .short;
-    fits = omega (
-      arith,
-      power-short (arity arities) (R .group) x y (R .formed .1 .0) (R .formed .1 .1 .0),
-      ap (λ (u : Term). length (encode u)) s,
-      R .stands
-          .ends,
-    );
-    small = omega (arith, R .small, R .stands .ends);
-  }
+  module _ (b : ℕ) (T : Promises₂ (Behind arities out o) (λ (e : ℕ) (t : Term). Tower arities out o b e t)) where
+    module _ (x y : Term) (R : Whole arities out o e (exp x y)) where
+      abbrev t : Term
+      t = exp x y
 
-  powered-raised :
-      (x y : Term) (b z k : ℕ) (t : Term) (ts : Terms) (out′ : List ℕ) (r : ℕ) → Promises₂ (Power arities out o b z k e)
-      (λ (t : Term) (ts : Terms). Wrote (e + termRoom) out o out′ r (encode (powered t ts)))
-      → Power arities out o b z k e t ts → raised (asBinary expTag x) x y ≡ powered t ts
-      → Wrote (e + termRoom) out o out′ r (encode (raised (asBinary expTag x) x y))
-  powered-raised x y b z k t ts out′ r D P s = wrote-same (ap encode (sym s)) (D t ts P)
+      at-base : Tower arities out o b e t
+      at-base = T e t (tower x y R)
 
-  -- ── the base is an exp ──
-  module _ (b : ℕ) (w : baseOf (symbolAt out arities (o + 1)) ≡ base.Power b) where
-    inner : (x y : Term) (R : Whole arities out o e (exp x y)) → Inner arities out (o + 1) (args x y R .middle) b x
-    inner x y R = base-power (R .group) b x (args x y R .first) w
+      base-behind : Behind arities out b (at-base .stop) (bottom t)
+      base-behind = record { group = R .group; one = at-base .base; short = R .short }
 
-    inner-base : (x y : Term) (R : Whole arities out o e (exp x y)) → OneAt arities out b (inner x y R .args .middle) (inner x y R .x)
-    inner-base x y R =
-        let I = inner x y R in
-        subst (λ (j : ℕ). OneAt arities out j (I .args .middle) (I .x)) (sym (I .start)) (I .args .first)
+      some : 1 ≤ count (exponents t nil)
+      some = rw (exponents-exp x y nil) (exponents-size x (y & nil) .0)
 
-    pub inner-asks : Asks₂ (WholePower arities out o e) → Asks₂ (Behind arities out b)
-    inner-asks J = (_, _, record { one = inner-base (J .0) (J .1) (J .2); short = J .2 .short })
+    pub base-asks : Asks₂ (WholePower arities out o e) → Asks₂ (Behind arities out b)
+    base-asks J = (_, _, base-behind (J .0) (J .1) (J .2))
+
+    pub base-after : Asks₂ (WholePower arities out o e) → o ≤ b
+    base-after J = omega (arith, at-base (J .0) (J .1) (J .2) .tags)
 
     module _ (z : ℕ) (K : Promises₂ (Behind arities out b) (λ (e : ℕ) (t : Term). z ≡ e)) where
       module _ (x y : Term) (R : Whole arities out o e (exp x y)) where
-        abbrev I : Inner arities out (o + 1) (args x y R .middle) b x
-        I = inner x y R
+        power : Power arities out o b z (b - o) e (bottom (exp x y)) (exponents (exp x y) nil)
+        power =
+            let A = at-base x y R in
+            let s : z ≡ A .stop = K _ _ (base-behind x y R) in
+            let n = exponents-size (exp x y) nil in
+            record {
+              tag = tag x y R;
+              before = omega (arith, A .tags, some x y R);
+              base = rw s (A .base);
+              factors = rw s (A .factors);
+              ends = rw s (A .ends);
+              many = omega (arith, A .tags);
+              few = omega (arith, n .1, R .few);
+              room = R .room;
+              short = R .short;
+              fits = omega (
+                arith,
+                A .ends,
+                A .tags,
+                A .base .there .ends,
+                power-short (arity arities) (R .group) (bottom (exp x y)) (exponents (exp x y) nil) (some x y R) (A .factors .formed),
+              );
+              small = omega (arith, R .small, R .stands .ends);
+            }
 
-        z-is : z ≡ I .args .middle
-        z-is = K _ _ (record { one = inner-base x y R; short = R .short })
+      pub power-asked : Asks₂ (WholePower arities out o e) → Asks₂ (Power arities out o b z (b - o) e)
+      power-asked J = (_, _, power (J .0) (J .1) (J .2))
 
-        laid : Laid arities out z (I .y & y & nil)
-        laid = rw z-is (laid-more (I .args .second) (laid-one (args x y R .second)))
+      -- one exp whose exponent is a factor
+      pub factor-done : b - o ≡ 1 → isFactor (wayOf (symbolAt out arities z)) ≡ true → Promises₂ (WholePower arities out o e)
+          (λ (x y : Term). Wrote (e + termRoom) out o out e (encode (towered (exp x y))))
+      unfolding towered
+      factor-done h f x y R =
+          let A = at-base x y R in
+          let s : z ≡ A .stop = K _ _ (base-behind x y R) in
+          let q = single (arity arities) (R .group) x y (R .formed .1 .0) (omega (arith, A .tags)) in
+          let L : Laid arities out z (y & nil) = subst (λ (ts : Terms). Laid arities out z ts) (q .1) (rw s (A .factors)) in
+          let p : powered (bottom (exp x y)) (exponents (exp x y) nil) ≡ exp x y =
+          ap₂ powered (q .0) (q .1) ∙ powered-factor x y (factor-there y (first-of L) f) in
+          wrote-same (ap encode (sym p)) (widen (e + termRoom) (omega arith) (as-written out o e (encode (exp x y)) (R .stands)))
 
-        inner-end : z + length (encodes (I .y & y & nil)) ≡ e
-        inner-end =
-            omega (
-              arith,
-              z-is,
-              I .args .second .there .ends,
-              args x y R .second .there .ends,
-              length-append (encode (I .y)) (encodes (y & nil)),
-              length-append (encode y) (encodes nil),
-            )
-
-        same : raised (asBinary expTag x) x y ≡ powered (I .x) (I .y & y & nil)
-        unfolding raised
-        same = ap (λ (u : Term). raised (asBinary expTag u) u y) (I .is)
-
-        inner-power : Power arities out o b z 2 e (I .x) (I .y & y & nil)
-        inner-power =
-            power x y R b z 2 (I .x) (I .y & y & nil) (omega (arith, I .start)) (rw z-is (inner-base x y R)) laid refl inner-end
-            (omega (arith, ap symbols (I .is))) same
-
-      pub inner-powers : Asks₂ (WholePower arities out o e) → Asks₂ (Power arities out o b z 2 e)
-      inner-powers J = (_, _, inner-power (J .0) (J .1) (J .2))
-
-      pub inner-raised : (out′ : List ℕ) (r : ℕ) → Promises₂ (Power arities out o b z 2 e)
+      pub tower-done : (out′ : List ℕ) (r : ℕ) → Promises₂ (Power arities out o b z (b - o) e)
           (λ (t : Term) (ts : Terms). Wrote (e + termRoom) out o out′ r (encode (powered t ts))) → Promises₂ (WholePower arities out o e)
-          (λ (x y : Term). Wrote (e + termRoom) out o out′ r (encode (raised (asBinary expTag x) x y)))
-      inner-raised out′ r D x y R =
-          powered-raised x y b z 2 _ _ out′ r D (inner-power x y R) (same x y R)
-
-  -- ── it is none ──
-  module _ (w : baseOf (symbolAt out arities (o + 1)) ≡ base.Plain) where
-    pub outer-asks : Asks₂ (WholePower arities out o e) → Asks₂ (Behind arities out (o + 1))
-    outer-asks J = (_, _, record { one = args (J .0) (J .1) (J .2) .first; short = J .2 .short })
-
-    module _ (z : ℕ) (K : Promises₂ (Behind arities out (o + 1)) (λ (e : ℕ) (t : Term). z ≡ e)) where
-      module _ (x y : Term) (R : Whole arities out o e (exp x y)) where
-        abbrev A : Args arities out o e x y
-        A = args x y R
-
-        y-at : z ≡ A .middle
-        y-at = K _ _ (record { one = A .first; short = R .short })
-
-        to-e : z + length (encodes (y & nil)) ≡ e
-        to-e = omega (arith, y-at, A .second .there .ends, length-append (encode y) (encodes nil))
-
-        plain : raised (asBinary expTag x) x y ≡ powered x (y & nil)
-        unfolding raised
-        plain = ap (λ (u : Binary). raised u x y) (base-plain (R .group) x (A .first) w)
-
-        outer-power : Power arities out o (o + 1) z 1 e x (y & nil)
-        outer-power =
-            power x y R (o + 1) z 1 x (y & nil) (omega arith) (rw y-at (A .first)) (rw y-at (laid-one (A .second))) refl to-e
-            (omega arith) plain
-
-      pub outer-powers : Asks₂ (WholePower arities out o e) → Asks₂ (Power arities out o (o + 1) z 1 e)
-      outer-powers J = (_, _, outer-power (J .0) (J .1) (J .2))
-
-      pub outer-raised : (out′ : List ℕ) (r : ℕ) → Promises₂ (Power arities out o (o + 1) z 1 e)
-          (λ (t : Term) (ts : Terms). Wrote (e + termRoom) out o out′ r (encode (powered t ts))) → Promises₂ (WholePower arities out o e)
-          (λ (x y : Term). Wrote (e + termRoom) out o out′ r (encode (raised (asBinary expTag x) x y)))
-      outer-raised out′ r D x y R =
-          powered-raised x y (o + 1) z 1 _ _ out′ r D (outer-power x y R) (plain x y R)
+          (λ (x y : Term). Wrote (e + termRoom) out o out′ r (encode (towered (exp x y))))
+      unfolding towered
+      tower-done out′ r D x y R = D _ _ (power x y R)

@@ -8,8 +8,10 @@ use lib.IntN.{ℤ}
 use Rattle.octets.specs.Limits.{longest}
 use Rattle.term.specs.Sizes.{mostSymbols, termRoom}
 use Rattle.term.specs.Tags.{expTag}
-use Rattle.term.specs.Term.{Term, Terms, count, encode, encodes, symbolss}
+use Rattle.term.specs.Term.{Term, Terms, nil, count, encode, encodes, symbolss}
+use Rattle.term.specs.Arity.{arity}
 use Rattle.message.specs.Product.{Exps}
+use Rattle.message.specs.Rules.{FitArities}
 use Rattle.message.specs.Gather.{powered}
 use Rattle.factors.specs.Mass.{mass}
 use Rattle.factors.specs.Rows.{Table}
@@ -17,6 +19,7 @@ use Rattle.factors.specs.Laid.{Laid, OneAt}
 use Rattle.factors.specs.Contracts.{Room}
 use Rattle.product.specs.Chain.{row, sides, written}
 use Rattle.product.specs.Side.{side}
+use Rattle.product.specs.Tower.{bottom, exponents}
 
 -- ── writing from a table ──
 -- the factors l stand in the front of out, none behind o; their table has room, and they are few
@@ -66,5 +69,15 @@ pub record Power (arities out : List ℕ) (o b z k e : ℕ) (t : Term) (ts : Ter
 
 -- ── the place behind a term ──
 pub record Behind (arities src : List ℕ) (at e : ℕ) (t : Term) : Type 0 where
+  pub group : FitArities (arity arities)
   pub one : OneAt arities src at e t
   pub short : length src ≤ longest
+
+-- ── a tower of exps ──
+-- the tower t stands from `at` up to e: the tags of its exps, from b on its base, and from `stop` on its exponents
+pub record Tower (arities src : List ℕ) (at b e : ℕ) (t : Term) : Type 0 where
+  pub stop : ℕ
+  pub base : OneAt arities src b stop (bottom t)
+  pub factors : Laid arities src stop (exponents t nil)
+  pub ends : e ≡ stop + length (encodes (exponents t nil))
+  pub tags : b ≡ at + count (exponents t nil)

@@ -6,10 +6,12 @@ pub mod Writing
 pub mod Chain
 -- the factors on one side of a table: those of positive exponent, or those of negative; its laws
 pub mod Side
+-- the power of a term to some others: as to one product, and to a factor
+pub mod Powers
 -- a product and a power are no longer than what stood there
 pub mod Length
--- where the base of an exp begins
-pub mod Base
+-- towers of exps: their base, their exponents, the power that they are
+pub mod Tower
 -- what `multiply` and `exponent` are asked, and what they promise
 pub mod Contracts
 -- what the functions inside are asked, and what they promise

@@ -1,11 +1,11 @@
 -- More laws of writing: what was copied, a byte and then more, a byte that stood there, what is written over, what stays.
 use Prim.Native.Nat.{ℕ, _+_, _-_, _≤_, _<_}
-use mathlib.Core.Path.{_≡_, sym, ap, _∙_, subst, subst₂}
+use mathlib.Core.Path.{_≡_, refl, sym, ap, _∙_, subst, subst₂}
 use mathlib.Core.List.{List, [], _∷_, _++_, append-assoc, append-nil}
 use native.Mathlib.Numerals.{add-one}
 use native.Mathlib.Omega.{arith}
 use lib.ListN.{length, take, drop, getD, set, length-drop, drop-of-length-le}
-use lib.Seq.{take-suc, take-at, take-add, take-take, drop-at, length-take-le}
+use lib.Seq.{take-suc, take-at, take-add, take-take, take-append-seam, drop-at, length-take-le}
 use Rattle.octets.specs.Head.{Stands, stands-part}
 use Rattle.octets.specs.Splice.{splice}
 use Rattle.octets.specs.Splice.Prefix.{Wrote, widen, splice-wrote, wrote-one, wrote-then, wrote-there}
@@ -43,6 +43,16 @@ stands-before w out out′ o r x q e h f = record {
       ∙ ap (λ (l : List ℕ). l ++ q) t
       ∙ append-assoc (take o out) (x ∷ []) q;
   kept = f .kept;
+}
+
+-- what stands there counts as written
+pub as-written : (out : List ℕ) (o e : ℕ) (q : List ℕ) → Stands out o q e → Wrote e out o out e q
+as-written out o e q h = record {
+  ends = h .ends;
+  bytes =
+      ap (λ (k : ℕ). take k out) (h .ends) ∙ take-add o (length q) out
+      ∙ ap (λ (z : List ℕ). take o out ++ z) (ap (take (length q)) (h .there) ∙ take-append-seam q (drop e out));
+  kept = refl;
 }
 
 -- what stands below is as it was

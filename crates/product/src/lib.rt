@@ -5,21 +5,22 @@ ghost use lib.ListN.{length};
 ghost use lib.IntN.{natAbs};
 ghost use mathlib.Core.List.{_∷_};
 ghost use mathlib.Core.Bool.{true, false};
-ghost use Rattle.message.specs.Canon.{asBinary};
-ghost use Rattle.message.specs.Gather.{multiplied, raised, powered};
+ghost use Rattle.message.specs.Functions.{exp};
+ghost use Rattle.message.specs.Gather.{multiplied, powered};
 ghost use Rattle.term.specs.Term.{Term, Terms, encode, nil, _&_};
 ghost use Rattle.message.specs.Product.{Exps};
 ghost use Rattle.lists.specs.Asks.{Asks, Asks₂, Promises, Promises₂};
 ghost use Rattle.octets.specs.Splice.Prefix.{Wrote};
 ghost use Rattle.term.specs.Sizes.{termRoom};
-ghost use Rattle.term.specs.Tags.{expTag};
 ghost use Rattle.term.specs.Reader.{symbolAt};
 ghost use Rattle.product.specs.Writing.{bytesIn};
 ghost use Rattle.product.specs.Chain.{repeated, copies, row, sides, written};
 ghost use Rattle.product.specs.Side.{signedLimit, rise, Next, Small, side};
-ghost use Rattle.product.specs.Base.{baseOf};
+ghost use Rattle.product.specs.Tower.{isExp, isFactor, towered};
+ghost use Rattle.factors.specs.Way.{wayOf};
 ghost use Rattle.product.specs.Contracts.{Whole, WholePower};
-ghost use Rattle.product.specs.Inner.{Lay, Both, Prod, Power, Behind};
+ghost use Rattle.product.specs.Inner.{Lay, Both, Prod, Power, Behind, Tower};
+use factors::Way;
 use term::Symbol;
 
 // The tags that are written, as bytes.
@@ -28,17 +29,6 @@ const ONE: u8 = term::ONE as u8;
 const INV: u8 = term::INV as u8;
 
 const MUL: u8 = term::MUL as u8;
-
-// The factors of a power's exponent: its own, or also that of the exp in its base.
-const OWN: usize = 1;
-
-const BOTH: usize = 2;
-
-// Whether the base of an exp is an exp itself, whose arguments begin at a place.
-pub enum Base {
-    Power(usize),
-    Plain,
-}
 
 // How often a factor of exponent p stands on the side of the sign; true is minus.
 fn rises(p: i32, minus: bool) -> usize
@@ -215,20 +205,27 @@ fn power_at(
     y + (n - e)
 }
 
-// What the first argument of an exp is.
-fn base_at(src: &[u8], arities: &[u8], at: usize) -> Base
-    ensures { λ r. ⌜ r ≡ baseOf (symbolAt (now (src .entry)) (now (arities .entry)) at) ⌝ }
+// Whether the term at a place is an exp.
+fn is_exp(src: &[u8], arities: &[u8], at: usize) -> bool
+    ensures { λ r. ⌜ r ≡ isExp (symbolAt (now (src .entry)) (now (arities .entry)) at) ⌝ }
 {
     match term::symbol_at(src, arities, at) {
-        Symbol::Leaf(_, _, _) => Base::Plain,
-        Symbol::Op(t, _, e) => {
-            if t == term::EXP {
-                return Base::Power(e);
-            }
-            Base::Plain
-        }
-        Symbol::Fault => Base::Plain,
+        Symbol::Leaf(_, _, _) => false,
+        Symbol::Op(t, _, _) => t == term::EXP,
+        Symbol::Fault => false,
     }
+}
+
+// Where the base of the tower of exps at a place begins: behind their tags.
+fn base_of(src: &[u8], arities: &[u8], at: usize) -> usize
+    requires { ⌜ Asks₂ (Behind (now arities) (now src) at) ⌝ }
+    ensures { λ r. ⌜ Promises₂ (Behind (now (arities .entry)) (now (src .entry)) at) (λ (e : ℕ) (t : Term). Tower (now (arities .entry)) (now (src .entry)) at r e t) ⌝ }
+{
+    let mut b = at;
+    while is_exp(src, arities, b) {
+        b += 1;
+    }
+    b
 }
 
 // The place behind the term at a place.
@@ -239,20 +236,29 @@ fn behind(src: &[u8], arities: &[u8], at: usize) -> usize
     at + term::term_part(src, arities, at).len()
 }
 
-// exp(x, y) from o up to e becomes the power: returns where that ends.
+// Whether the term at a place is a factor itself: no mul, inv or one.
+fn is_factor(src: &[u8], arities: &[u8], at: usize) -> bool
+    ensures { λ r. ⌜ r ≡ isFactor (wayOf (symbolAt (now (src .entry)) (now (arities .entry)) at)) ⌝ }
+{
+    match factors::way_at(src, arities, at) {
+        Way::On(_, _) => false,
+        Way::Turn(_, _) => false,
+        Way::Leaf(_) => true,
+        Way::Factor => true,
+    }
+}
+
+// The tower of exps from o up to e becomes the power of its base, the exponents multiplied out once: returns where that ends.
+// One exp whose exponent is a factor is that power already.
 pub fn exponent(out: &mut [u8], o: usize, e: usize, arities: &[u8]) -> usize
     requires { ⌜ Asks₂ (WholePower (now arities) (now out) o e) ⌝ }
-    ensures { λ r. ⌜ Promises₂ (WholePower (now (arities .entry)) (now (out .entry)) o e) (λ (x y : Term). Wrote (e + termRoom) (now (out .entry)) o (now (out .exit)) r (encode (raised (asBinary expTag x) x y))) ⌝ }
+    ensures { λ r. ⌜ Promises₂ (WholePower (now (arities .entry)) (now (out .entry)) o e) (λ (x y : Term). Wrote (e + termRoom) (now (out .entry)) o (now (out .exit)) r (encode (towered (exp x y)))) ⌝ }
 {
-    let a = o + 1;
-    match base_at(out, arities, a) {
-        Base::Power(b) => {
-            let z = behind(out, arities, b);
-            power_at(out, o, b, z, BOTH, e, arities)
-        }
-        Base::Plain => {
-            let z = behind(out, arities, a);
-            power_at(out, o, a, z, OWN, e, arities)
-        }
+    let b = base_of(out, arities, o);
+    let z = behind(out, arities, b);
+    let k = b - o;
+    if (k == 1) & is_factor(out, arities, z) {
+        return e;
     }
+    power_at(out, o, b, z, k, e, arities)
 }
