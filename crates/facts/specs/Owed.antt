@@ -16,6 +16,7 @@ use Rattle.steps.specs.Causes.Good.{RightNodes}
 use Rattle.facts.specs.declared.writing.Wanted.{Wanted}
 use Rattle.facts.specs.declared.writing.Wanted.the-variants as want
 use Rattle.facts.specs.declared.nodes.FactId.{FactId}
+use Rattle.facts.specs.Writing.{factRoom}
 use Rattle.facts.specs.Calls.{NodeOf, ListedFact, FactIn, FactsIn, Room, factAt}
 use Rattle.facts.specs.Calls.Laws.{fact-listed}
 
@@ -69,3 +70,7 @@ module _ {p s nodes : List ℕ} {n : ℕ} where
 -- room stays room
 pub room-kept : (out out′ : List ℕ) (o : ℕ) → length out′ ≡ length out → Room out o → Room out′ o
 room-kept out out′ o same r = record { enough = omega (arith, r .enough); short = omega (arith, r .short) }
+
+-- room for two facts is room for one from the start
+pub room-start : {out : List ℕ} → Room out factRoom → Room out 0
+room-start r = record { enough = omega (arith, r .enough); short = r .short }

@@ -14,7 +14,7 @@ pub mod Causes
 -- ── the devices ──
 -- the facts of a list of nodes, each with its place
 pub mod Places
--- the writer over facts, and the same with a mark on each linear conclusion that is used
+-- the writer over facts
 pub mod Writer
 -- the passes over a graph
 pub mod Checker
@@ -31,8 +31,6 @@ pub mod Refusals
 pub mod Acceptance
 -- the whole list of nodes: what the writer draws and refuses, in the table's words
 pub mod Whole
--- the marked writer draws what the writer draws
-pub mod Marks
 -- an accepted graph has as many edges as premises
 pub mod Size
 -- small cases, computed

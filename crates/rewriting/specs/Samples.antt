@@ -13,7 +13,7 @@ use Rattle.rewriting.specs.Table.{Ruling, passed, refused, fixedRow, Rul
 use Rattle.rewriting.specs.Table.Laws.{ruled, ruled-then, ruled-and-then}
 use Rattle.rewriting.specs.Table.Passes.{lessPass, needPass}
 use Rattle.rewriting.specs.Causes.{graphRows, drawRows}
-use Rattle.rewriting.specs.Writer.{draw, markedDraw}
+use Rattle.rewriting.specs.Writer.{draw}
 use Rattle.rewriting.specs.Checker.{checkGraph}
 use Rattle.rewriting.specs.Acceptance.{check-table}
 use Rattle.rewriting.specs.Whole.{draw-table}
@@ -76,9 +76,6 @@ twins-run = (_, refl)
 
 twins-draw : draw Numbers twins ≡ passed (edge 1 1 3 1 ∷ edge 2 2 3 2 ∷ edge 2 1 3 3 ∷ edge 2 2 3 4 ∷ [])
 twins-draw = refl
-
-twins-marked : markedDraw Numbers twins ≡ draw Numbers twins
-twins-marked = refl
 
 twins-check : check twins (edge 2 2 3 4 ∷ edge 1 1 3 1 ∷ edge 2 2 3 2 ∷ edge 2 1 3 3 ∷ []) ≡ passed 4
 twins-check = refl

@@ -1,11 +1,11 @@
 -- The graph writer over facts: each premise, in order, takes the lowest earlier conclusion that is the same and, if linear, unused.
-use mathlib.Core.Bool.{Bool, false, cond, not, _&&_, _||_}
+use mathlib.Core.Bool.{cond}
 use mathlib.Core.List.{List, [], _∷_, _++_}
 use mathlib.Core.Option.{Option, none, some}
 use Prim.Native.Nat.{ℕ, suc}
 use Rattle.lists.specs.Lists.{firstBy, removeBy, scan}
 use Rattle.rewriting.specs.Facts.{Facts}
-use Rattle.rewriting.specs.Graph.{Node, Place, Edge, nameOf, samePlace}
+use Rattle.rewriting.specs.Graph.{Node, Place, Edge, nameOf}
 use Rattle.rewriting.specs.Machine.{madeAlready}
 use Rattle.rewriting.specs.Table.{Ruling, passed, refused, orRefuse}
 use Rattle.rewriting.specs.Places.{Placed, placed}
@@ -35,7 +35,6 @@ addNode k none r = refused 14 k
 addNode k (some es) (passed fs) = passed (es ++ fs)
 addNode k (some es) (refused n j) = refused n j
 
--- With the conclusions that are free, in order.
 module _ (F : Facts) where
   -- What is left when a premise takes its source: the first that is the same leaves, if it is linear.
   abbrev pub takeOne : F .Fact → List (Placed (F .Fact)) → List (Placed (F .Fact))
@@ -62,32 +61,3 @@ module _ (F : Facts) where
   -- "Drawing: .. 9, 14": 9 over the whole list, then 14.
   abbrev pub draw : List (Node (F .Fact)) → Ruling (List Edge)
   draw nodes = orRefuse 9 (firstNameTwice nodes) (drawFrom 1 [] nodes)
-
--- With all conclusions of the earlier nodes, in order, and a mark on each linear one that is used.
-abbrev pub markPlace : {Fact : Type 0} → Option (Placed Fact) → (Place → Bool) → Place → Bool
-markPlace none used = used
-markPlace (some t) used = λ a. used a || samePlace (t .place) a
-
-module _ (F : Facts) where
-  -- The lowest conclusion that is the same and not marked.
-  abbrev pub sourceOf : (Place → Bool) → List (Placed (F .Fact)) → F .Fact → Option (Placed (F .Fact))
-  sourceOf used all p = firstBy (λ t. not (used (t .place)) && F .same p (t .fact)) all
-
-  abbrev pub markOne : (Place → Bool) → List (Placed (F .Fact)) → F .Fact → Place → Bool
-  markOne used all p = cond (F .linear p) (markPlace (sourceOf used all p) used) used
-
-  abbrev pub markAll : (Place → Bool) → List (Placed (F .Fact)) → List (F .Fact) → Place → Bool
-  markAll used all [] = used
-  markAll used all (p ∷ ps) = markAll (markOne used all p) all ps
-
-  abbrev pub markedEdges : ℕ → ℕ → (Place → Bool) → List (Placed (F .Fact)) → List (F .Fact) → Option (List Edge)
-  markedEdges k i used all [] = some []
-  markedEdges k i used all (p ∷ ps) = addEdge (record { node = k; index = i }) (sourceOf used all p) (markedEdges k (suc i) (markOne used all p) all ps)
-
-  abbrev pub markedFrom : ℕ → (Place → Bool) → List (Placed (F .Fact)) → List (Node (F .Fact)) → Ruling (List Edge)
-  markedFrom k used all [] = passed []
-  markedFrom k used all (x ∷ xs) =
-      addNode k (markedEdges k 1 used all (x .premises)) (markedFrom (suc k) (markAll used all (x .premises)) (all ++ placed k 1 (x .conclusions)) xs)
-
-  abbrev pub markedDraw : List (Node (F .Fact)) → Ruling (List Edge)
-  markedDraw nodes = orRefuse 9 (firstNameTwice nodes) (markedFrom 1 (λ a. false) [] nodes)

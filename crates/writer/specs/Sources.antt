@@ -1,12 +1,11 @@
 -- A source for each premise, nodes in order and premises in order: how far the choosing has come. The edges so far stand in their table, and
 -- the writer's answer is these edges and what follows.
 use Prim.Native.Nat.{ℕ, suc, _+_, _*_, _≤_, _<_}
-use mathlib.Core.List.{List, [], _∷_, _++_}
+use mathlib.Core.List.{List, [], _++_}
 use mathlib.Core.Bool.{Bool, true, false}
 use mathlib.Core.Path.{_≡_}
 use lib.ListN.{length, getD, drop}
 use Rattle.rewriting.specs.Graph.{Edge}
-use Rattle.rewriting.specs.Facts.{Facts}
 use Rattle.rewriting.specs.Places.{Placed, placed}
 use Rattle.rewriting.specs.Table.{Ruling, passed, refused, andThen}
 use Rattle.rewriting.specs.Writer.{addNode, edgesInto, takeAll, drawFrom}

@@ -1,12 +1,10 @@
 // 14: a source for each premise, nodes in order and premises in order. The edges go into their table.
 ghost use mathlib.Core.Path.{_≡_};
-ghost use mathlib.Core.List.{List};
-ghost use Prim.Native.Nat.{ℕ, suc, _*_, _+_, _≤_, _<_};
+ghost use Prim.Native.Nat.{suc, _*_, _+_, _≤_, _<_};
 ghost use lib.ListN.{length};
 ghost use Rattle.lists.specs.Asks.{Asks₂, Promises₂};
-ghost use Rattle.protocol.specs.Protocol.{Protocol};
 ghost use Rattle.protocol.specs.Figures.{mostFacts};
-ghost use Rattle.steps.specs.Nodes.{Node, mostNodes};
+ghost use Rattle.steps.specs.Nodes.{mostNodes};
 ghost use Rattle.steps.specs.Causes.Good.{RightNodes};
 ghost use Rattle.facts.specs.Writing.{factRoom};
 ghost use Rattle.facts.specs.Calls.{Room};

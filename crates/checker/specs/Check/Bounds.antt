@@ -9,7 +9,7 @@ use lib.ListN.{length}
 use lib.Dec.{eqb}
 use Rattle.lists.specs.Choice.{cut, clash}
 use Rattle.lists.specs.Lists.{nth, bit, countBy}
-use Rattle.lists.specs.Lists.Laws.{map-nth}
+use Rattle.lists.specs.Lists.Laws.{map-nth, nth-bound}
 use Rattle.octets.specs.Head.{Bytes}
 use Rattle.number.specs.Reading.{Read, got, fault}
 use Rattle.number.specs.Reading.Numbers.{below-inside}
@@ -27,7 +27,6 @@ use Rattle.steps.specs.Causes.{graphItem, readRows, readRuling}
 use Rattle.graph.specs.Graph.{Graph, mostEdges, withEdges}
 use Rattle.graph.specs.Graph as graphs
 use Rattle.graph.specs.Graph.Exact.{graph-form}
-use Rattle.graph.specs.Graph.Limits.{nth-bound}
 use Rattle.graph.specs.Causes.{graphRows, graphFileRows, graphRuling, DependencyGraph}
 use Rattle.graph.specs.Causes.Laws.{graph-ruled}
 use Rattle.property.specs.Formula.{Formula}

@@ -9,11 +9,12 @@ use lib.ListN.{length, length-append}
 use Rattle.lists.specs.All.{All}
 use Rattle.lists.specs.All.Laws.{all-map, all-nth, nth-all}
 use Rattle.lists.specs.Lists.{nth}
-use Rattle.lists.specs.Lists.Laws.{at-some, nth-mem, map-nth}
+use Rattle.lists.specs.Lists.Laws.{nth-mem, map-nth, nth-bound}
 use Rattle.octets.specs.Head.{Bytes}
 use Rattle.number.specs.Groups.{groups, numberLimit}
 use Rattle.number.specs.Groups.Laws.{groups-one, groups-more, by-groups, groups-few}
 use Rattle.number.specs.Layout.{flat, listed}
+use Rattle.number.specs.Layout.Laws.{flat-short}
 use Rattle.rewriting.specs.Graph as theory
 use Rattle.rewriting.specs.Graph.{Place, Edge, Joins, inNode}
 use Rattle.rewriting.specs.Size.{premiseCount}
@@ -27,19 +28,7 @@ use Rattle.steps.specs.Runs.{protocolFacts, rewritten, rewrittens, Accepted}
 use Rattle.steps.specs.Runs.Theorems.{accepted-size}
 use Rattle.graph.specs.Graph.{graph-of, mostEdges, encodePlace, encodeEdge, encodeGraph, PlaceWithin, EdgeWithin, GraphWithin}
 
--- ── for crate lists: the number of an element is at most the length ──
-pub nth-bound : {A : Type 0} (xs : List A) (k : ℕ) (x : A) → nth xs k ≡ some x → k ≤ length xs
-nth-bound xs zero x h = absurd (Option·none-ne-some x h)
-nth-bound xs (suc i) x h = let l = at-some x xs i x h in omega (arith, l .0)
-
 -- ── lengths ──
-flat-short : {A : Type 0} (code : A → List ℕ) (c : ℕ) (xs : List A) → All (λ x. length (code x) ≤ c) xs → length (flat code xs) ≤ c * length xs
-flat-short code c [] a = omega arith
-flat-short code c (x ∷ xs) a =
-    let r = flat-short code c xs (a .1) in
-    let e : c * suc (length xs) ≡ c + c * length xs = omega arith in
-    omega (arith, r, e, a .0, length-append (code x) (flat code xs))
-
 -- of the count of edges, and of an edge
 abbrev pub countBytes : ℕ
 countBytes = 2

@@ -6,7 +6,8 @@ use mathlib.Core.List.{List, [], _∷_, _++_, map, List·Memᴰ·head, List·Mem
 use mathlib.Core.Option.{Option, none, some, Option·none-ne-some, Option·some-ne-none, Option·some-injective}
 use Prim.Native.Nat.{ℕ, zero, suc, _+_, _≤_, _<_}
 use native.Mathlib.Omega.{arith}
-use lib.ListN.{getElem?, getD, length}
+use lib.ListN.{getElem?, getD, length, replicate, getD-replicate, length-replicate, List·getD-eq-default}
+use Rattle.lists.specs.Choice.{by-order}
 use Rattle.lists.specs.Lists.{_∈_, bit, countBy, anyBy, allBy, firstBy, removeBy, keepBy, nth, row}
 use Rattle.lists.specs.Tests.{by-bool, by-option, true-false, not-true}
 
@@ -156,31 +157,31 @@ module _ {A : Type 0} where
   at-some d (y ∷ xs) zero x h = (omega arith, Option·some-injective y x h)
   at-some d (y ∷ xs) (suc i) x h = let f = at-some d xs i x h in (omega (arith, f .0), f .1)
 
-  -- The elements that pass a test.
-  pub first-keep : (p q : A → Bool) (l : List A) → firstBy p (keepBy q l) ≡ firstBy (λ a. q a && p a) l
-  first-keep p q [] = refl
-  first-keep p q (x ∷ xs) =
-      let ih = first-keep p q xs in
-      by-bool (q x) (λ t. rw t (by-bool (p x) (λ u. rw u) (λ g. rw g ih))) (λ f. rw f ih)
+  -- A list behind another.
+  pub first-behind : (p : A → Bool) (l m : List A) → firstBy p l ≡ none → firstBy p (l ++ m) ≡ firstBy p m
+  first-behind p [] m h = refl
+  first-behind p (x ∷ xs) m h =
+      by-bool (p x) (λ t. absurd (Option·some-ne-none x (rw t at h))) (λ f. rw f (first-behind p xs m (rw f at h)))
 
-  pub keep-ext : (p q : A → Bool) (l : List A) → ((a : A) → a ∈ l → p a ≡ q a) → keepBy p l ≡ keepBy q l
-  keep-ext p q [] h = refl
-  keep-ext p q (x ∷ xs) h = rw (h x (List·Memᴰ·head refl), keep-ext p q xs (λ a m. h a (List·Memᴰ·tail m)))
+  pub first-before : (p : A → Bool) (l m : List A) (a : A) → firstBy p l ≡ some a → firstBy p (l ++ m) ≡ some a
+  first-before p [] m a h = absurd (Option·none-ne-some a h)
+  first-before p (x ∷ xs) m a h = by-bool (p x) (λ t. rw t (rw t at h)) (λ f. rw f (first-before p xs m a (rw f at h)))
 
-  pub keep-all : (q : A → Bool) (l : List A) → ((a : A) → a ∈ l → q a ≡ true) → keepBy q l ≡ l
-  keep-all q [] h = refl
-  keep-all q (x ∷ xs) h = rw (h x (List·Memᴰ·head refl), keep-all q xs (λ a m. h a (List·Memᴰ·tail m)))
+  pub remove-behind : (p : A → Bool) (l m : List A) → firstBy p l ≡ none → removeBy p (l ++ m) ≡ l ++ removeBy p m
+  remove-behind p [] m h = refl
+  remove-behind p (x ∷ xs) m h =
+      by-bool (p x) (λ t. absurd (Option·some-ne-none x (rw t at h)))
+      (λ f. rw f (ap (λ (l : List A). x ∷ l) (remove-behind p xs m (rw f at h))))
 
-  pub keep-append : (q : A → Bool) (l m : List A) → keepBy q (l ++ m) ≡ keepBy q l ++ keepBy q m
-  keep-append q [] m = refl
-  keep-append q (x ∷ xs) m =
-      let ih = keep-append q xs m in
-      by-bool (q x) (λ t. rw (t, ih)) (λ f. rw (f, ih))
+  pub remove-before : (p : A → Bool) (l m : List A) (a : A) → firstBy p l ≡ some a → removeBy p (l ++ m) ≡ removeBy p l ++ m
+  remove-before p [] m a h = absurd (Option·none-ne-some a h)
+  remove-before p (x ∷ xs) m a h =
+      by-bool (p x) (λ t. rw t) (λ f. rw f (ap (λ (l : List A). x ∷ l) (remove-before p xs m a (rw f at h))))
 
-  pub remove-none : (p : A → Bool) (l : List A) → firstBy p l ≡ none → removeBy p l ≡ l
-  remove-none p [] h = refl
-  remove-none p (x ∷ xs) h =
-      by-bool (p x) (λ t. absurd (Option·some-ne-none x (rw t at h))) (λ f. rw (f, remove-none p xs (rw f at h)))
+  -- The number of an element is at most the length.
+  pub nth-bound : (xs : List A) (k : ℕ) (x : A) → nth xs k ≡ some x → k ≤ length xs
+  nth-bound xs zero x h = absurd (Option·none-ne-some x h)
+  nth-bound xs (suc i) x h = let l = at-some x xs i x h in omega (arith, l .0)
 
   pub count-all : (l : List A) → countBy (λ a. true) l ≡ length l
   count-all [] = refl
@@ -210,3 +211,11 @@ row-same f g (suc k) h = ap₂ (λ x l. x ∷ l) (h 0 (omega arith)) (row-same (
 pub row-map : {A B : Type 0} (f : A → B) (m : ℕ → A) (k : ℕ) → map f (row m k) ≡ row (λ i. f (m i)) k
 row-map f m zero = refl
 row-map f m (suc k) = ap (λ l. f (m 0) ∷ l) (row-map f (λ j. m (suc j)) k)
+
+-- A list of zeros.
+pub zeros-at : (n i : ℕ) → getD (replicate {A = ℕ} n 0) i 0 ≡ 0
+zeros-at n i =
+    by-order i n
+    (λ l. getD-replicate n i 0 0 l)
+    (λ e. List·getD-eq-default (replicate n 0) 0 (omega (arith, e, length-replicate {A = ℕ} n 0)))
+    (λ l. List·getD-eq-default (replicate n 0) 0 (omega (arith, l, length-replicate {A = ℕ} n 0)))

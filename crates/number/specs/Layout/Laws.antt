@@ -1,5 +1,5 @@
 -- Exact layouts of numbers, of things that pass a test, of several things, of one thing after another.
-use Prim.Native.Nat.{ℕ, zero, suc, _+_, _≤_, _<_}
+use Prim.Native.Nat.{ℕ, zero, suc, _+_, _*_, _≤_, _<_}
 use mathlib.Core.List.{List, [], _∷_, _++_, append-assoc}
 use mathlib.Core.Bool.{Bool, true}
 use mathlib.Core.Path.{_≡_, refl, ap, ap₂, sym, _∙_, subst, subst₂}
@@ -13,6 +13,18 @@ use Rattle.number.specs.Reading.Laws.{cut-got, then-got}
 use Rattle.number.specs.Reading.Numbers.{read-back, read-form, below-back, below-inside}
 use Rattle.number.specs.Layout.{flat, listed, Exact}
 use Rattle.lists.specs.All.{All}
+
+-- ── one behind the other: the bytes of two lists, and how many there are at most ──
+pub flat-append : {A : Type 0} (code : A → List ℕ) (l m : List A) → flat code (l ++ m) ≡ flat code l ++ flat code m
+flat-append code [] m = refl
+flat-append code (x ∷ xs) m = ap (λ (l : List ℕ). code x ++ l) (flat-append code xs m) ∙ sym (append-assoc (code x) (flat code xs) (flat code m))
+
+pub flat-short : {A : Type 0} (code : A → List ℕ) (c : ℕ) (xs : List A) → All (λ x. length (code x) ≤ c) xs → length (flat code xs) ≤ c * length xs
+flat-short code c [] a = omega arith
+flat-short code c (x ∷ xs) a =
+    let r = flat-short code c xs (a .1) in
+    let e : c * suc (length xs) ≡ c + c * length xs = omega arith in
+    omega (arith, r, e, a .0, length-append (code x) (flat code xs))
 
 -- a number below n
 pub below-exact : (file : List ℕ) → Bytes file → (n : ℕ) → Exact file (below file n) (λ v. (v < n) × (v < numberLimit)) groups

@@ -2,13 +2,13 @@
 use mathlib.Core.Path.{_≡_, refl, sym, _∙_, ap}
 use mathlib.Core.Logic.{⊎-elim}
 use mathlib.Core.Bool.{true}
-use mathlib.Core.List.{List, [], _∷_, List·Memᴰ·head, List·Memᴰ·tail}
+use mathlib.Core.List.{List, [], _∷_, _++_, List·Memᴰ·head, List·Memᴰ·tail}
 use mathlib.Core.List.{List·Memᴰ·not-nil, List·Memᴰ·cases-cons, List·Memᴰ·append-cases, Memᴰ·append-left, Memᴰ·append-right}
 use mathlib.Core.Option.{Option, some, Option·none-ne-some, Option·some-injective}
 use Prim.Native.Nat.{ℕ, zero, suc, _+_, _≤_}
 use native.Mathlib.Omega.{arith}
 use lib.Dec.{eqb}
-use lib.ListN.{getElem?}
+use lib.ListN.{getElem?, length}
 use Rattle.lists.specs.Tests.{bit-le, bit-true, at-most-one, and-split, and-both, eqb-eq, eqb-self}
 use Rattle.lists.specs.Lists.{_∈_, bit, countBy, nth}
 use Rattle.lists.specs.Lists.Laws.{count-append, count-ext, count-pos, count-mem}
@@ -52,6 +52,14 @@ module _ {Fact : Type 0} where
       let g : t .fact ≡ f = sym (Option·some-injective f (t .fact) c) in
       List·Memᴰ·head (λ d. record { place = record { node = a d; index = n d }; fact = g d })
   placed-has k i (f ∷ fs) t (suc j) a b c = List·Memᴰ·tail (placed-has k (suc i) fs t j a (omega arith) c)
+
+  -- The facts of a list behind another.
+  pub placed-behind : (k i : ℕ) (l m : List Fact) → placed k i (l ++ m) ≡ placed k i l ++ placed k (i + length l) m
+  placed-behind k i [] m = let e : i ≡ i + 0 = omega arith in ap (λ (j : ℕ). placed k j m) e
+  placed-behind k i (f ∷ fs) m =
+      let e : suc i + length fs ≡ i + suc (length fs) = omega arith in
+      ap (λ (l : List (Placed Fact)). record { place = record { node = k; index = i }; fact = f } ∷ l)
+      (placed-behind k (suc i) fs m ∙ ap (λ (j : ℕ). placed k (suc i) fs ++ placed k j m) e)
 
   -- The placed facts of one node.
   pub placed-at : (k : ℕ) (fs : List Fact) (t : Placed Fact) → t ∈ placed k 1 fs → (t .place .node ≡ k) × (nth fs (t .place .index) ≡ some (t .fact))

@@ -8,13 +8,12 @@ use Rattle.rewriting.specs.Graph.{Edge}
 use Rattle.rewriting.specs.Table.{Ruling, passed, refused, Absent, Ruled}
 use Rattle.rewriting.specs.Causes.{graphRows, drawRows}
 use Rattle.rewriting.specs.Checker.{checkGraph}
-use Rattle.rewriting.specs.Writer.{draw, markedDraw}
+use Rattle.rewriting.specs.Writer.{draw}
 use Rattle.rewriting.specs.Runs as runs
 use Rattle.rewriting.specs.Draws as draws
 use Rattle.rewriting.specs.Names as names
 use Rattle.rewriting.specs.Acceptance as acceptance
 use Rattle.rewriting.specs.Whole as whole
-use Rattle.rewriting.specs.Marks as marks
 use Rattle.rewriting.specs.Size as size
 use Rattle.protocol.specs.Protocol.{Protocol}
 use Rattle.steps.specs.Nodes.{Node}
@@ -73,7 +72,3 @@ module _ (p : Protocol) (xs : List Node) where
   -- the two together, one statement about the whole list
   pub whole-list : whole.IsDrawn (protocolFacts p) (rewrittens p xs) ⊎ whole.IsRefused (protocolFacts p) (rewrittens p xs)
   whole-list = whole.whole (protocolFacts p) (rewrittens p xs)
-
-  -- the writer that marks the conclusions it has used draws the same
-  pub marked-draws : markedDraw (protocolFacts p) (rewrittens p xs) ≡ drawn
-  marked-draws = marks.marked-draws (protocolFacts p) (rewrittens p xs)

@@ -5,15 +5,13 @@ use mathlib.Core.Bool.{Bool}
 use mathlib.Core.Logic.{_↔_}
 use mathlib.Core.Path.{_≡_, refl, ap, sym, _∙_}
 use native.Mathlib.Omega.{arith}
-use lib.ListN.{length, getD, replicate, getD-replicate, length-replicate, List·getD-eq-default}
+use lib.ListN.{length, getD}
 use borrow.Author.Tests.{lt-ltb}
 use Rattle.lists.specs.Choice.{pick, by-size}
 use Rattle.term.specs.Term.{variable, public, fresh, Term, leaf, app, encode}
 use Rattle.message.specs.Canon.{canon}
 use Rattle.protocol.specs.Protocol.{Protocol}
 use Rattle.steps.specs.Nodes.{Node}
-use Rattle.facts.specs.Writing.{factRoom}
-use Rattle.facts.specs.Calls.{Room}
 use Rattle.facts.specs.Marks.{from-below}
 use Rattle.trace.specs.Tables.{base, stride}
 use Rattle.trace.specs.Chains.{Classed}
@@ -83,9 +81,6 @@ module _ {raw classes chains : List ℕ} {m : ℕ} {P : Protocol} {xs : List Nod
   classes-are = record { same = class-exact; named = class-name }
 
 -- ── what the parts of the code ask of each other ──
-pub room-less : (work : List ℕ) → Room work factRoom → Room work 0
-room-less work r = record { enough = omega (arith, r .enough); short = r .short }
-
 pub ready :
     {p s nodes entries raw : List ℕ} {total : ℕ} {P : Protocol} {xs : List Node} → ListedAll p s nodes entries total P xs
     → NumberedTo raw (stride * total) P xs → Ready p s nodes entries raw total P xs
@@ -95,7 +90,3 @@ pub classes-made :
     {p s nodes entries raw classes chains : List ℕ} {total : ℕ} {P : Protocol} {xs : List Node} → Ready p s nodes entries raw total P xs
     → Classed (keyAt P xs) raw classes chains (stride * total) → ClassesAre classes (stride * total) P xs
 classes-made r c = classes-are (omega (arith, ready-few r)) (r .numbered) c
-
-pub zeros-at : (n i : ℕ) → getD (replicate {A = ℕ} n 0) i 0 ≡ 0
-zeros-at n i =
-    by-size i n (λ l. getD-replicate n i 0 0 l) (λ l. List·getD-eq-default (replicate n 0) 0 (omega (arith, l, length-replicate {A = ℕ} n 0)))

@@ -10,16 +10,12 @@ use Rattle.octets.specs.Splice.Laws.{splice-nil, splice-splice, length-splice}
 use Rattle.number.specs.Groups.{groups}
 use Rattle.number.specs.Groups.Laws.{groups-few}
 use Rattle.number.specs.Layout.{flat, listed}
+use Rattle.number.specs.Layout.Laws.{flat-append}
 use Rattle.rewriting.specs.Graph.{Edge}
 use Rattle.graph.specs.Graph.{encodeEdge}
 use Rattle.graph.specs.Table.{edgeFields, edgeAt, noEdge, EdgesIn}
 use Rattle.graph.specs.Table.Reading.{edge-same}
 use Rattle.writer.specs.Edges.{numberRoom, numberBytes}
-
--- ── one behind the other ──
-flat-append : {A : Type 0} (code : A → List ℕ) (l m : List A) → flat code (l ++ m) ≡ flat code l ++ flat code m
-flat-append code [] m = refl
-flat-append code (x ∷ xs) m = ap (λ (l : List ℕ). code x ++ l) (flat-append code xs m) ∙ sym (append-assoc (code x) (flat code xs) (flat code m))
 
 -- one number more
 pub bytes-more : (edges : List ℕ) (i : ℕ) → i < length edges → numberBytes edges (i + 1) ≡ numberBytes edges i ++ groups (getD edges i 0)

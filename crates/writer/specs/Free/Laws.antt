@@ -2,41 +2,15 @@
 use Prim.Native.Nat.{ℕ, zero, suc, _+_, _≤_, _<_}
 use mathlib.Core.List.{List, [], _∷_, _++_, append-nil}
 use mathlib.Core.Bool.{Bool, true, false, cond}
-use mathlib.Core.Option.{Option, none, some}
+use mathlib.Core.Option.{none, some}
 use mathlib.Core.Path.{_≡_, refl, ap, ap₂, sym, _∙_}
 use native.Mathlib.Omega.{arith}
 use lib.ListN.{length, getD, set}
 use lib.Seq.{getD-set-same, getD-set-other}
 use Rattle.lists.specs.Choice.{by-order}
-use Rattle.lists.specs.Tests.{by-bool}
 use Rattle.lists.specs.Lists.{firstBy, removeBy}
+use Rattle.lists.specs.Lists.Laws.{first-behind, first-before, remove-behind, remove-before}
 use Rattle.writer.specs.Free.{heldAt, freeTo}
-
--- ── a list behind another ──
-module _ {A : Type 0} (q : A → Bool) where
-  first-behind : (l m : List A) → firstBy q l ≡ none → firstBy q (l ++ m) ≡ firstBy q m
-  first-behind [] m h = refl
-  first-behind (x ∷ xs) m h = by-bool (q x) (λ t. let z = rw t at h in absurd (some-none z)) (λ f. rw f (first-behind xs m (rw f at h)))
-    where
-      some-none : some x ≡ none → ⊥
-      some-none e = let z : _≡_ {A = ℕ} 0 1 = cc in omega arith
-
-  first-before : (l m : List A) (a : A) → firstBy q l ≡ some a → firstBy q (l ++ m) ≡ some a
-  first-before [] m a h = let z : _≡_ {A = ℕ} 0 1 = cc in absurd (omega arith)
-  first-before (x ∷ xs) m a h = by-bool (q x) (λ t. rw t (rw t at h)) (λ f. rw f (first-before xs m a (rw f at h)))
-
-  remove-behind : (l m : List A) → firstBy q l ≡ none → removeBy q (l ++ m) ≡ l ++ removeBy q m
-  remove-behind [] m h = refl
-  remove-behind (x ∷ xs) m h =
-      by-bool (q x) (λ t. let z = rw t at h in absurd (some-none z)) (λ f. rw f (ap (λ (l : List A). x ∷ l) (remove-behind xs m (rw f at h))))
-    where
-      some-none : some x ≡ none → ⊥
-      some-none e = let z : _≡_ {A = ℕ} 0 1 = cc in omega arith
-
-  remove-before : (l m : List A) (a : A) → firstBy q l ≡ some a → removeBy q (l ++ m) ≡ removeBy q l ++ m
-  remove-before [] m a h = let z : _≡_ {A = ℕ} 0 1 = cc in absurd (omega arith)
-  remove-before (x ∷ xs) m a h =
-      by-bool (q x) (λ t. rw t) (λ f. rw f (ap (λ (l : List A). x ∷ l) (remove-before xs m a (rw f at h))))
 
 module _ {A : Type 0} (item : ℕ → A) where
   -- the same entries hold the same

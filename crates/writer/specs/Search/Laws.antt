@@ -10,6 +10,7 @@ use Rattle.lists.specs.Choice.{by-order}
 use Rattle.lists.specs.Asks.{Promises₃}
 use Rattle.lists.specs.All.Laws.{all-inside}
 use Rattle.rewriting.specs.Places.{Placed, placed}
+use Rattle.rewriting.specs.Places.Laws.{placed-behind}
 use Rattle.protocol.specs.Figures.{mostFacts, conclusionList}
 use Rattle.protocol.specs.Protocol.{Fact, Protocol, noFact}
 use Rattle.steps.specs.Nodes.{Node, noNode, NodeWithin, mostNodes}
@@ -20,8 +21,7 @@ use Rattle.steps.specs.Values.{NodeRight}
 use Rattle.steps.specs.Causes.Good.{RightNodes}
 use Rattle.facts.specs.declared.writing.Wanted.the-variants as want
 use Rattle.facts.specs.declared.nodes.FactId.{FactId}
-use Rattle.facts.specs.Writing.{factRoom}
-use Rattle.facts.specs.Calls.{Room, NodeOf, factAt, WholeFact, FactsIn}
+use Rattle.facts.specs.Calls.{NodeOf, factAt, WholeFact, FactsIn}
 use Rattle.facts.specs.Marks.{markOf, markLimit, marks-differ, mark-below}
 use Rattle.facts.specs.Calls.Meaning.{fact-formed}
 use Rattle.graph.specs.Graph.{place-of}
@@ -86,15 +86,16 @@ module _ {p s nodes free : List ℕ} {a : FactId} {mark : ℕ} {P : Protocol} {x
           second = whole-fact (h .right) (entryId v) (i .node) (i .listed);
         })
 
-    module _ (x : FactId) (is : x ≡ entryId v) (b : Bool) (told : b ≡ sameFact (factIn P xs a) (factAt P (x .list) (x .number) (getD xs (x .node) noNode))) where
-      same-entry : b ≡ isSame P xs a (entryPlaced P xs v)
-      same-entry = told ∙ ap (λ (y : FactId). sameFact (factIn P xs a) (factAt P (y .list) (y .number) (getD xs (y .node) noNode))) is
+    module _ (x : FactId) (is : x ≡ entryId v) (b : Bool) (told : b ≡ sameFact (factIn P xs a) (factAt P (x .list) (x .number) (getD xs (x .node) noNode)))
+      where
+        same-entry : b ≡ isSame P xs a (entryPlaced P xs v)
+        same-entry = told ∙ ap (λ (y : FactId). sameFact (factIn P xs a) (factAt P (y .list) (y .number) (getD xs (y .node) noNode))) is
 
-      pub other-fact : b ≡ false → None v → None (v + 1)
-      other-fact f none = next v (none-differs (entryPlaced P xs) (isSame P xs a) free v (sym same-entry ∙ f) none)
+        pub other-fact : b ≡ false → None v → None (v + 1)
+        other-fact f none = next v (none-differs (entryPlaced P xs) (isSame P xs a) free v (sym same-entry ∙ f) none)
 
-      pub found-here : v < mostFacts * a .node → b ≡ true → None v → FirstAt (entryPlaced P xs) (isSame P xs a) free v (mostFacts * a .node)
-      found-here l t none = record { inside = l; mark = mark; held = marked-entry; passes = sym same-entry ∙ t; before = none }
+        pub found-here : v < mostFacts * a .node → b ≡ true → None v → FirstAt (entryPlaced P xs) (isSame P xs a) free v (mostFacts * a .node)
+        found-here l t none = record { inside = l; mark = mark; held = marked-entry; passes = sym same-entry ∙ t; before = none }
 
   -- by the answer
   pub found-at : {r : Source} {v : ℕ} → r ≡ source.At v → Found free a r P xs → FirstAt (entryPlaced P xs) (isSame P xs a) free v (mostFacts * a .node)
@@ -104,13 +105,6 @@ module _ {p s nodes free : List ℕ} {a : FactId} {mark : ℕ} {P : Protocol} {x
   found-nothing e found = subst (λ (q : Source). Found free a q P xs) e found
 
 -- ── entering the conclusions of node k, from 0 ──
-placed-behind : {A : Type 0} (k i : ℕ) (l m : List A) → placed k i (l ++ m) ≡ placed k i l ++ placed k (i + length l) m
-placed-behind k i [] m = let e : i ≡ i + 0 = omega arith in ap (λ (j : ℕ). placed k j m) e
-placed-behind {A} k i (f ∷ fs) m =
-    let e : suc i + length fs ≡ i + suc (length fs) = omega arith in
-    ap (λ (l : List (Placed A)). record { place = place-of k i; fact = f } ∷ l)
-    (placed-behind k (suc i) fs m ∙ ap (λ (j : ℕ). placed k (suc i) fs ++ placed k j m) e)
-
 -- the first i of them are entered
 pub record Entering (k i : ℕ) (free free′ : List ℕ) (P : Protocol) (xs : List Node) : Type 0 where
   pub marked : Marked free′ (mostFacts * k + i) P xs
@@ -228,7 +222,3 @@ module _ {p s nodes : List ℕ} {k : ℕ} {free : List ℕ} {P : Protocol} {xs :
 
     pub inside : (i : ℕ) → i < count → i < length facts
     inside i l = omega (arith, count-is)
-
--- room for two facts is room for one from the start
-pub room-start : {out : List ℕ} → Room out factRoom → Room out 0
-room-start r = record { enough = omega (arith, r .enough); short = r .short }

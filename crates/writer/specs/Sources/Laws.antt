@@ -1,16 +1,16 @@
 -- One premise more, one node more: what follows gives up its first edge, which goes into the table.
-use Prim.Native.Nat.{ℕ, zero, suc, _+_, _*_, _/_, _%_, _≤_, _<_}
+use Prim.Native.Nat.{ℕ, suc, _+_, _*_, _≤_, _<_}
 use mathlib.Core.List.{List, [], _∷_, _++_, append-assoc, append-nil}
-use mathlib.Core.Bool.{Bool, true, false, cond}
+use mathlib.Core.Bool.{Bool, cond}
 use mathlib.Core.Option.{Option, none, some}
-use mathlib.Core.Path.{_≡_, refl, ap, ap₂, sym, _∙_, subst, subst₂}
+use mathlib.Core.Path.{_≡_, refl, ap, ap₂, sym, _∙_, subst}
 use native.Mathlib.Omega.{arith}
-use lib.ListN.{length, getD, set, drop, replicate, length-append, length-set, length-map, drop-of-length-le, length-replicate, getD-replicate, List·getD-append, List·getD-eq-default}
+use lib.ListN.{length, getD, set, drop, length-append, length-set, length-map, drop-of-length-le, List·getD-append}
 use lib.Seq.{drop-cons, getD-append-seam, getD-set-same, getD-set-other}
-use Rattle.lists.specs.Choice.{pick, by-order, by-size}
+use Rattle.lists.specs.Choice.{pick, by-order}
 use Rattle.lists.specs.Tests.{by-bool}
-use Rattle.lists.specs.Asks.{Promises₂, Promises₃}
-use Rattle.lists.specs.Lists.{firstBy, removeBy}
+use Rattle.lists.specs.Asks.{Promises₃}
+use Rattle.lists.specs.Lists.{removeBy}
 use Rattle.lists.specs.All.Laws.{all-inside, map-at}
 use Rattle.rewriting.specs.Graph as graph
 use Rattle.rewriting.specs.Graph.{Edge, Place}
@@ -20,13 +20,13 @@ use Rattle.rewriting.specs.Writer.{addEdge, addNode, edgesInto, takeOne, takeAl
 use Rattle.protocol.specs.Figures.{mostFacts, premiseList, conclusionList}
 use Rattle.protocol.specs.Protocol.{Fact, Protocol, noFact}
 use Rattle.steps.specs.Nodes.{Node, noNode, NodeWithin, mostNodes}
-use Rattle.steps.specs.Facts.{factsOf, sameFact, isLinear}
+use Rattle.steps.specs.Facts.{factsOf, isLinear}
 use Rattle.steps.specs.Facts.Counts.{facts-few}
 use Rattle.steps.specs.Runs.{protocolFacts, rewritten, rewrittens}
 use Rattle.steps.specs.Table.Laws.{node-in}
 use Rattle.steps.specs.Causes.Good.{RightNodes}
 use Rattle.facts.specs.declared.nodes.FactId.{FactId}
-use Rattle.facts.specs.Calls.{factAt, NodeOf, WholeFact}
+use Rattle.facts.specs.Calls.{NodeOf, WholeFact}
 use Rattle.facts.specs.Marks.{markOf}
 use Rattle.graph.specs.Graph.{place-of, edge-of, mostEdges}
 use Rattle.graph.specs.Uses.{countTable}
@@ -34,10 +34,10 @@ use Rattle.graph.specs.Table.{edgeFields, edgeAt, edgeTable, noEdge, EdgesIn}
 use Rattle.graph.specs.Table.Reading.{edge-same}
 use Rattle.writer.specs.Free.{Marked, entryPlace, entryPlaced, freeIn}
 use Rattle.writer.specs.Free.Laws.{FirstAt, NoneTo, first-is, taken-is}
-use Rattle.writer.specs.Search.{factIn, isSame, Searching, AtNode, Entered}
+use Rattle.writer.specs.Search.{isSame, Searching, AtNode, Entered}
 use Rattle.writer.specs.Search.Laws.{whole-fact}
-use Rattle.writer.specs.Sources.{EdgePut, edgesThen, allEdges, premisesThen, premises, fromPremise, fromNode}
-use Rattle.writer.specs.Sources.{Reached, Feeding, AtPremise, Choosing, Chosen}
+use Rattle.writer.specs.Sources.{EdgePut, edgesThen, allEdges, premisesThen, premises, fromPremise}
+use Rattle.writer.specs.Sources.{Feeding, AtPremise, Choosing, Chosen}
 
 -- ── the table of edges with one more ──
 -- four numbers that are stored
@@ -182,8 +182,10 @@ module _ {p s nodes free edges : List ℕ} {k i e : ℕ} {P : Protocol} {xs : Li
         h .feeding .reached .drawn
         ∙ ap (edgesThen (h .feeding .reached .so-far))
         (opened
-        ∙ ap (λ (o : Option (Placed Fact)). addNode (suc k) (addEdge (place-of (suc k) (suc i)) o (edgesInto (protocolFacts P) (suc k) (suc (suc i)) (takeOne (protocolFacts P) fact list) behind))
-        (drawFrom (protocolFacts P) (suc (suc k)) (takeAll (protocolFacts P) (fact ∷ behind) list ++ placed (suc k) 1 (factsOf P conclusionList (getD xs k noNode)))
+        ∙ ap (λ (o : Option (Placed Fact)). addNode (suc k) (addEdge (place-of (suc k) (suc i)) o
+        (edgesInto (protocolFacts P) (suc k) (suc (suc i)) (takeOne (protocolFacts P) fact list) behind))
+        (drawFrom (protocolFacts P) (suc (suc k)) (takeAll (protocolFacts P) (fact ∷ behind) list ++ placed (suc k) 1
+        (factsOf P conclusionList (getD xs k noNode)))
         (drop (suc k) (rewrittens P xs)))) nowhere)
 
     -- it has one
@@ -232,10 +234,13 @@ module _ {p s nodes free edges : List ℕ} {k i e : ℕ} {P : Protocol} {xs : Li
         one-edge : fromPremise P xs free k i ≡ edgesThen (edge ∷ []) (fromPremise P xs free′ k (suc i))
         one-edge =
             opened
-            ∙ ap (λ (o : Option (Placed Fact)). addNode (suc k) (addEdge (place-of (suc k) (suc i)) o (edgesInto (protocolFacts P) (suc k) (suc (suc i)) (takeOne (protocolFacts P) fact list) behind))
-            (drawFrom (protocolFacts P) (suc (suc k)) (takeAll (protocolFacts P) (fact ∷ behind) list ++ placed (suc k) 1 (factsOf P conclusionList (getD xs k noNode)))
+            ∙ ap (λ (o : Option (Placed Fact)). addNode (suc k) (addEdge (place-of (suc k) (suc i)) o
+            (edgesInto (protocolFacts P) (suc k) (suc (suc i)) (takeOne (protocolFacts P) fact list) behind))
+            (drawFrom (protocolFacts P) (suc (suc k)) (takeAll (protocolFacts P) (fact ∷ behind) list ++ placed (suc k) 1
+            (factsOf P conclusionList (getD xs k noNode)))
             (drop (suc k) (rewrittens P xs)))) (first-is (entryPlaced P xs) (isSame P xs target) free first)
-            ∙ then-edge (suc k) (place-of (suc k) (suc i)) (entryPlaced P xs v) (edgesInto (protocolFacts P) (suc k) (suc (suc i)) (takeOne (protocolFacts P) fact list) behind) _
+            ∙ then-edge (suc k) (place-of (suc k) (suc i)) (entryPlaced P xs v) (edgesInto (protocolFacts P) (suc k) (suc (suc i))
+            (takeOne (protocolFacts P) fact list) behind) _
             ∙ ap (λ (l : List (Placed Fact)). edgesThen (edge ∷ []) (premisesThen P xs l k (suc i) behind)) (sym left)
 
         pub premise-fed : {edges′ : List ℕ} → EdgePut edges edges′ e edge → Feeding p s nodes free′ edges′ k (i + 1) (e + 1) P xs
@@ -294,7 +299,8 @@ module _ {p s nodes free edges : List ℕ} {k e : ℕ} {P : Protocol} {xs : List
     reached = record {
       so-far = h .reached .so-far;
       stand = h .reached .stand;
-      drawn = h .reached .drawn ∙ ap (λ (ys : List (graph.Node Fact)). edgesThen (h .reached .so-far) (drawFrom (protocolFacts P) (suc k) (freeIn P xs free (mostFacts * k)) ys))
+      drawn = h .reached .drawn ∙ ap (λ (ys : List (graph.Node Fact)). edgesThen (h .reached .so-far)
+          (drawFrom (protocolFacts P) (suc k) (freeIn P xs free (mostFacts * k)) ys))
           (drop-cons (rewrittens P xs) k (rewritten P noNode) (omega (arith, length-map xs (rewritten P)))
           ∙ ap (λ (y : graph.Node Fact). y ∷ drop (suc k) (rewrittens P xs)) (map-at (rewritten P) xs k noNode (rewritten P noNode) l));
     };
@@ -304,7 +310,8 @@ module _ {p s nodes free edges : List ℕ} {k e : ℕ} {P : Protocol} {xs : List
   node-entered h = record { right = h .right; inside = h .inside; marked = h .marked }
 
   -- then its conclusions are free
-  pub node-left : Feeding p s nodes free edges k (length (premises P xs k)) e P xs → {free′ : List ℕ} → Entered k free free′ P xs → Choosing p s nodes free′ edges (k + 1) e P xs
+  pub node-left : Feeding p s nodes free edges k (length (premises P xs k)) e P xs → {free′ : List ℕ} → Entered k free free′ P xs → Choosing p s nodes free′
+      edges (k + 1) e P xs
   node-left f {free′} n =
       let few = facts-few P (f .right .stand .prepared .body .within) (getD xs k noNode)
       (all-inside (NodeWithin P) noNode xs (f .right .stand .within) k (f .inside)) premiseList in
@@ -326,7 +333,8 @@ module _ {p s nodes free edges : List ℕ} {k e : ℕ} {P : Protocol} {xs : List
       }
     where
       premises-done : (l : List (Placed Fact)) (i : ℕ) (ps : List Fact) → ps ≡ []
-          → premisesThen P xs l k i ps ≡ drawFrom (protocolFacts P) (suc (suc k)) (l ++ placed (suc k) 1 (factsOf P conclusionList (getD xs k noNode))) (drop (suc k) (rewrittens P xs))
+          → premisesThen P xs l k i ps ≡ drawFrom (protocolFacts P) (suc (suc k)) (l ++ placed (suc k) 1 (factsOf P conclusionList (getD xs k noNode)))
+          (drop (suc k) (rewrittens P xs))
       premises-done l i ps q = ap (premisesThen P xs l k i) q ∙ then-none (suc k) _
 
   -- ── all nodes ──
@@ -336,13 +344,15 @@ module _ {p s nodes free edges : List ℕ} {k e : ℕ} {P : Protocol} {xs : List
       record {
         is = h .reached .so-far;
         drawn = h .reached .drawn
-            ∙ ap (λ (ys : List (graph.Node Fact)). edgesThen (h .reached .so-far) (drawFrom (protocolFacts P) (suc k) (freeIn P xs free (mostFacts * k)) ys)) none
+            ∙ ap (λ (ys : List (graph.Node Fact)). edgesThen (h .reached .so-far) (drawFrom (protocolFacts P) (suc k) (freeIn P xs free (mostFacts * k)) ys))
+            none
             ∙ ap {B = Ruling (List Edge)} passed (append-nil (h .reached .so-far));
         stand = h .reached .stand;
       }
 
 module _ {p s nodes : List ℕ} {n : ℕ} {P : Protocol} {xs : List Node} (r : RightNodes p s nodes n P xs) where
-  pub none-chosen : {free edges : List ℕ} → length free ≡ countTable → ((i : ℕ) → getD free i 0 ≡ 0) → length edges ≡ edgeTable → Choosing p s nodes free edges 0 0 P xs
+  pub none-chosen : {free edges : List ℕ} → length free ≡ countTable → ((i : ℕ) → getD free i 0 ≡ 0) → length edges ≡ edgeTable → Choosing p s nodes free edges
+      0 0 P xs
   none-chosen long empty table = record {
     right = subst (λ (k : ℕ). RightNodes p s nodes k P xs) (sym (r .stand .count)) r;
     within = omega arith;
@@ -358,8 +368,3 @@ module _ {p s nodes : List ℕ} {n : ℕ} {P : Protocol} {xs : List Node} (r : R
       whole : (q : Ruling (List Edge)) → q ≡ edgesThen [] q
       whole (passed es) = refl
       whole (refused a b) = refl
-
--- a table of zeros
-pub zeros-at : (n i : ℕ) → getD (replicate {A = ℕ} n 0) i 0 ≡ 0
-zeros-at n i =
-    by-size i n (λ l. getD-replicate n i 0 0 l) (λ l. List·getD-eq-default (replicate n 0) 0 (omega (arith, l, length-replicate {A = ℕ} n 0)))

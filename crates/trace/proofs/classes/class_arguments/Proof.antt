@@ -1,10 +1,11 @@
 -- The first numbers are made, and over empty chains their classes, which are what is promised.
 use native.Mathlib.Omega.{arith}
 use Prim.Native.Nat.{_+_}
-use Rattle.facts.specs.Owed.{room-kept}
+use Rattle.facts.specs.Owed.{room-kept, room-start}
+use Rattle.lists.specs.Lists.Laws.{zeros-at}
 use Rattle.trace.specs.Tables.{placeCount}
 use Rattle.trace.specs.Chains.{linksAt}
-use Rattle.trace.specs.Classes.Exact.{room-less, ready, classes-made, zeros-at}
+use Rattle.trace.specs.Classes.Exact.{ready, classes-made}
 use borrow.Author.Needs.{needs}
 use Rattle.trace.proofs.classes.class_arguments.Statement.{statement}
 use Rattle.trace.proofs.classes.class_arguments.Tie as tie
@@ -12,7 +13,7 @@ use Rattle.trace.proofs.classes.class_arguments.Tie as tie
 number-actions-requires : tie.Need-number-actions-requires
 number-actions-requires c κs =
     let c8 = c .before .before .before .before .before .before .before .before in
-    (c8 .pre .0, room-less _ (c8 .pre .1), c8 .pre .2, c8 .pre .3)
+    (c8 .pre .0, room-start (c8 .pre .1), c8 .pre .2, c8 .pre .3)
 
 slice-aggregate-class-places : tie.Need-slice-aggregate-class-places
 slice-aggregate-class-places c = search needs
