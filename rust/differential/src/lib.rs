@@ -1,5 +1,11 @@
 //! The proved calls beside the independent implementation: the same outcome and the same lent bytes.
 
+/// Inputs that need most stack.
+pub mod deepest;
+
+/// Graphs, terms and properties whose cost is measured.
+pub mod sized;
+
 /// Step lists whose cost is measured.
 pub mod step_lists;
 
