@@ -3,6 +3,12 @@
 /// Inputs that need most stack.
 pub mod deepest;
 
+/// Inputs of all calls, and whether the two implementations agree on them.
+pub mod input;
+
+/// The smallest input on which they do not.
+pub mod reduce;
+
 /// Graphs, terms and properties whose cost is measured.
 pub mod sized;
 
@@ -249,6 +255,17 @@ impl Shares {
             self.facts += 1;
             self.products += usize::from(fact.any(&product));
         }
+    }
+
+    /// Adds what was counted elsewhere.
+    pub fn merge(&mut self, other: Shares) {
+        for (kind, count) in other.counts {
+            *self.counts.entry(kind).or_default() += count;
+        }
+        self.all += other.all;
+        self.long += other.long;
+        self.facts += other.facts;
+        self.products += other.products;
     }
 
     /// The table, under a title.
