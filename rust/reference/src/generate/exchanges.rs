@@ -8,8 +8,8 @@ use crate::term::{Public, Signature, Term, EXP, FREE, H, INV, MUL, PAIR};
 const LONG_TERM_KEY: u32 = 4;
 const BEGUN: u32 = 5;
 const AGREED: u32 = 6;
-const DONE: u32 = 7;
-const REVEALED: u32 = 8;
+pub const DONE: u32 = 7;
+pub const REVEALED: u32 = 8;
 
 /// The variables of every rule: an agent and its partner, two secrets, a message received.
 const SELF: u32 = 0;
