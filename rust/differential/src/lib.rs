@@ -177,7 +177,7 @@ pub fn program(name: &str, input: &[u8]) -> String {
         .stdin(Stdio::piped())
         .stdout(Stdio::piped())
         .spawn()
-        .expect("a program that rt check made");
+        .unwrap_or_else(|_| panic!("target/bin/{name} is missing: `rt check` makes it"));
     // It reads all of its input before it writes.
     let mut stdin = child.stdin.take().expect("its input");
     stdin.write_all(input).expect("its input is read");
