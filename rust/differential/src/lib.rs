@@ -1,11 +1,27 @@
 //! The proved calls beside the independent implementation: the same outcome and the same lent bytes.
 
+/// Inputs that need most stack.
+pub mod deepest;
+
+/// Inputs of all calls, and whether the two implementations agree on them.
+pub mod input;
+
+/// The smallest input on which they do not.
+pub mod reduce;
+
+/// Graphs, terms and properties whose cost is measured.
+pub mod sized;
+
 /// Step lists whose cost is measured.
 pub mod step_lists;
 
 use levtosziv::{Refusal, Ruling, Written};
-use reference::calls::{Counts, Outcome};
-use reference::cases::{data, expected, Case};
+use reference::calls::{fit_protocol, Counts, Outcome};
+use reference::cases::{data, expected, facts, Case};
+use reference::number::Reader;
+use reference::refusal::File;
+use reference::steps::read_steps;
+use reference::term::{Term, EXP, INV, MUL};
 use std::collections::BTreeMap;
 use std::io::Write;
 use std::path::Path;
@@ -198,11 +214,16 @@ pub fn program_agrees(name: &str, cases: &[Case]) {
     assert_eq!(ours.lines().count(), cases.len(), "{name}");
 }
 
-/// How often each kind of outcome came, and the least share of each, in hundredths of a percent.
+/// How often each kind of outcome came, and what the nodes of the good inputs are.
 #[derive(Default)]
 pub struct Shares {
     counts: BTreeMap<String, usize>,
     all: usize,
+    /// Good inputs of more than 100 nodes.
+    long: usize,
+    /// The facts of good inputs, and those among them that hold a product, an inverse or a power.
+    facts: usize,
+    products: usize,
 }
 
 impl Shares {
@@ -225,19 +246,71 @@ impl Shares {
         self.all += 1;
     }
 
-    pub fn print(&self) {
-        for (kind, count) in &self.counts {
-            println!(
-                "{kind:20} {count:8} {:6.2} %",
-                100.0 * *count as f64 / self.all as f64
-            );
+    /// The nodes of a good input: of a graph or of a step list.
+    pub fn add_nodes(&mut self, file: File, protocol: &[u8], nodes: &[u8]) {
+        let protocol = fit_protocol(protocol).expect("a fit protocol");
+        let steps = read_steps(file, &mut Reader::new(nodes), &protocol).expect("nodes");
+        let nodes = reference::steps::nodes(&steps).expect("right values");
+        self.long += usize::from(nodes.len() > 100);
+        let product = |term: &Term| matches!(term, Term::Apply(EXP | INV | MUL, _));
+        for fact in facts(&nodes) {
+            self.facts += 1;
+            self.products += usize::from(fact.any(&product));
         }
+    }
+
+    /// Adds what was counted elsewhere.
+    pub fn merge(&mut self, other: Shares) {
+        for (kind, count) in other.counts {
+            *self.counts.entry(kind).or_default() += count;
+        }
+        self.all += other.all;
+        self.long += other.long;
+        self.facts += other.facts;
+        self.products += other.products;
+    }
+
+    /// The table, under a title.
+    pub fn print(&self, title: &str) {
+        let percent = |count: usize, all: usize| 100.0 * count as f64 / all.max(1) as f64;
+        let row =
+            |kind: &str, count, all| format!("{kind:20} {count:9} {:6.2} %\n", percent(count, all));
+        let kinds = self.counts.iter();
+        let mut table: String = kinds
+            .map(|(kind, count)| row(kind, *count, self.all))
+            .collect();
+        if self.facts > 0 {
+            table += &row("over 100 nodes", self.long, self.all);
+            table += &row("facts with products", self.products, self.facts);
+        }
+        println!("{title}: {} inputs\n{table}", self.all);
+    }
+
+    /// The share of these kinds together, in hundredths of a percent.
+    fn share(&self, kinds: &[&str]) -> usize {
+        let count = |kind: &&str| self.counts.get(*kind).copied().unwrap_or(0);
+        10_000 * kinds.iter().map(count).sum::<usize>() / self.all
     }
 
     pub fn at_least(&self, least: usize, kinds: &[&str]) {
         for kind in kinds {
-            let share = 10_000 * self.counts.get(*kind).copied().unwrap_or(0) / self.all;
+            let share = self.share(&[kind]);
             assert!(share >= least, "{kind}: {share} of 10,000");
         }
+    }
+
+    pub fn together_at_least(&self, least: usize, kinds: &[&str]) {
+        let share = self.share(kinds);
+        assert!(share >= least, "{kinds:?}: {share} of 10,000");
+    }
+
+    /// A twentieth of all inputs are good and have over 100 nodes; half of the facts hold products.
+    pub fn long_with_products(&self) {
+        assert!(20 * self.long >= self.all, "{} over 100 nodes", self.long);
+        assert!(
+            2 * self.products >= self.facts,
+            "{} products",
+            self.products
+        );
     }
 }

@@ -24,7 +24,7 @@ fn canonical_form_beside_the_reference() {
             number as u64,
         ));
     }
-    shares.print();
+    shares.print("canonical form");
     println!("with products        {products:8}");
     shares.at_least(2_500, &["written"]);
     let refusals = [

@@ -1,9 +1,11 @@
 //! Checking beside the reference, over random inputs from a fixed seed, mostly good ones, some damaged.
 
+use differential::sized::{self, GUARDS};
 use differential::{check_agrees, Shares};
 use reference::calls::Outcome;
 use reference::generate::graphs;
 use reference::random::Random;
+use reference::refusal::{File, Refusal};
 
 /// Inputs of one half; the halves run side by side.
 const INPUTS: usize = 100_000;
@@ -11,7 +13,6 @@ const INPUTS: usize = 100_000;
 fn beside_the_reference(seed: u64) {
     let mut random = Random::new(seed);
     let mut shares = Shares::default();
-    let mut long = 0;
     for number in 0..INPUTS {
         let input = graphs::check_input(&mut random);
         let outcome = check_agrees(
@@ -21,13 +22,13 @@ fn beside_the_reference(seed: u64) {
             input.work,
             number as u64,
         );
-        if let Outcome::Attack(counts) | Outcome::Run(counts) = outcome {
-            long += usize::from(counts.nodes > 100);
+        if matches!(outcome, Outcome::Attack(_) | Outcome::Run(_)) {
+            shares.add_nodes(File::Graph, &input.protocol, &input.graph);
         }
         shares.add(outcome);
     }
-    shares.print();
-    println!("over 100 nodes       {long:8}");
+    shares.print("checking");
+    shares.together_at_least(2_500, &["attack", "run"]);
     shares.at_least(1_000, &["attack", "run"]);
     let causes = [7, 8, 9, 10, 11, 12, 13].map(|number| format!("refused {number}"));
     shares.at_least(100, &causes.each_ref().map(String::as_str));
@@ -35,7 +36,20 @@ fn beside_the_reference(seed: u64) {
     let files: Vec<&str> = files.as_flattened().iter().map(String::as_str).collect();
     shares.at_least(50, &files);
     shares.at_least(50, &["refused 1", "refused 4", "refused 5", "refused 6"]);
-    assert!(20 * long >= INPUTS);
+    shares.long_with_products();
+}
+
+/// "The work area is short below 65,536 bytes and never otherwise"; what it holds at entry never matters.
+#[test]
+fn work_areas_around_the_limit() {
+    let files = sized::nested(GUARDS[0], 3, 2);
+    for work in [0, 1, 65_534, 65_535, 65_536, 65_537, 131_072, 190_000] {
+        for seed in 0..20 {
+            let outcome = check_agrees(&files.protocol, &files.property, &files.graph, work, seed);
+            let short = matches!(outcome, Outcome::Refused(Refusal { number: 1, item: 0 }));
+            assert_eq!(short, work < 65_536, "{work}: {outcome}");
+        }
+    }
 }
 
 #[test]

@@ -56,7 +56,7 @@ fn graphs_beside_the_reference() {
         program_agrees("cases_graphs", &cases);
         all += cases.len();
     }
-    shares.print();
+    shares.print("graphs");
     println!("good, over {LONG} nodes {long:6} of {all}");
     shares.at_least(2_500, &["good"]);
     let refusals = [7, 8, 9, 10, 11, 12, 13].map(|number| format!("refused {number}"));

@@ -58,7 +58,7 @@ fn nodes_beside_the_reference() {
         program_agrees("cases_facts", &cases);
         compared += cases.len();
     }
-    shares.print();
+    shares.print("step lists");
     println!("facts compared       {compared:8}");
     shares.at_least(2_500, &["good"]);
     let refusals = [

@@ -53,7 +53,7 @@ fn properties_beside_the_reference() {
         }
         program_agrees("cases_properties", &cases);
     }
-    shares.print();
+    shares.print("properties");
     println!("by the words too     {by_the_words:8}");
     println!("not as without nodes {by_the_trace:8}");
     assert!(by_the_words > 2_000 && by_the_trace > 1_500);

@@ -6,6 +6,9 @@ pub mod terms;
 /// Protocols, good ones and broken ones.
 pub mod protocols;
 
+/// Key exchanges.
+pub mod exchanges;
+
 /// Runs, built forward, and their edges.
 pub mod runs;
 

@@ -2,7 +2,7 @@
 
 use reference::calls::{canonical_form, check, draw, Outcome};
 use reference::generate::properties::Maker;
-use reference::generate::{canonical, graphs, protocols};
+use reference::generate::{canonical, exchanges, graphs, protocols};
 use reference::number::Reader;
 use reference::property;
 use reference::protocol::{Protocol, Rule};
@@ -129,6 +129,35 @@ fn checking_has_every_outcome_often_enough() {
         &["refused 1", "refused 4", "refused 5", "refused 6"],
     );
     assert!(20 * long >= GRAPHS);
+}
+
+/// Runs of key exchanges finish several sessions, reveal keys, and make properties true and false.
+#[test]
+fn sessions_have_every_outcome_often_enough() {
+    let mut random = Random::new(6);
+    let (mut accepted, mut several, mut revealed) = (0, 0, 0);
+    let shares = shares((0..GRAPHS).map(|_| {
+        let input = graphs::session_input(&mut random);
+        let mut work = vec![1; input.work];
+        let outcome = check(&input.protocol, &input.property, &input.graph, &mut work);
+        if matches!(outcome, Outcome::Attack(_) | Outcome::Run(_)) {
+            let protocol = Protocol::read(&input.protocol).unwrap();
+            let mut reader = Reader::new(&input.graph);
+            let steps = read_steps(File::Graph, &mut reader, &protocol).unwrap();
+            let nodes = nodes(&steps).unwrap();
+            let actions = |symbol: u32| {
+                let all = nodes.iter().flat_map(|node| &node.actions);
+                all.filter(|fact| fact.symbol == symbol).count()
+            };
+            accepted += 1;
+            several += usize::from(actions(exchanges::DONE) > 1);
+            revealed += usize::from(actions(exchanges::REVEALED) > 0);
+        }
+        kind(outcome)
+    }));
+    println!("several sessions: {several}, reveals: {revealed}, of {accepted}");
+    at_least(&shares, 1_500, &["attack", "run"]);
+    assert!(3 * several >= accepted && 2 * revealed >= accepted);
 }
 
 /// How many facts a drawn step list's nodes have, and how many of them hold a product, an inverse or a

@@ -33,8 +33,8 @@ fn lengthen(random: &mut Random, bytes: &mut Vec<u8>, place: usize) {
     bytes.splice(place + 1..place + 1, rest);
 }
 
-/// Adds bytes up to a length above `limit`.
+/// Adds bytes up to a length above `limit`, or to the limit itself.
 pub fn overfill(random: &mut Random, bytes: &mut Vec<u8>, limit: usize) {
-    let beyond = [1, 1, 2, 100];
+    let beyond = [0, 1, 1, 1, 2, 100];
     bytes.resize(limit + random.choose(&beyond), 0);
 }

@@ -138,6 +138,21 @@ pub fn other_source(random: &mut Random, edges: &mut [Edge]) {
     edges[place].conclusion = other.conclusion;
 }
 
+/// Two edges exchange their sources: cause 11 where the facts differ, no fault where they are equal. Sources stay
+/// earlier.
+pub fn exchange_sources(random: &mut Random, edges: &mut [Edge]) {
+    if edges.is_empty() {
+        return;
+    }
+    let [first, second] = [(); 2].map(|()| random.below(edges.len()));
+    let (one, other) = (edges[first], edges[second]);
+    if one.source >= other.target || other.source >= one.target {
+        return;
+    }
+    (edges[first].source, edges[first].conclusion) = (other.source, other.conclusion);
+    (edges[second].source, edges[second].conclusion) = (one.source, one.conclusion);
+}
+
 /// An edge too few or too many: cause 12.
 pub fn edge_count(random: &mut Random, edges: &mut Vec<Edge>) {
     if edges.is_empty() {

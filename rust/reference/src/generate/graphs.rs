@@ -1,15 +1,18 @@
 //! Inputs of the calls check and draw.
 
 use super::damage::{damage, overfill};
+use super::judging::some_property;
 use super::properties::Maker;
 use super::runs::{encoded, run, some_edges, Step};
-use super::{faults, protocols};
+use super::{exchanges, faults, protocols};
 use crate::calls::WORK_AREA;
+use crate::cases::trace;
 use crate::graph::{write_edges, Edge};
 use crate::property::Formula;
 use crate::protocol::Protocol;
 use crate::random::Random;
 use crate::refusal::File;
+use crate::writer;
 
 /// What checking is given: three files, and the length of the work area.
 #[derive(Clone, Debug, PartialEq, Eq)]
@@ -38,7 +41,21 @@ struct Parts {
 }
 
 pub fn check_input(random: &mut Random) -> CheckInput {
-    let mut parts = good(random);
+    let parts = good(random);
+    checked(random, parts)
+}
+
+/// Sessions of a key exchange with reveals: edges drawn or any, some of them rewired, a property that the trace matters to.
+pub fn session_input(random: &mut Random) -> CheckInput {
+    let mut parts = sessions(random);
+    for _ in 0..*random.choose(&[0, 0, 0, 1, 2]) {
+        faults::exchange_sources(random, &mut parts.edges);
+    }
+    checked(random, parts)
+}
+
+/// The three files, perhaps with faults.
+fn checked(random: &mut Random, mut parts: Parts) -> CheckInput {
     let faults = some_faults(random);
     for fault in &faults {
         spoil_checked(random, &mut parts, *fault);
@@ -114,6 +131,30 @@ fn good(random: &mut Random) -> Parts {
     };
     let most_quantifiers = if steps.len() > 60 { 2 } else { 3 };
     let property = Maker::new(&protocol, most_quantifiers).property(random);
+    Parts {
+        protocol,
+        property,
+        steps,
+        edges,
+    }
+}
+
+/// A key exchange, a run of it with edges, and a fit property.
+fn sessions(random: &mut Random) -> Parts {
+    let protocol = exchanges::exchange(random);
+    let most = *random.choose(&[30, 60, 150]);
+    let length = 5 + random.below(most);
+    let (steps, edges, property) = {
+        let run = run(random, &protocol, length);
+        let mut edges = some_edges(random, &protocol, &run.nodes);
+        if random.percent(50) {
+            edges = writer::edges(&protocol, &run.nodes).expect("a run");
+        }
+        let most_quantifiers = if run.steps.len() > 60 { 2 } else { 3 };
+        let maker = Maker::new(&protocol, most_quantifiers);
+        let property = some_property(random, &maker, &trace(&run.nodes));
+        (run.steps, edges, property)
+    };
     Parts {
         protocol,
         property,

@@ -48,7 +48,7 @@ pub fn judge_input(random: &mut Random) -> JudgeInput {
 
 /// The first of some properties that the trace makes true or false otherwise than no nodes do, or the last of
 /// them; it or its negation.
-fn some_property(random: &mut Random, maker: &Maker, trace: &Trace) -> Formula {
+pub fn some_property(random: &mut Random, maker: &Maker, trace: &Trace) -> Formula {
     let mut property = maker.property(random);
     for _ in 0..3 {
         if holds(trace, &[], &property) == holds(&[], &[], &property) {

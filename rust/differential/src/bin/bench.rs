@@ -1,0 +1,231 @@
+//! What the calls cost: the time of the archive, of the reference, both built for release and measured in one run, and their ratio.
+//!
+//! `bench [WORDS]` prints the rows whose name has these words, or all. `bench --once WORDS` makes the archive's calls of these rows, once each,
+//! for callgrind.
+
+use differential::sized::{chain, deductions, nested, nothing, term, Files, CHAINS, GUARDS, TERMS};
+use levtosziv::Ruling;
+use reference::calls::{Outcome, WORK_AREA};
+use reference::corpus::cases;
+use std::hint::black_box;
+use std::path::Path;
+use std::time::{Duration, Instant};
+
+/// How long each side of a row is measured.
+const BUDGET: Duration = Duration::from_millis(400);
+
+/// Microseconds of one run, the least of as many as the budget allows, and of so many at least.
+fn least(rounds: usize, mut run: impl FnMut()) -> f64 {
+    let begin = Instant::now();
+    let mut least = f64::INFINITY;
+    for round in 0.. {
+        if round >= rounds && begin.elapsed() > BUDGET {
+            break;
+        }
+        let start = Instant::now();
+        run();
+        least = least.min(start.elapsed().as_secs_f64() * 1e6);
+    }
+    least
+}
+
+/// Which rows are wanted, and whether they are only to be run.
+struct Bench {
+    words: String,
+    once: bool,
+}
+
+impl Bench {
+    fn header(&self, what: &str) {
+        if !self.once {
+            println!("\n| {what} | archive, µs | reference, µs | ratio |\n|---|---|---|---|");
+        }
+    }
+
+    fn wants(&self, name: &str) -> bool {
+        name.contains(&self.words)
+    }
+
+    /// Prints a row, its name and what is said of it; the archive's time.
+    fn row(
+        &self,
+        name: &str,
+        said: &str,
+        mut archive: impl FnMut(),
+        reference: impl FnMut(),
+    ) -> Option<f64> {
+        if !self.wants(name) {
+            return None;
+        }
+        if self.once {
+            archive();
+            return None;
+        }
+        let (ours, theirs) = (least(3, archive), least(1, reference));
+        println!(
+            "| {name}{said} | {ours:.1} | {theirs:.1} | {:.3} |",
+            ours / theirs
+        );
+        Some(ours)
+    }
+
+    /// A row of an accepted graph.
+    fn check(&self, name: &str, files: &Files) -> Option<f64> {
+        if !self.wants(name) {
+            return None;
+        }
+        let [mut work, mut their_work] = [(); 2].map(|()| vec![0; WORK_AREA]);
+        let said = match check(files, &mut work) {
+            Ruling::Attack(counts) | Ruling::Run(counts) => counts,
+            refused => panic!("{name}: {refused:?}"),
+        };
+        if self.once {
+            return None;
+        }
+        let said = format!(" ({} edges, {} bytes)", said.edges, files.graph.len());
+        self.row(
+            name,
+            &said,
+            || {
+                black_box(check(files, &mut work));
+            },
+            || {
+                black_box(check_by_reference(files, &mut their_work));
+            },
+        )
+    }
+
+    fn checks(&self) {
+        self.header("check");
+        self.check("no nodes", &nothing());
+        self.check("the printed case", &folder("examples/printed-case"));
+        let names = [
+            "naxos-honest",
+            "naxos-no-pfs-attack",
+            "naxos-own-keys-revealed-eck",
+            "dh-man-in-the-middle",
+        ];
+        for name in names {
+            self.check(name, &folder(&format!("tests/corpus/real/{name}")));
+        }
+        let all = accepted();
+        let (mut work, mut their_work) = (vec![0; WORK_AREA], vec![0; WORK_AREA]);
+        self.row(
+            "the accepted graphs of the corpus",
+            &format!(", {} of them together", all.len()),
+            || {
+                for files in &all {
+                    black_box(check(files, &mut work));
+                }
+            },
+            || {
+                for files in &all {
+                    black_box(check_by_reference(files, &mut their_work));
+                }
+            },
+        );
+    }
+
+    /// The same kind of graph at 128, 256 and 512 nodes.
+    fn growth(&self, what: &str, make: impl Fn(usize) -> Files) {
+        let times = [128, 256, 512]
+            .map(|nodes| self.check(&format!("{what}, {nodes} nodes"), &make(nodes)));
+        if let [Some(first), Some(second), Some(third)] = times {
+            let [second, third] = [second / first, third / second];
+            println!("| {what}: 256 to 128 nodes {second:.2}, 512 to 256 {third:.2} | | | |");
+        }
+    }
+
+    fn canonical_forms(&self) {
+        self.header("canonical form");
+        let protocol = [0, 0, 0];
+        let [mut output, mut their_output] = [(); 2].map(|()| vec![0; 1_024]);
+        let [mut work, mut their_work] = [(); 2].map(|()| vec![0; WORK_AREA]);
+        for shape in TERMS {
+            for names in [16, 32, 64, 128] {
+                let term = term(shape, names);
+                let (output, work) = (&mut output, &mut work);
+                let (their_output, their_work) = (&mut their_output, &mut their_work);
+                self.row(
+                    &format!("{shape}, {names} names"),
+                    "",
+                    || {
+                        black_box(levtosziv::canonical_form(&protocol, &term, output, work));
+                    },
+                    || {
+                        let call = reference::calls::canonical_form;
+                        black_box(call(&protocol, &term, their_output, their_work));
+                    },
+                );
+            }
+        }
+    }
+
+    /// The time of one guard comparison: what a further level costs, by the comparisons that it adds.
+    fn judge(&self) {
+        self.header("judge");
+        let actions = 100;
+        for guard in GUARDS {
+            let times = [2, 3].map(|levels| {
+                let what = format!("{levels} quantifiers, the innermost guard {guard}");
+                self.check(&what, &nested(guard, actions, levels))
+            });
+            if let [Some(two), Some(three)] = times {
+                let each = (three - two) * 1e3 / actions.pow(3) as f64;
+                println!("| a comparison of a guard that {guard}: {each:.1} ns | | | |");
+            }
+        }
+    }
+}
+
+fn check(files: &Files, work: &mut [u8]) -> levtosziv::Ruling {
+    levtosziv::check(&files.protocol, &files.property, &files.graph, work)
+}
+
+fn check_by_reference(files: &Files, work: &mut [u8]) -> Outcome {
+    reference::calls::check(&files.protocol, &files.property, &files.graph, work)
+}
+
+/// The accepted graphs of the corpus, all of them.
+fn accepted() -> Vec<Files> {
+    let accepted = |case: &reference::corpus::Case| !matches!(case.outcome, Outcome::Refused(_));
+    let checks = cases()
+        .into_iter()
+        .filter(|case| case.kind == 0 && accepted(case));
+    let files = checks.map(|case| Files {
+        protocol: case.files[0].to_vec(),
+        property: case.files[1].to_vec(),
+        graph: case.files[2].to_vec(),
+        steps: vec![],
+    });
+    files.collect()
+}
+
+/// A folder with the three files.
+fn folder(name: &str) -> Files {
+    let root = Path::new(env!("CARGO_MANIFEST_DIR")).join("../..");
+    let file = |file: &str| std::fs::read(root.join(name).join(file)).expect("a file of the tree");
+    Files {
+        protocol: file("protocol.bin"),
+        property: file("property.bin"),
+        graph: file("graph.bin"),
+        steps: vec![],
+    }
+}
+
+fn main() {
+    let words: Vec<String> = std::env::args().skip(1).collect();
+    let once = words.first().is_some_and(|word| word == "--once");
+    let bench = Bench {
+        words: words[usize::from(once)..].join(" "),
+        once,
+    };
+    bench.checks();
+    bench.header("check, growth");
+    for kind in CHAINS {
+        bench.growth(kind, |nodes| chain(kind, nodes));
+    }
+    bench.growth("deductions", deductions);
+    bench.canonical_forms();
+    bench.judge();
+}

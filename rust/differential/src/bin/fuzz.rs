@@ -1,0 +1,148 @@
+//! Random inputs through the archive and the reference until the time is over or they differ; then the smallest input near it.
+//!
+//!     fuzz MINUTES [--cores N] [--seed N]      as long as that
+//!     fuzz --inputs N [--cores N] [--seed N]   so many inputs
+//!
+//! The corpus and the cases by hand come first. Exits with 1 where the implementations differ.
+
+use differential::input::Input;
+use differential::reduce::reduced;
+use differential::Shares;
+use reference::random::Random;
+use std::io::Write;
+use std::sync::atomic::{AtomicBool, AtomicUsize, Ordering::Relaxed};
+use std::sync::Mutex;
+use std::time::{Duration, Instant};
+
+/// How long and with what.
+struct Plan {
+    time: Duration,
+    inputs: usize,
+    cores: usize,
+    seed: u64,
+}
+
+fn plan() -> Option<Plan> {
+    let mut plan = Plan {
+        time: Duration::MAX,
+        inputs: usize::MAX,
+        cores: 2,
+        seed: 1,
+    };
+    let words: Vec<String> = std::env::args().skip(1).collect();
+    let mut words = words.iter();
+    let mut bounded = false;
+    while let Some(word) = words.next() {
+        let mut figure = || words.next()?.parse::<u64>().ok();
+        match word.as_str() {
+            "--inputs" => plan.inputs = figure()? as usize,
+            "--cores" => plan.cores = figure()? as usize,
+            "--seed" => plan.seed = figure()?,
+            minutes => plan.time = Duration::from_secs_f64(60.0 * minutes.parse::<f64>().ok()?),
+        }
+        bounded = bounded || !matches!(word.as_str(), "--cores" | "--seed");
+    }
+    bounded.then_some(plan)
+}
+
+/// What the cores share.
+struct State {
+    plan: Plan,
+    begin: Instant,
+    done: AtomicUsize,
+    stop: AtomicBool,
+    found: Mutex<Option<Input>>,
+    shares: Mutex<Shares>,
+}
+
+impl State {
+    fn over(&self) -> bool {
+        let late = self.begin.elapsed() >= self.plan.time;
+        late || self.stop.load(Relaxed) || self.done.load(Relaxed) >= self.plan.inputs
+    }
+
+    /// Counts the input, or keeps it where the two differ.
+    fn run(&self, input: Input, shares: &mut Shares) {
+        match input.agreed() {
+            Ok(outcome) => shares.add(outcome),
+            Err(_) => {
+                self.stop.store(true, Relaxed);
+                self.found.lock().expect("one input").get_or_insert(input);
+            }
+        }
+        self.done.fetch_add(1, Relaxed);
+    }
+
+    fn core(&self, number: usize) {
+        let mut shares = Shares::default();
+        let mut random = Random::new(1_000 * self.plan.seed + number as u64);
+        while !self.over() {
+            self.run(Input::random(&mut random), &mut shares);
+        }
+        self.shares.lock().expect("shares").merge(shares);
+    }
+
+    fn progress(&self) {
+        let mut last = 0;
+        while !self.over() {
+            std::thread::sleep(Duration::from_millis(200));
+            let seconds = self.begin.elapsed().as_secs_f64();
+            if seconds as usize > last {
+                last = seconds as usize;
+                let done = self.done.load(Relaxed);
+                let each = done as f64 / seconds;
+                eprint!("\r{last} s, {done} inputs, {each:.0} a second ");
+                std::io::stderr().flush().expect("a line");
+            }
+        }
+        eprintln!();
+    }
+}
+
+fn main() {
+    let Some(plan) = plan() else {
+        eprintln!("fuzz MINUTES [--cores N] [--seed N], or --inputs N in place of the minutes");
+        std::process::exit(2);
+    };
+    // A panic of the reference is a difference, and shown as one.
+    std::panic::set_hook(Box::new(|_| {}));
+    let cores = plan.cores;
+    let state = State {
+        plan,
+        begin: Instant::now(),
+        done: AtomicUsize::new(0),
+        stop: AtomicBool::new(false),
+        found: Mutex::new(None),
+        shares: Mutex::new(Shares::default()),
+    };
+    for input in Input::cases() {
+        let mut shares = state.shares.lock().expect("shares");
+        state.run(input, &mut shares);
+    }
+    std::thread::scope(|scope| {
+        for number in 0..cores {
+            let state = &state;
+            scope.spawn(move || state.core(number));
+        }
+        state.progress();
+    });
+    let seconds = state.begin.elapsed().as_secs_f64();
+    let found = state.found.lock().expect("one input").take();
+    let Some(input) = found else {
+        state.shares.lock().expect("shares").print("no difference");
+        let done = state.done.load(Relaxed);
+        println!(
+            "{done} inputs in {seconds:.0} s, {:.0} a second",
+            done as f64 / seconds
+        );
+        return;
+    };
+    let input = reduced(input);
+    let difference = input.agreed().err().expect("a difference");
+    println!(
+        "archive: {}\nreference: {}",
+        difference.archive, difference.reference
+    );
+    println!("{:?}\n{}", input.call, input.shown());
+    std::process::exit(1);
+}

@@ -1,0 +1,141 @@
+//! Diffie-Hellman key exchanges of several shapes, with long-term keys and reveals.
+
+use crate::protocol::*;
+use crate::random::Random;
+use crate::term::{Public, Signature, Term, EXP, FREE, H, INV, MUL, PAIR};
+
+/// The own fact symbols.
+const LONG_TERM_KEY: u32 = 4;
+const BEGUN: u32 = 5;
+const AGREED: u32 = 6;
+pub const DONE: u32 = 7;
+pub const REVEALED: u32 = 8;
+
+/// The variables of every rule: an agent and its partner, two secrets, a message received.
+const SELF: u32 = 0;
+const PEER: u32 = 1;
+const LONG: u32 = 2;
+const SHORT: u32 = 3;
+const RECEIVED: u32 = 4;
+
+fn fact(symbol: u32, terms: impl IntoIterator<Item = Term>) -> Fact {
+    Fact {
+        symbol,
+        terms: terms.into_iter().collect(),
+    }
+}
+
+fn power(base: Term, exponent: Term) -> Term {
+    Term::apply(EXP, [base, exponent])
+}
+
+fn variable(number: u32) -> Term {
+    Term::Variable(number)
+}
+
+/// The group's generator.
+fn generator() -> Term {
+    Term::Public(Public(0))
+}
+
+/// Rules with these premises, actions and conclusions, over the five variables.
+fn rule(sorts: [Sort; 5], premises: Vec<Fact>, actions: Vec<Fact>, conclusions: Vec<Fact>) -> Rule {
+    Rule {
+        variables: sorts.to_vec(),
+        premises,
+        actions,
+        conclusions,
+    }
+}
+
+/// Agents have long-term keys, begin, answer and finish sessions; long-term and session keys are revealed.
+pub fn exchange(random: &mut Random) -> Protocol {
+    let own = |arity, persistent| FactSymbol { arity, persistent };
+    let exponent = exponent(random);
+    let key = key(random, &exponent);
+    Protocol {
+        signature: Signature { free: vec![1] },
+        own: vec![
+            own(2, true),
+            own(4, false),
+            own(3, random.percent(50)),
+            own(3, false),
+            own(1, false),
+        ],
+        rules: rules(&exponent, &key),
+    }
+}
+
+/// What a party raises to: its short secret, or that with its long one.
+fn exponent(random: &mut Random) -> Term {
+    let (long, short) = (variable(LONG), variable(SHORT));
+    match random.below(4) {
+        0 => short,
+        1 => Term::apply(H, [Term::apply(PAIR, [short, long])]),
+        2 => Term::apply(MUL, [short, long]),
+        _ => Term::apply(MUL, [short, Term::apply(INV, [long])]),
+    }
+}
+
+/// The session key: of what was received and the own exponent, however that is put.
+fn key(random: &mut Random, exponent: &Term) -> Term {
+    let (received, long) = (variable(RECEIVED), variable(LONG));
+    let shared = power(received.clone(), exponent.clone());
+    match random.below(4) {
+        0 => shared,
+        1 => Term::apply(H, [shared]),
+        2 => Term::apply(H, [Term::apply(PAIR, [shared, power(received, long)])]),
+        _ => Term::apply(MUL, [shared, power(generator(), long)]),
+    }
+}
+
+fn rules(exponent: &Term, key: &Term) -> Vec<Rule> {
+    let [agent, peer, long, short, received] =
+        [SELF, PEER, LONG, SHORT, RECEIVED].map(|number| move || variable(number));
+    let long_term_key = || fact(LONG_TERM_KEY, [agent(), long()]);
+    let sent = || fact(OUT, [power(generator(), exponent.clone())]);
+    let begun = || fact(BEGUN, [agent(), peer(), long(), short()]);
+    let heard = || fact(IN, [received()]);
+    let agreed = |symbol| fact(symbol, [agent(), peer(), key.clone()]);
+    let fresh = |name: Term| fact(FR, [name]);
+    let public = fact(OUT, [power(generator(), long())]);
+    use Sort::{Fresh as F, Message as M, Public as P};
+    vec![
+        rule(
+            [P, P, F, M, M],
+            vec![fresh(long())],
+            vec![],
+            vec![long_term_key(), public],
+        ),
+        rule(
+            [P, P, M, F, M],
+            vec![fresh(short()), long_term_key()],
+            vec![],
+            vec![begun(), sent()],
+        ),
+        rule(
+            [P, P, M, F, M],
+            vec![fresh(short()), long_term_key(), heard()],
+            vec![agreed(DONE)],
+            vec![agreed(AGREED), sent()],
+        ),
+        rule(
+            [P, P, M, M, M],
+            vec![begun(), heard()],
+            vec![agreed(DONE)],
+            vec![agreed(AGREED)],
+        ),
+        rule(
+            [P, P, M, M, M],
+            vec![long_term_key()],
+            vec![fact(REVEALED, [agent()])],
+            vec![fact(OUT, [long()])],
+        ),
+        rule(
+            [P, P, M, M, M],
+            vec![fact(AGREED, [agent(), peer(), received()])],
+            vec![fact(REVEALED, [received()])],
+            vec![fact(OUT, [Term::apply(FREE, [received()])])],
+        ),
+    ]
+}
