@@ -85,7 +85,18 @@ fn checked(random: &mut Random, mut parts: Parts) -> CheckInput {
 }
 
 pub fn draw_input(random: &mut Random) -> DrawInput {
-    let mut parts = good(random);
+    let parts = good(random);
+    drawn(random, parts)
+}
+
+/// Sessions of a key exchange, to be drawn.
+pub fn session_steps(random: &mut Random) -> DrawInput {
+    let parts = sessions(random);
+    drawn(random, parts)
+}
+
+/// The two files, perhaps with faults.
+fn drawn(random: &mut Random, mut parts: Parts) -> DrawInput {
     let faults = some_faults(random);
     for fault in &faults {
         spoil_drawn(random, &mut parts, *fault);
