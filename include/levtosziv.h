@@ -22,6 +22,13 @@ extern "C" {
 uint64_t levtosziv_check(const uint8_t *protocol, size_t protocol_length, const uint8_t *property, size_t property_length,
                          const uint8_t *graph, size_t graph_length, uint8_t *work, size_t work_length);
 
+/*
+ * Writes a graph of the steps, which are a run of the protocol, to the start of the output: the steps' bytes, then the edges. An output of 61,440
+ * bytes is always long enough; a shorter one that is too short is refused with 15 and the bytes needed.
+ */
+uint64_t levtosziv_draw(const uint8_t *protocol, size_t protocol_length, const uint8_t *steps, size_t steps_length,
+                        uint8_t *output, size_t output_length, uint8_t *work, size_t work_length);
+
 /* Writes the canonical form of the term file's term, read under the protocol, to the start of the output. */
 uint64_t levtosziv_canonical(const uint8_t *protocol, size_t protocol_length, const uint8_t *term, size_t term_length,
                              uint8_t *output, size_t output_length, uint8_t *work, size_t work_length);

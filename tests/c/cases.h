@@ -111,6 +111,9 @@ static uint64_t run(const struct call *call, uint8_t *output, uint8_t *work)
     case CHECK:
         return levtosziv_check(file[0].bytes, file[0].length, file[1].bytes, file[1].length, file[2].bytes, file[2].length, work,
                                call->work_length);
+    case DRAW:
+        return levtosziv_draw(file[0].bytes, file[0].length, file[1].bytes, file[1].length, output, call->output_length, work,
+                              call->work_length);
     default:
         return levtosziv_canonical(file[0].bytes, file[0].length, file[1].bytes, file[1].length, output, call->output_length, work,
                                    call->work_length);

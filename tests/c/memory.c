@@ -50,8 +50,6 @@ int main(int count, char **names)
         uint32_t cases = open_cases(names[i]);
         for (uint32_t j = 0; j < cases; j++) {
             struct call call = next_case();
-            if (call.kind == DRAW)
-                continue;
             if (fails(&call)) {
                 printf("C: case %u of %s failed\n", j, names[i]);
                 failed++;

@@ -42,8 +42,6 @@ int main(int count, char **names)
         uint32_t which[KINDS] = {0}, cases = open_cases(names[i]);
         for (uint32_t j = 0; j < cases; j++) {
             struct call call = next_case();
-            if (call.kind == DRAW)
-                continue;
             size_t bytes = call.work_length <= sizeof work && call.output_length <= sizeof output ? stack_of(&call) : 0;
             if (bytes > most[call.kind]) {
                 most[call.kind] = bytes;

@@ -8,6 +8,7 @@ use reference::generate::runs::{encoded, Step};
 use reference::graph::{write_edges, Edge};
 use reference::property::{Formula, Quantifier, Sort as PropertySort, MOST_NESTING};
 use reference::protocol::{Protocol, Rule, Sort, IN, K, MOST_RULE_SYMBOLS, OUT};
+use reference::refusal::File;
 use reference::steps::{MOST_FILLED_IN_SYMBOLS, MOST_VALUE_SYMBOLS};
 use reference::term::{Fresh, Public, Signature, Term, ENC, FREE};
 
@@ -99,6 +100,17 @@ impl Cases {
         let outcome = calls::check(&files.protocol, &files.property, &files.graph, &mut work);
         let names = [&files.protocol[..], &files.property, &files.graph];
         self.add(0, 0, &names, outcome, &[]);
+    }
+
+    fn draw(&mut self, files: &Files) {
+        let (mut output, mut work) = (vec![0; File::Graph.limit()], vec![0; WORK_AREA]);
+        let outcome = calls::draw(&files.protocol, &files.steps, &mut output, &mut work);
+        let written = match outcome {
+            Outcome::Written(length) => &output[..length as usize],
+            _ => &[],
+        };
+        let names = [&files.protocol[..], &files.steps];
+        self.add(1, File::Graph.limit(), &names, outcome, written);
     }
 
     fn canonical(&mut self, term: &Term) {
@@ -195,6 +207,7 @@ pub fn deepest() -> Vec<u8> {
             MOST_FILLED_IN_SYMBOLS,
         ));
         cases.check(&deep_node(pair));
+        cases.draw(&deep_node(pair));
     }
     for first in 9..=12 {
         for second in 9..=12 {
@@ -203,6 +216,7 @@ pub fn deepest() -> Vec<u8> {
     }
     for kind in CHAINS {
         cases.check(&chain(kind, 16));
+        cases.draw(&chain(kind, 16));
     }
     let count = cases.count.to_le_bytes();
     [b"H5C1", &count[..], &cases.bytes].concat()

@@ -8,11 +8,13 @@ use reference::cases::{self, hexadecimal};
 use reference::corpus;
 use reference::generate::{canonical, graphs};
 use reference::random::Random;
+use reference::refusal::File;
 use std::panic::{catch_unwind, AssertUnwindSafe};
 
 #[derive(Clone, Copy, Debug, PartialEq, Eq)]
 pub enum Call {
     Check,
+    Draw,
     Canonical,
 }
 
@@ -20,7 +22,7 @@ pub enum Call {
 #[derive(Clone, Debug, PartialEq, Eq)]
 pub struct Input {
     pub call: Call,
-    /// Protocol, property, graph; or protocol, term.
+    /// Protocol, property, graph; protocol, steps; or protocol, term.
     pub files: Vec<Vec<u8>>,
     pub output: usize,
     pub work: usize,
@@ -50,43 +52,48 @@ impl Input {
         }
     }
 
-    fn canonical(files: [&[u8]; 2], output: usize, work: usize) -> Input {
+    /// Drawing, or canonical form.
+    fn writing(call: Call, files: [&[u8]; 2], output: usize, work: usize) -> Input {
         Input {
-            call: Call::Canonical,
+            call,
             files: files.map(<[u8]>::to_vec).to_vec(),
             output,
             work,
         }
     }
 
-    /// Graphs of random protocols, sessions of a key exchange, terms.
+    /// Graphs and steps of random protocols and of key exchanges; terms.
     pub fn random(random: &mut Random) -> Input {
         let check = |input: graphs::CheckInput| {
             let files = [&input.protocol[..], &input.property, &input.graph];
             Input::check(files, input.work)
         };
+        let draw = |input: graphs::DrawInput| {
+            let files = [&input.protocol[..], &input.steps];
+            Input::writing(Call::Draw, files, input.output, input.work)
+        };
         match random.below(10) {
-            0..4 => check(graphs::check_input(random)),
-            4..8 => check(graphs::session_input(random)),
+            0..3 => check(graphs::check_input(random)),
+            3..6 => check(graphs::session_input(random)),
+            6 => draw(graphs::draw_input(random)),
+            7 => draw(graphs::session_steps(random)),
             _ => {
                 let input = canonical::input(random);
-                Input::canonical([&input.protocol, &input.term], input.output, input.work)
+                let files = [&input.protocol[..], &input.term];
+                Input::writing(Call::Canonical, files, input.output, input.work)
             }
         }
     }
 
     /// The corpus and the cases by hand.
     pub fn cases() -> Vec<Input> {
-        let corpus = corpus::cases().into_iter().filter_map(|case| {
-            let files = &case.files[..];
-            match (case.kind, files) {
-                (0, [protocol, property, graph]) => {
-                    Some(Input::check([protocol, property, graph], case.work))
-                }
-                (2, [protocol, term]) => {
-                    Some(Input::canonical([protocol, term], case.output, case.work))
-                }
-                _ => None,
+        let corpus = corpus::cases().into_iter().map(|case| {
+            let call = [Call::Check, Call::Draw, Call::Canonical][case.kind as usize];
+            Input {
+                call,
+                files: case.files.iter().map(|file| file.to_vec()).collect(),
+                output: case.output,
+                work: case.work,
             }
         });
         let root = concat!(env!("CARGO_MANIFEST_DIR"), "/../../tests/cases/");
@@ -95,16 +102,20 @@ impl Input {
         let graphs = graphs
             .iter()
             .map(|case| Input::check([&case.under, &[0], &case.bytes], WORK_AREA));
-        // A step list is a graph without edges.
-        let steps = cases::steps_cases(&text("steps.txt"));
-        let steps = steps.iter().map(|case| {
+        // A step list is drawn, and is a graph without edges.
+        let lists = cases::steps_cases(&text("steps.txt"));
+        let steps = lists.iter().flat_map(|case| {
             let graph = [&case.bytes[..], &[0]].concat();
-            Input::check([&case.under, &[0], &graph], WORK_AREA)
+            let files = [&case.under[..], &case.bytes];
+            [
+                Input::check([&case.under, &[0], &graph], WORK_AREA),
+                Input::writing(Call::Draw, files, File::Graph.limit(), WORK_AREA),
+            ]
         });
         let messages = cases::message_cases(&text("messages.txt"));
         let messages = messages.iter().map(|case| {
             let protocol = [&[case.under.len() as u8], &case.under[..], &[0, 0]].concat();
-            Input::canonical([&protocol, &case.bytes], 1_024, WORK_AREA)
+            Input::writing(Call::Canonical, [&protocol, &case.bytes], 1_024, WORK_AREA)
         });
         corpus.chain(graphs).chain(steps).chain(messages).collect()
     }
@@ -115,6 +126,10 @@ impl Input {
         let outcome = match (self.call, &self.files[..]) {
             (Call::Check, [protocol, property, graph]) => {
                 ruled(levtosziv::check(protocol, property, graph, work.slice()))
+            }
+            (Call::Draw, [protocol, steps]) => {
+                let (output, work) = (output.slice(), work.slice());
+                outcome(levtosziv::draw(protocol, steps, output, work))
             }
             (Call::Canonical, [protocol, term]) => {
                 let (output, work) = (output.slice(), work.slice());
@@ -133,6 +148,10 @@ impl Input {
             (Call::Check, [protocol, property, graph]) => {
                 engine::check(protocol, property, graph, work.slice()).to_string()
             }
+            (Call::Draw, [protocol, steps]) => {
+                let (output, work) = (output.slice(), work.slice());
+                engine::draw(protocol, steps, output, work).to_string()
+            }
             (Call::Canonical, [protocol, term]) => {
                 let (output, work) = (output.slice(), work.slice());
                 engine::canonical_form(protocol, term, output, work).to_string()
@@ -148,7 +167,7 @@ impl Input {
         let (outcome, ours, guards) = self.archive();
         let theirs = self.reference();
         if ours == theirs && guards {
-            return Ok(outcome);
+            return self.accepted(outcome, &ours.output);
         }
         let reference = match (ours.line == theirs.line, guards) {
             (false, _) => theirs.line,
@@ -161,10 +180,26 @@ impl Input {
         })
     }
 
+    /// What is drawn must be accepted.
+    fn accepted(&self, outcome: Outcome, output: &[u8]) -> Result<Outcome, Difference> {
+        if let (Call::Draw, Outcome::Written(length)) = (self.call, outcome) {
+            let (graph, mut work) = (&output[..length as usize], vec![0; WORK_AREA]);
+            let ruling = ruled(levtosziv::check(&self.files[0], &[0], graph, &mut work));
+            if let Outcome::Refused(_) = ruling {
+                return Err(Difference {
+                    archive: format!("{outcome}, and the graph is {ruling}"),
+                    reference: "a graph that is drawn is accepted".to_string(),
+                });
+            }
+        }
+        Ok(outcome)
+    }
+
     /// The input in document 01's words, and the lengths lent.
     pub fn shown(&self) -> String {
         let names: &[&str] = match self.call {
             Call::Check => &["protocol", "property", "graph"],
+            Call::Draw => &["protocol", "steps"],
             Call::Canonical => &["protocol", "term"],
         };
         let named = names.iter().zip(&self.files);

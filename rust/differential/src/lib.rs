@@ -129,6 +129,48 @@ pub fn check_agrees(
     theirs
 }
 
+/// The two implementations on one input of drawing; the reference's outcome, and what is written.
+pub fn draw_agrees(
+    protocol: &[u8],
+    steps: &[u8],
+    output: usize,
+    work: usize,
+    seed: u64,
+) -> (Outcome, Vec<u8>) {
+    let (mut our_output, mut our_work) = (Lent::new(output, seed), Lent::new(work, seed + 1));
+    let (mut their_output, mut their_work) = (Lent::new(output, seed), Lent::new(work, seed + 1));
+    let ours = outcome(levtosziv::draw(
+        protocol,
+        steps,
+        our_output.slice(),
+        our_work.slice(),
+    ));
+    let theirs = reference::calls::draw(protocol, steps, their_output.slice(), their_work.slice());
+    let input =
+        || format!("protocol {protocol:02X?} steps {steps:02X?} output {output} work {work}");
+    assert_eq!(ours, theirs, "{}", input());
+    assert!(
+        our_output.slice() == their_output.slice(),
+        "output: {}",
+        input()
+    );
+    assert!(
+        our_work.slice() == their_work.slice(),
+        "work area: {}",
+        input()
+    );
+    assert!(
+        our_output.guards_hold() && our_work.guards_hold(),
+        "guards: {}",
+        input()
+    );
+    let written = match theirs {
+        Outcome::Written(length) => our_output.slice()[..length as usize].to_vec(),
+        _ => vec![],
+    };
+    (theirs, written)
+}
+
 /// The two implementations on one input of canonical form; the reference's outcome.
 pub fn canonical_form_agrees(
     protocol: &[u8],

@@ -8,11 +8,11 @@ use reference::property::{self, Formula};
 use reference::protocol::{Protocol, Rule};
 use reference::term::{Fresh, Prefix, Public, Term};
 
-/// The files of a check, as trees and lists.
+/// The files of a check or of drawing, as trees and lists.
 #[derive(Clone)]
 struct Parts {
     protocol: Protocol,
-    /// None where it is not laid out well.
+    /// None where there is none, or it is not laid out well.
     property: Option<Formula>,
     steps: Vec<Step>,
     edges: Vec<Edge>,
@@ -24,7 +24,7 @@ pub fn reduced(mut input: Input) -> Input {
         let before = size(&input);
         lent_lengths(&mut input);
         protocol(&mut input);
-        if input.call == Call::Check {
+        if input.call != Call::Canonical {
             nodes(&mut input);
             edges(&mut input);
             rules(&mut input);
@@ -122,21 +122,26 @@ fn bytes(input: &mut Input) {
 
 /// The parts, where the files hold just them.
 fn parts(input: &Input) -> Option<Parts> {
-    let [protocol_file, property_file, graph_file] = &input.files[..] else {
-        return None;
+    let protocol = Protocol::read(&input.files[0]).ok()?;
+    let property = match input.call {
+        Call::Check => property::read(&input.files[1], &protocol).ok(),
+        _ => None,
     };
-    let protocol = Protocol::read(protocol_file).ok()?;
-    let property = property::read(property_file, &protocol).ok();
-    let mut reader = Reader::new(graph_file);
+    let mut reader = Reader::new(input.files.last()?);
     let count = reader.number().ok()?;
     let steps = (0..count).map(|_| step(&protocol, &mut reader));
-    let parts = Parts {
-        steps: steps.collect::<Option<_>>()?,
-        edges: read_edges(&mut reader).ok()?,
-        property,
-        protocol,
+    let steps = steps.collect::<Option<_>>()?;
+    let edges = match input.call {
+        Call::Check => read_edges(&mut reader).ok()?,
+        _ => vec![],
     };
-    let same = files(&parts, property_file) == input.files;
+    let parts = Parts {
+        protocol,
+        property,
+        steps,
+        edges,
+    };
+    let same = files(&parts, input) == input.files;
     same.then_some(parts)
 }
 
@@ -149,18 +154,17 @@ fn step(protocol: &Protocol, reader: &mut Reader) -> Option<Step> {
 }
 
 /// The files again; the property's bytes stand for one that is not laid out well.
-fn files(parts: &Parts, property: &[u8]) -> Vec<Vec<u8>> {
-    let mut graph = encoded(&parts.steps);
-    write_edges(&parts.edges, &mut graph);
-    let property = parts
-        .property
-        .as_ref()
-        .map_or(property.to_vec(), |formula| {
-            let mut bytes = Vec::new();
-            formula.encode(&mut bytes);
-            bytes
-        });
-    vec![parts.protocol.encoded(), property, graph]
+fn files(parts: &Parts, input: &Input) -> Vec<Vec<u8>> {
+    let (protocol, mut nodes) = (parts.protocol.encoded(), encoded(&parts.steps));
+    if input.call != Call::Check {
+        return vec![protocol, nodes];
+    }
+    write_edges(&parts.edges, &mut nodes);
+    let property = match &parts.property {
+        Some(formula) => formula.encoded(),
+        None => input.files[1].clone(),
+    };
+    vec![protocol, property, nodes]
 }
 
 /// The input with its parts changed, if it has parts and the change can be made.
@@ -168,7 +172,7 @@ fn changed(input: &Input, change: impl FnOnce(&mut Parts) -> bool) -> Option<Inp
     let mut parts = parts(input)?;
     let done = change(&mut parts);
     done.then(|| Input {
-        files: files(&parts, &input.files[1]),
+        files: files(&parts, input),
         ..input.clone()
     })
 }

@@ -24,8 +24,9 @@ const WIDTH: usize = 8;
 const FIRST_RULE: u32 = 31;
 
 /// What the facts of a chain are made of.
-pub const CHAINS: [&str; 5] = [
+pub const CHAINS: [&str; 6] = [
     "facts without arguments",
+    "one fact eight times",
     "one name each",
     "one product of four names each",
     "eight products of four names each",
@@ -34,7 +35,7 @@ pub const CHAINS: [&str; 5] = [
 
 /// n nodes in a row: each but the first takes the eight facts that the one before gives, equal ones with other terms.
 pub fn chain(kind: &str, nodes: usize) -> Files {
-    let [no_arguments, names, products, many, large] = CHAINS;
+    let [no_arguments, equal, names, products, many, large] = CHAINS;
     let variable = |number: usize| Term::Variable(number as u32);
     let public = |number: usize| Term::Public(Public(number as u32));
     // The variables 0 to 7 hold what differs, variable 8 what all facts share.
@@ -51,17 +52,17 @@ pub fn chain(kind: &str, nodes: usize) -> Files {
     };
     let product = |place: usize| times(public(place), times(public(place + 1), public(9)));
     let values = || (0..WIDTH).map(product).chain([public(WIDTH)]).collect();
+    let linked = |symbols, arity, values, terms| linked(nodes, [symbols, arity], values, terms);
     match kind {
-        _ if kind == no_arguments => linked(nodes, 0, vec![], [&variable; 3]),
-        _ if kind == names => linked(nodes, 1, (0..WIDTH).map(public).collect(), [&variable; 3]),
-        _ if kind == products => linked(nodes, 1, values(), [&start, &taken, &given]),
-        _ if kind == many => linked(nodes, WIDTH, values(), [&start, &taken, &given]),
-        _ if kind == large => linked(
-            nodes,
-            4,
-            vec![large_product()],
-            [&|_| large_product(), &cancelled, &cancelled],
-        ),
+        _ if kind == no_arguments => linked(WIDTH, 0, vec![], [&variable; 3]),
+        _ if kind == equal => linked(1, 1, vec![public(0)], [&|_| variable(0); 3]),
+        _ if kind == names => linked(WIDTH, 1, (0..WIDTH).map(public).collect(), [&variable; 3]),
+        _ if kind == products => linked(WIDTH, 1, values(), [&start, &taken, &given]),
+        _ if kind == many => linked(WIDTH, WIDTH, values(), [&start, &taken, &given]),
+        _ if kind == large => {
+            let terms: [Terms; 3] = [&|_| large_product(), &cancelled, &cancelled];
+            linked(WIDTH, 4, vec![large_product()], terms)
+        }
         _ => panic!("one of {CHAINS:?}"),
     }
 }
@@ -84,11 +85,16 @@ fn cancelled(_: usize) -> Term {
 /// The terms of a fact by its number.
 type Terms<'a> = &'a dyn Fn(usize) -> Term;
 
-/// A chain whose facts have `arity` terms each: those that node 1 gives, those that the others take and give.
-fn linked(nodes: usize, arity: usize, values: Vec<Term>, terms: [Terms; 3]) -> Files {
+/// A chain whose facts have so many symbols in turn and `arity` terms each: those that node 1 gives, those that the others take and give.
+fn linked(
+    nodes: usize,
+    [symbols, arity]: [usize; 2],
+    values: Vec<Term>,
+    terms: [Terms; 3],
+) -> Files {
     let facts = |term: Terms| -> Vec<Fact> {
         let fact = |place: usize| Fact {
-            symbol: (4 + place) as u32,
+            symbol: (4 + place % symbols) as u32,
             terms: (place..place + arity).map(term).collect(),
         };
         (0..WIDTH).map(fact).collect()

@@ -26,6 +26,23 @@ fn every_canonical_form_of_the_corpus() {
     assert_eq!(run, 64);
 }
 
+/// The bytes drawn are those of the earliest source.
+#[test]
+fn every_draw_of_the_corpus() {
+    let mut run = 0;
+    for (case, label) in cases().iter().zip(INDEX.lines()) {
+        let (1, [protocol, steps]) = (case.kind, &case.files[..]) else {
+            continue;
+        };
+        let (mut output, mut work) = (vec![OUTPUT_BYTE; case.output], vec![WORK_BYTE; case.work]);
+        let answer = outcome(levtosziv::draw(protocol, steps, &mut output, &mut work));
+        assert_eq!(answer, case.outcome, "{label}");
+        assert_eq!((output, work), expected_memory(case), "{label}");
+        run += 1;
+    }
+    assert_eq!(run, 94);
+}
+
 #[test]
 fn every_check_of_the_corpus() {
     let mut run = 0;

@@ -43,6 +43,17 @@ extern "C" {
         work_length: usize,
     ) -> u64;
 
+    fn levtosziv_draw(
+        protocol: *const u8,
+        protocol_length: usize,
+        steps: *const u8,
+        steps_length: usize,
+        output: *mut u8,
+        output_length: usize,
+        work: *mut u8,
+        work_length: usize,
+    ) -> u64;
+
     fn levtosziv_canonical(
         protocol: *const u8,
         protocol_length: usize,
@@ -98,6 +109,23 @@ pub fn check(protocol: &[u8], property: &[u8], graph: &[u8], work: &mut [u8]) ->
             property.len(),
             graph.as_ptr(),
             graph.len(),
+            work.as_mut_ptr(),
+            work.len(),
+        )
+    })
+}
+
+/// Writes a graph of the steps, which are a run of the protocol, to the start of the output.
+pub fn draw(protocol: &[u8], steps: &[u8], output: &mut [u8], work: &mut [u8]) -> Written {
+    // SAFETY: each pointer is that of a slice with the length beside it, and the borrows keep the slices apart.
+    written(unsafe {
+        levtosziv_draw(
+            protocol.as_ptr(),
+            protocol.len(),
+            steps.as_ptr(),
+            steps.len(),
+            output.as_mut_ptr(),
+            output.len(),
             work.as_mut_ptr(),
             work.len(),
         )

@@ -149,6 +149,12 @@ impl Formula {
     }
 
     /// The file of this formula, within the limits or not.
+    pub fn encoded(&self) -> Vec<u8> {
+        let mut bytes = Vec::new();
+        self.encode(&mut bytes);
+        bytes
+    }
+
     pub fn encode(&self, bytes: &mut Vec<u8>) {
         number::write(self.tag(), bytes);
         match self {

@@ -4,9 +4,11 @@
 //! for callgrind.
 
 use differential::sized::{chain, deductions, nested, nothing, term, Files, CHAINS, GUARDS, TERMS};
-use levtosziv::Ruling;
+use levtosziv::{Ruling, Written};
 use reference::calls::{Outcome, WORK_AREA};
 use reference::corpus::cases;
+use reference::refusal::File;
+use std::cell::RefCell;
 use std::hint::black_box;
 use std::path::Path;
 use std::time::{Duration, Instant};
@@ -33,13 +35,15 @@ fn least(rounds: usize, mut run: impl FnMut()) -> f64 {
 struct Bench {
     words: String,
     once: bool,
+    /// The header of the rows to come.
+    header: RefCell<String>,
 }
 
 impl Bench {
     fn header(&self, what: &str) {
-        if !self.once {
-            println!("\n| {what} | archive, µs | reference, µs | ratio |\n|---|---|---|---|");
-        }
+        let columns = "archive, µs | reference, µs | ratio";
+        self.header
+            .replace(format!("\n| {what} | {columns} |\n|---|---|---|---|\n"));
     }
 
     fn wants(&self, name: &str) -> bool {
@@ -63,7 +67,8 @@ impl Bench {
         }
         let (ours, theirs) = (least(3, archive), least(1, reference));
         println!(
-            "| {name}{said} | {ours:.1} | {theirs:.1} | {:.3} |",
+            "{}| {name}{said} | {ours:.1} | {theirs:.1} | {:.3} |",
+            self.header.take(),
             ours / theirs
         );
         Some(ours)
@@ -126,6 +131,48 @@ impl Bench {
         );
     }
 
+    /// A row of a step list that is a run.
+    fn draw(&self, name: &str, files: &Files) -> Option<f64> {
+        if !self.wants(name) {
+            return None;
+        }
+        let [mut work, mut their_work] = [(); 2].map(|()| vec![0; WORK_AREA]);
+        let [mut output, mut their_output] = [(); 2].map(|()| vec![0; File::Graph.limit()]);
+        let drawn = draw(files, &mut output, &mut work);
+        let Written::Length(length) = drawn else {
+            panic!("{name}: {drawn:?}");
+        };
+        if self.once {
+            return None;
+        }
+        self.row(
+            name,
+            &format!(" ({} bytes to {length})", files.steps.len()),
+            || {
+                black_box(draw(files, &mut output, &mut work));
+            },
+            || {
+                let call = reference::calls::draw;
+                let (output, work) = (&mut their_output, &mut their_work);
+                black_box(call(&files.protocol, &files.steps, output, work));
+            },
+        )
+    }
+
+    /// The same kind of steps at three sizes; with values, the largest fill the file at 448 nodes.
+    fn drawing(&self, what: &str, make: impl Fn(usize) -> Files) {
+        let sizes = match make(512).steps.len() <= File::Steps.limit() {
+            true => [128, 256, 512],
+            false => [112, 224, 448],
+        };
+        let times =
+            sizes.map(|nodes| self.draw(&format!("draw {what}, {nodes} nodes"), &make(nodes)));
+        if let [Some(first), Some(second), Some(third)] = times {
+            let [second, third] = [second / first, third / second];
+            println!("| draw {what}: twice the nodes {second:.2}, again {third:.2} | | | |");
+        }
+    }
+
     /// The same kind of graph at 128, 256 and 512 nodes.
     fn growth(&self, what: &str, make: impl Fn(usize) -> Files) {
         let times = [128, 256, 512]
@@ -182,6 +229,10 @@ fn check(files: &Files, work: &mut [u8]) -> levtosziv::Ruling {
     levtosziv::check(&files.protocol, &files.property, &files.graph, work)
 }
 
+fn draw(files: &Files, output: &mut [u8], work: &mut [u8]) -> Written {
+    levtosziv::draw(&files.protocol, &files.steps, output, work)
+}
+
 fn check_by_reference(files: &Files, work: &mut [u8]) -> Outcome {
     reference::calls::check(&files.protocol, &files.property, &files.graph, work)
 }
@@ -219,6 +270,7 @@ fn main() {
     let bench = Bench {
         words: words[usize::from(once)..].join(" "),
         once,
+        header: RefCell::default(),
     };
     bench.checks();
     bench.header("check, growth");
@@ -226,6 +278,12 @@ fn main() {
         bench.growth(kind, |nodes| chain(kind, nodes));
     }
     bench.growth("deductions", deductions);
+    bench.header("draw");
+    bench.draw("draw no nodes", &nothing());
+    for kind in CHAINS {
+        bench.drawing(kind, |nodes| chain(kind, nodes));
+    }
+    bench.drawing("deductions", deductions);
     bench.canonical_forms();
     bench.judge();
 }

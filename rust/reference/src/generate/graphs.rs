@@ -23,11 +23,12 @@ pub struct CheckInput {
     pub work: usize,
 }
 
-/// What drawing is given: two files, and the lengths of the lent slices.
+/// What drawing is given: two files, and the lengths of the lent slices; and a property for what is drawn.
 #[derive(Clone, Debug, PartialEq, Eq)]
 pub struct DrawInput {
     pub protocol: Vec<u8>,
     pub steps: Vec<u8>,
+    pub property: Vec<u8>,
     pub output: usize,
     pub work: usize,
 }
@@ -62,11 +63,9 @@ fn checked(random: &mut Random, mut parts: Parts) -> CheckInput {
     }
     let mut graph = encoded(&parts.steps);
     write_edges(&parts.edges, &mut graph);
-    let mut property = Vec::new();
-    parts.property.encode(&mut property);
     let mut input = CheckInput {
         protocol: parts.protocol.encoded(),
-        property,
+        property: parts.property.encoded(),
         graph,
         work: long_enough(random),
     };
@@ -86,7 +85,18 @@ fn checked(random: &mut Random, mut parts: Parts) -> CheckInput {
 }
 
 pub fn draw_input(random: &mut Random) -> DrawInput {
-    let mut parts = good(random);
+    let parts = good(random);
+    drawn(random, parts)
+}
+
+/// Sessions of a key exchange, to be drawn.
+pub fn session_steps(random: &mut Random) -> DrawInput {
+    let parts = sessions(random);
+    drawn(random, parts)
+}
+
+/// The two files, perhaps with faults.
+fn drawn(random: &mut Random, mut parts: Parts) -> DrawInput {
     let faults = some_faults(random);
     for fault in &faults {
         spoil_drawn(random, &mut parts, *fault);
@@ -99,12 +109,13 @@ pub fn draw_input(random: &mut Random) -> DrawInput {
     let mut input = DrawInput {
         protocol: parts.protocol.encoded(),
         steps,
-        output: need + *random.choose(&[0, 0, 9, 2_000]),
+        property: parts.property.encoded(),
+        output: need + *random.choose(&[0, 0, 1, 9, 2_000]),
         work: long_enough(random),
     };
     for fault in faults {
         match fault {
-            75..82 => input.output = random.below(need),
+            75..82 => input.output = *random.choose(&[0, need / 2, need - 1]),
             82..84 => input.work = short(random),
             84..87 => overfill(random, &mut input.protocol, File::Protocol.limit()),
             87..90 => overfill(random, &mut input.steps, File::Steps.limit()),

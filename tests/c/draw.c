@@ -1,0 +1,57 @@
+/*
+ * Drawing from C, by the header alone: the steps of document 01's printed case, whose graph is then checked; a short output, a step list that is
+ * no run, a name made twice, a short work area.
+ */
+#include "levtosziv.h"
+
+#include <stdio.h>
+#include <string.h>
+
+static uint8_t work[65536];
+
+static int fails(const char *what, int ok)
+{
+    if (!ok)
+        printf("C: %s failed\n", what);
+    return !ok;
+}
+
+int main(void)
+{
+    const uint8_t protocol[] = {0, 1, 1, 0, 1, 1, 1, 1, 0, 0, 0, 1, 4, 0, 0, 1, 2, 0, 0};
+    const uint8_t property[] = {12, 2, 0, 3, 4, 0, 0, 1, 12, 1, 3, 3, 0, 0, 2, 0};
+    const uint8_t steps[] = {4, 0, 2, 7, 31, 2, 7, 1, 2, 7, 2, 2, 7};
+    const uint8_t graph[] = {4, 0, 2, 7, 31, 2, 7, 1, 2, 7, 2, 2, 7, 3, 1, 1, 2, 1, 2, 1, 3, 1, 3, 1, 4, 1};
+    /* The rule of the protocol, without the name that it takes; a name twice. */
+    const uint8_t no_run[] = {1, 31, 2, 7};
+    const uint8_t twice[] = {2, 0, 2, 7, 0, 2, 7};
+    uint8_t output[32];
+    int failed = 0;
+
+    memset(output, 0xA5, sizeof output);
+    memset(work, 0x5A, sizeof work);
+    uint64_t answer = levtosziv_draw(protocol, sizeof protocol, steps, sizeof steps, output, sizeof graph - 1, work, sizeof work);
+    failed += fails("a short output", answer == ((uint64_t)15 << 32 | sizeof graph) && output[0] == 0xA5);
+    failed += fails("the work area", work[0] == 0 && memcmp(work, work + 1, sizeof work - 1) == 0);
+
+    answer = levtosziv_draw(protocol, sizeof protocol, steps, sizeof steps, output, sizeof output, work, sizeof work);
+    failed += fails("the length", answer == ((uint64_t)3 << 56 | sizeof graph));
+    failed += fails("the graph", memcmp(output, graph, sizeof graph) == 0 && output[sizeof graph] == 0xA5);
+
+    answer = levtosziv_check(protocol, sizeof protocol, property, sizeof property, output, sizeof graph, work, sizeof work);
+    failed += fails("the ruling on the graph drawn", answer == ((uint64_t)1 << 56 | (uint64_t)4 << 32 | 2 << 16 | 3));
+
+    answer = levtosziv_draw(protocol, sizeof protocol, no_run, sizeof no_run, output, sizeof output, work, sizeof work);
+    failed += fails("no run", answer == ((uint64_t)14 << 32 | 1));
+
+    answer = levtosziv_draw(protocol, sizeof protocol, twice, sizeof twice, output, sizeof output, work, sizeof work);
+    failed += fails("a name twice", answer == ((uint64_t)9 << 32 | 2));
+
+    memset(work, 0x5A, sizeof work);
+    answer = levtosziv_draw(protocol, sizeof protocol, steps, sizeof steps, output, sizeof output, work, sizeof work - 1);
+    failed += fails("a short work area", answer == (uint64_t)1 << 32 && work[0] == 0x5A);
+
+    answer = levtosziv_draw(protocol, sizeof protocol, NULL, 0, output, sizeof output, work, sizeof work);
+    failed += fails("an empty step list", answer == ((uint64_t)3 << 32 | 5));
+    return failed != 0;
+}
