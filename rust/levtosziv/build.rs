@@ -10,10 +10,6 @@ fn main() {
         std::process::exit(1);
     }
     println!("cargo:rerun-if-changed={}", archive.display());
-    if !archive.exists() {
-        eprintln!("target/staticlib/libchecker.a is missing: `rt staticlib checker` in the project's folder makes it");
-        std::process::exit(1);
-    }
     println!("cargo:rustc-link-search=native={}", folder.display());
     println!("cargo:rustc-link-lib=static=checker");
 }

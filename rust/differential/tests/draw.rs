@@ -17,7 +17,7 @@ use reference::steps::{nodes, read_steps, Node};
 const INPUTS: usize = 100_000;
 
 /// One of so many inputs is drawn again with other outputs, and its graph or graphs like it are checked.
-const FOLLOWED: usize = 8;
+const FOLLOWED: usize = 32;
 
 fn beside_the_reference(seed: u64) {
     let mut random = Random::new(seed);
