@@ -9,8 +9,11 @@
 
 static uint8_t work[65536];
 
+static int asked;
+
 static int fails(const char *what, int ok)
 {
+    asked++;
     if (!ok)
         printf("C: %s failed\n", what);
     return !ok;
@@ -53,5 +56,6 @@ int main(void)
 
     answer = levtosziv_draw(protocol, sizeof protocol, NULL, 0, output, sizeof output, work, sizeof work);
     failed += fails("an empty step list", answer == ((uint64_t)3 << 32 | 5));
+    printf("C, drawing: %d of %d as document 01 says\n", asked - failed, asked);
     return failed != 0;
 }
