@@ -244,12 +244,17 @@ pub fn variables_in_scope(random: &mut Random) -> Formula {
             body: Box::new(formula),
         });
     }
-    Formula::ForAll(Quantifier {
+    let formula = Formula::ForAll(Quantifier {
         new: vec![Sort::Time],
         guard: fact_of(K, Term::Public(Public(LARGEST))),
         time: 0,
         body: Box::new(formula),
-    })
+    });
+    // A sibling's variables do not count.
+    match random.below(2) {
+        0 => formula,
+        _ => Formula::And(Box::new(formula.clone()), Box::new(formula)),
+    }
 }
 
 /// As many new variables as are allowed, which is cause 5 here, or one more: cause 3.

@@ -76,7 +76,8 @@ fn checked(random: &mut Random, mut parts: Parts) -> CheckInput {
             84..86 => overfill(random, &mut input.property, File::Property.limit()),
             86..88 => overfill(random, &mut input.graph, File::Graph.limit()),
             88..90 => damage(random, &mut input.protocol),
-            90..94 => damage(random, &mut input.property),
+            90..93 => damage(random, &mut input.property),
+            93 => input.property = vec![*random.choose(&[13, 14, 127])],
             94.. => damage(random, &mut input.graph),
             _ => {}
         }
