@@ -48,7 +48,7 @@ fn rule(sorts: [Sort; 5], premises: Vec<Fact>, actions: Vec<Fact>, conclusions: 
     }
 }
 
-/// Agents have long-term keys, begin, answer and finish sessions; long-term and session keys are revealed.
+/// Agents have long-term keys, begin, answer and finish sessions; long-term and session keys are revealed; messages are repeated.
 pub fn exchange(random: &mut Random) -> Protocol {
     let own = |arity, persistent| FactSymbol { arity, persistent };
     let exponent = exponent(random);
@@ -136,6 +136,13 @@ fn rules(exponent: &Term, key: &Term) -> Vec<Rule> {
             vec![fact(AGREED, [agent(), peer(), received()])],
             vec![fact(REVEALED, [received()])],
             vec![fact(OUT, [Term::apply(FREE, [received()])])],
+        ),
+        // The same message taken twice, and the same one given twice.
+        rule(
+            [P, P, M, M, M],
+            vec![heard(), heard()],
+            vec![],
+            vec![fact(OUT, [received()]), fact(OUT, [received()])],
         ),
     ]
 }

@@ -102,6 +102,22 @@ pub fn order(random: &mut Random, steps: &mut Vec<Step>) {
     }
 }
 
+/// One of two nodes that inject the same message taken away, before a node of the protocol that perhaps takes both: cause 14 then. Where
+/// there are none, any other fault of order.
+pub fn twin(random: &mut Random, steps: &mut Vec<Step>) {
+    let is_twin = |place: &usize| {
+        let (step, next) = (&steps[*place], &steps[place + 1]);
+        let before = &steps[..*place];
+        let again = |other: &Step| other.rule == 2 && other.values == step.values;
+        step.rule == 2 && next.rule >= 31 && before.iter().any(again)
+    };
+    let twins: Vec<usize> = (0..steps.len().saturating_sub(1)).filter(is_twin).collect();
+    if twins.is_empty() {
+        return order(random, steps);
+    }
+    steps.remove(*random.choose(&twins));
+}
+
 /// A field of an edge changed: cause 10, and sometimes 11 or 12.
 pub fn edge_end(random: &mut Random, edges: &mut [Edge]) {
     if edges.is_empty() {

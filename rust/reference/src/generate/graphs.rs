@@ -227,7 +227,8 @@ fn spoil_drawn(random: &mut Random, parts: &mut Parts, fault: usize) {
         23..38 => faults::value(random, &mut parts.steps),
         38..46 => faults::large_node(random, &mut parts.steps),
         46..54 => faults::name_again(random, &mut parts.steps),
-        54..73 => faults::order(random, &mut parts.steps),
+        54..66 => faults::order(random, &mut parts.steps),
+        66..73 => faults::twin(random, &mut parts.steps),
         73..75 => faults::node_limit(random, &mut parts.steps),
         _ => {}
     }
