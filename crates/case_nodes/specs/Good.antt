@@ -8,7 +8,6 @@ use Rattle.octets.specs.Limits.{longest}
 use Rattle.octets.specs.Head.{Bytes}
 use Rattle.protocol.specs.Protocol.{Protocol}
 use Rattle.prepared.specs.Prepared.{Prepared}
-use Rattle.steps.specs.Table.{tableLength}
 use Rattle.steps.specs.Causes.Good as steps
 use Rattle.steps.specs.Causes.Good.{RightNodes, good-right}
 use Rattle.steps.specs.declared.ruling.NodesRuling.{NodesRuling}
@@ -22,8 +21,8 @@ WhereGood p s nodes (Refused number item) = Unit {0}
 
 -- as the ruling of the step list says
 pub right-nodes :
-    {p s nodes : List ℕ} {r : NodesRuling} {n : ℕ} → Bytes s → Asks (Prepared p) → length nodes ≡ tableLength → length s ≤ longest → r ≡ jd.Good n
+    {p s nodes : List ℕ} {r : NodesRuling} {n : ℕ} → Bytes s → Asks (Prepared p) → length s ≤ longest → r ≡ jd.Good n
     → Promises (Prepared p) (λ (P : Protocol). steps.WhereGood P p s nodes r) → Asks₂ (RightNodes p s nodes n)
-right-nodes {p} {s} {nodes} {n = n} bytes (P, f) long short is good =
+right-nodes {p} {s} {nodes} {n = n} bytes (P, f) short is good =
     let g = subst (steps.WhereGood P p s nodes) is (good P f) in
-    (P, g .items, good-right P p s nodes bytes f long short 0 n (length s) g)
+    (P, g .items, good-right P p s nodes bytes f short 0 n (length s) g)

@@ -10,8 +10,7 @@ use case_nodes::Fitness;
 use graph::ruling;
 use graph::ruling::GraphRuling;
 
-// The room for the canonical bytes of two facts.
-const WORK: usize = 2 * facts::writing::FACT_ROOM;
+const WORK: usize = graph::area::FACTS_END;
 
 // The graph's causes, under a prepared protocol.
 fn show_ruling(p: &[u8; case_nodes::PREPARED], file: &[u8])

@@ -6,8 +6,9 @@ ghost use Rattle.lists.specs.Asks.{Asks, Promises, Asks₂, Promises₂, Asks�
 ghost use Rattle.rewriting.specs.Table.{refused};
 ghost use Rattle.protocol.specs.Protocol.{Protocol};
 ghost use Rattle.prepared.specs.Prepared.{Prepared};
-ghost use Rattle.facts.specs.Writing.{factRoom};
-ghost use Rattle.facts.specs.Calls.{Room};
+ghost use Rattle.steps.specs.Table.{RowsOf, FewNodes};
+ghost use Rattle.graph.specs.Table.{FieldsOf, fewFields};
+ghost use Rattle.graph.specs.Area.{Area};
 ghost use Rattle.property.specs.Formula.{Formula};
 ghost use Rattle.verdict.specs.Judged.{Posed};
 ghost use Rattle.checker.specs.Answer.{workNeed};
@@ -18,10 +19,13 @@ ghost use Rattle.checker.specs.Check.Contracts.{Under, Told, Inside};
 use crate::Counts;
 use crate::Refusal;
 use crate::Ruling;
+use graph::area;
+use graph::edges;
 use graph::ruling::GraphRuling;
 use prepared::sections;
 use property::ruling::PropertyRuling;
 use rules::fit::FitVerdict;
+use steps::nodes;
 
 // "Property (1,024 bytes)", "Graph (61,440 bytes)"
 pub const PROPERTY_LIMIT: usize = 1024;
@@ -48,10 +52,11 @@ fn judge_graph(
     m: usize,
     work: &mut [u8],
 ) -> Ruling
-    requires { ⌜ Asks₃ (Posed (now p) (now property) (now graph) (now nodes) n) × Room (now work) factRoom ⌝ }
+    requires { ⌜ Asks₃ (Posed (now p) (now property) (now graph) (now nodes) n) × Area (now work) ⌝ }
     ensures { λ r. ⌜ Promises₃ (Posed (now (p .entry)) (now (property .entry)) (now (graph .entry)) (now (nodes .entry)) n) (Told n m r) ⌝ }
 {
-    let verdict = verdict::judge_nodes(p, property, graph, nodes, n, work);
+    let facts = &mut work[area::FACTS..area::FACTS_END];
+    let verdict = verdict::judge_nodes(p, property, graph, nodes, n, facts);
     let counts = Counts {
         nodes: n,
         active: verdict.active,
@@ -63,22 +68,61 @@ fn judge_graph(
     Ruling::Attack(counts)
 }
 
-// The graph, 3 and 6 to 13, under a property that passes.
-fn check_graph(p: &[u8], property: &[u8], graph: &[u8], work: &mut [u8]) -> Ruling
-    requires { ⌜ Asks₂ (Under (now p) (now property)) × (length (now graph) ≤ graphLimit) × Room (now work) factRoom ⌝ }
+// The graph, 3 and 6 to 13, under a property that passes, with tables that are long enough for it.
+fn check_with(
+    p: &[u8],
+    property: &[u8],
+    graph: &[u8],
+    nodes: &mut [usize],
+    edges: &mut [u32],
+    work: &mut [u8],
+) -> Ruling
+    requires { ⌜ Asks₂ (Under (now p) (now property)) × (length (now graph) ≤ graphLimit) × RowsOf (now graph) 0 (now nodes) × FieldsOf (now graph) (now edges) × Area (now work) ⌝ }
     ensures { λ r. ⌜ Promises₂ (Under (now (p .entry)) (now (property .entry))) (λ (P : Protocol) (f : Formula). ruled r ≡ graphUnder P f (now (graph .entry))) ⌝ }
 {
-    let mut nodes = [0usize; steps::nodes::TABLE];
-    let mut edges = [0u32; graph::edges::TABLE];
-    match graph::ruling::rule_graph(p, graph, &mut nodes, &mut edges, work) {
-        GraphRuling::Good(n, m) => judge_graph(p, property, graph, &nodes, n, m, work),
+    match graph::ruling::rule_graph(p, graph, nodes, edges, work) {
+        GraphRuling::Good(n, m) => judge_graph(p, property, graph, nodes, n, m, work),
         GraphRuling::Refused(number, item) => refuse(number, item),
     }
 }
 
+// The same for few nodes and bytes.
+fn check_small(p: &[u8], property: &[u8], graph: &[u8], work: &mut [u8]) -> Ruling
+    requires { ⌜ Asks₂ (Under (now p) (now property)) × (length (now graph) ≤ fewFields) × FewNodes (now graph) × Area (now work) ⌝ }
+    ensures { λ r. ⌜ Promises₂ (Under (now (p .entry)) (now (property .entry))) (λ (P : Protocol) (f : Formula). ruled r ≡ graphUnder P f (now (graph .entry))) ⌝ }
+{
+    let mut nodes = [0usize; nodes::FEW_ROWS];
+    let mut edges = [0u32; edges::FEW_FIELDS];
+    check_with(p, property, graph, &mut nodes, &mut edges, work)
+}
+
+// The same for any number.
+fn check_large(p: &[u8], property: &[u8], graph: &[u8], work: &mut [u8]) -> Ruling
+    requires { ⌜ Asks₂ (Under (now p) (now property)) × (length (now graph) ≤ graphLimit) × Area (now work) ⌝ }
+    ensures { λ r. ⌜ Promises₂ (Under (now (p .entry)) (now (property .entry))) (λ (P : Protocol) (f : Formula). ruled r ≡ graphUnder P f (now (graph .entry))) ⌝ }
+{
+    let mut nodes = [0usize; nodes::TABLE];
+    let mut edges = [0u32; edges::TABLE];
+    check_with(p, property, graph, &mut nodes, &mut edges, work)
+}
+
+// The graph, under a property that passes.
+fn check_graph(p: &[u8], property: &[u8], graph: &[u8], work: &mut [u8]) -> Ruling
+    requires { ⌜ Asks₂ (Under (now p) (now property)) × (length (now graph) ≤ graphLimit) × Area (now work) ⌝ }
+    ensures { λ r. ⌜ Promises₂ (Under (now (p .entry)) (now (property .entry))) (λ (P : Protocol) (f : Formula). ruled r ≡ graphUnder P f (now (graph .entry))) ⌝ }
+{
+    if edges::FEW_FIELDS < graph.len() {
+        return check_large(p, property, graph, work);
+    }
+    if nodes::few_nodes(graph) {
+        return check_small(p, property, graph, work);
+    }
+    check_large(p, property, graph, work)
+}
+
 // The property, 3 and 5, under a prepared protocol, then the graph.
 fn check_property(p: &[u8], property: &[u8], graph: &[u8], work: &mut [u8]) -> Ruling
-    requires { ⌜ Asks (Prepared (now p)) × (length (now graph) ≤ graphLimit) × Room (now work) factRoom ⌝ }
+    requires { ⌜ Asks (Prepared (now p)) × (length (now graph) ≤ graphLimit) × Area (now work) ⌝ }
     ensures { λ r. ⌜ Promises (Prepared (now (p .entry))) (λ (P : Protocol). ruled r ≡ underProtocol P (now (property .entry)) (now (graph .entry))) ⌝ }
 {
     match property::ruling::rule_property(p, property) {
@@ -89,7 +133,7 @@ fn check_property(p: &[u8], property: &[u8], graph: &[u8], work: &mut [u8]) -> R
 
 // The protocol, 3 and 4, then the property and the graph.
 fn check_protocol(protocol: &[u8], property: &[u8], graph: &[u8], work: &mut [u8]) -> Ruling
-    requires { ⌜ (length (now protocol) ≤ protocolLimit) × (length (now graph) ≤ graphLimit) × Room (now work) factRoom ⌝ }
+    requires { ⌜ (length (now protocol) ≤ protocolLimit) × (length (now graph) ≤ graphLimit) × Area (now work) ⌝ }
     ensures { λ r. ⌜ ruled r ≡ filesRuling (now (protocol .entry)) (now (property .entry)) (now (graph .entry)) ⌝ }
 {
     let mut p = [0u8; sections::PREPARED];
@@ -102,7 +146,7 @@ fn check_protocol(protocol: &[u8], property: &[u8], graph: &[u8], work: &mut [u8
 
 // "2 for all files in order", then the files.
 pub fn check_files(protocol: &[u8], property: &[u8], graph: &[u8], work: &mut [u8]) -> Ruling
-    requires { ⌜ Room (now work) factRoom ⌝ }
+    requires { ⌜ Area (now work) ⌝ }
     ensures { λ r. ⌜ Promises (λ (work : ℕ). workNeed ≤ work) (Inside (now (protocol .entry)) (now (property .entry)) (now (graph .entry)) r) ⌝ }
 {
     if crate::PROTOCOL_LIMIT < protocol.len() {

@@ -23,6 +23,7 @@ ghost use Rattle.checker.specs.Check.Bounds.{OutcomeSmall};
 ghost use Rattle.checker.specs.Canonical.{canonicalOutcome, canonicalOutput, canonicalWork};
 ghost use Rattle.checker.specs.Draw.{drawOutcome, drawOutput, drawWork};
 ghost use Rattle.checker.specs.Canonical.Contracts.{Form, Formed, Under, Judges, Inside};
+use graph::area;
 use protocol::figures;
 use rules::fit::FitVerdict;
 use term::Walk;
@@ -192,7 +193,12 @@ pub fn canonical_form(protocol: &[u8], term: &[u8], output: &mut [u8], work: &mu
     if work.len() < WORK_NEED {
         return refused(WORK_SHORT, NO_ITEM);
     }
-    let r = canonical_inside(protocol, term, output, &mut work[..canonical::FORM_ROOM]);
+    let r = canonical_inside(
+        protocol,
+        term,
+        output,
+        &mut work[area::FACTS..area::FACTS + canonical::FORM_ROOM],
+    );
     octets::clear(work);
     r
 }
@@ -230,7 +236,12 @@ pub fn draw(protocol: &[u8], steps: &[u8], output: &mut [u8], work: &mut [u8]) -
     if work.len() < WORK_NEED {
         return refused(WORK_SHORT, NO_ITEM);
     }
-    let r = drawing::draw_files(protocol, steps, output, &mut work[..WORK_NEED]);
+    let r = drawing::draw_files(
+        protocol,
+        steps,
+        output,
+        &mut work[area::FACTS..area::FACTS_END],
+    );
     octets::clear(work);
     r
 }
@@ -257,7 +268,7 @@ pub fn check(protocol: &[u8], property: &[u8], graph: &[u8], work: &mut [u8]) ->
     if work.len() < WORK_NEED {
         return checking::refuse(rewriting::WORK_SHORT, rewriting::NO_ITEM);
     }
-    let r = checking::check_files(protocol, property, graph, &mut work[..WORK_NEED]);
+    let r = checking::check_files(protocol, property, graph, work);
     octets::clear(work);
     r
 }

@@ -17,6 +17,8 @@ pub mod Ends
 pub mod Joins
 -- how often each fact is an end
 pub mod Uses
+-- the map of the work area
+pub mod Area
 -- 12 and 13 by these counts
 pub mod Passes
 -- what the code answers of a graph file

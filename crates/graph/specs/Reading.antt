@@ -3,6 +3,7 @@ use Prim.Native.Nat.{ℕ, _<_}
 use mathlib.Core.List.{List}
 use mathlib.Core.Bool.{Bool}
 use mathlib.Core.Path.{_≡_, refl, ap, sym, _∙_, subst}
+use native.Mathlib.Omega.{arith}
 use lib.ListN.{length, getD}
 use borrow.Author.Tests.{eq-eqb, ne-eqb}
 use Rattle.lists.specs.Choice.{pick}
@@ -11,7 +12,7 @@ use Rattle.rewriting.specs.Graph.{Edge}
 use Rattle.protocol.specs.Protocol.{Protocol}
 use Rattle.steps.specs.Nodes.{Node, noNode, Reading, read, broken, no-rule, onward, plainly, allOf, nodeList}
 use Rattle.steps.specs.Nodes.Code.{Told}
-use Rattle.steps.specs.Table.{Row}
+use Rattle.steps.specs.Table.{RowsFor, Row}
 use Rattle.steps.specs.declared.nodes.Nodes.{Nodes}
 use Rattle.steps.specs.declared.nodes.Nodes.the-variants as told
 use Rattle.graph.specs.declared.edges.Edges.{Edges}
@@ -38,6 +39,7 @@ pub record GraphIs (P : Protocol) (p s nodes edges : List ℕ) (n m : ℕ) : Typ
   pub is : Graph
   pub there : graph s P ≡ read is (length s)
   pub count : length (is .nodes) ≡ n
+  pub long : RowsFor nodes n
   pub rows : (j : ℕ) → j < n → Row p s nodes j (getD (is .nodes) j noNode)
   pub edges-in : EdgesIn edges m (is .edges)
 
@@ -89,6 +91,7 @@ module _ (P : Protocol) (p s nodes : List ℕ) (r : Nodes) (nodes-told : Told (n
             ∙ ap (λ (o : Read (List Edge)). allOf s (plainly o (λ es f. read (graph-of (t .items) es) f))) (b .there)
             ∙ ap (λ (c : Bool). pick c (read (graph-of (t .items) (b .items)) (length s)) broken) (eq-eqb (length s) (length s) refl);
         count = t .count ∙ sym same;
+        long = omega (arith, t .long);
         rows = λ j l. t .rows j (subst (λ (i : ℕ). j < i) same l);
         edges-in = b .stand;
       }

@@ -19,7 +19,6 @@ use Rattle.steps.specs.Nodes.{Node, NodeWithin, Reading}
 use Rattle.steps.specs.Values.{NodeRight}
 use Rattle.steps.specs.Values.Tests.{nodeValuesOk, nodeTermsOk}
 use Rattle.steps.specs.Runs.{protocolFacts, rewrittens}
-use Rattle.steps.specs.Table.{tableLength}
 use Rattle.steps.specs.Table.Laws.{nodes-in}
 use Rattle.steps.specs.Causes.{graphItem, readRuling, nodeRuling}
 use Rattle.steps.specs.Causes.Code.{rulingOf, counted}
@@ -156,7 +155,7 @@ module _ (P : Protocol) (p s nodes edges : List ℕ) (r : GraphEnd) (told : Grap
   unfolding graphRuling
   file-unknown h = ap (λ (q : Reading Graph). andThen (readRuling graphItem q) (ruling P)) (as-told h)
 
-  module _ {n m : ℕ} (h : r ≡ end.End n m) (prepared : Prepared p P) (bytes : Bytes s) (long : length nodes ≡ tableLength) (short : length s ≤ longest)
+  module _ {n m : ℕ} (h : r ≡ end.End n m) (prepared : Prepared p P) (bytes : Bytes s) (short : length s ≤ longest)
     where
       pub file-read : GraphIs P p s nodes edges n m
       file-read = as-told h
@@ -165,7 +164,7 @@ module _ (P : Protocol) (p s nodes edges : List ℕ) (r : GraphEnd) (told : Grap
       file-in =
           let t = file-read in
           record {
-            nodes-in = nodes-in prepared (graph-form s bytes P (t .is) (length s) (t .there) .0 .0) (t .count) (t .rows) long short;
+            nodes-in = nodes-in prepared (graph-form s bytes P (t .is) (length s) (t .there) .0 .0) (t .count) (t .rows) (t .long) short;
             edges-in = t .edges-in;
           }
 

@@ -11,6 +11,8 @@ use Rattle.steps.specs.Causes.Good.{RightNodes}
 use Rattle.graph.specs.Graph.{Graph, place-of, edge-of, mostEdges}
 -- what reading leaves in it
 pub mod Reading
+-- tables that are long enough
+pub mod Room
 
 -- ── where things stand ──
 -- "source node, conclusion, target node, premise"
@@ -24,8 +26,21 @@ sourceField = 0
 abbrev pub targetField : ℕ
 targetField = 2
 
+-- fields for the most edges
 abbrev pub edgeTable : ℕ
 edgeTable = edgeFields * mostEdges
+
+-- a table has fields for m edges
+abbrev pub FieldsFor : List ℕ → ℕ → Type 0
+FieldsFor edges m = edgeFields * m ≤ length edges
+
+-- for as many edges as the bytes of a file can hold
+abbrev pub FieldsOf : List ℕ → List ℕ → Type 0
+FieldsOf s edges = (m : ℕ) → m ≤ mostEdges → edgeFields * m ≤ length s → FieldsFor edges m
+
+-- ── a table for small files ──
+abbrev pub fewFields : ℕ
+fewFields = 2048
 
 -- ── what stands there ──
 abbrev pub endAt : List ℕ → ℕ → Place
@@ -43,7 +58,7 @@ pub record EdgesIn (edges : List ℕ) (m : ℕ) (es : List Edge) : Type 0 where
   pub count : length es ≡ m
   pub few : m ≤ mostEdges
   pub each : (j : ℕ) → j < m → getD es j noEdge ≡ edgeAt edges j
-  pub long : length edges ≡ edgeTable
+  pub long : FieldsFor edges m
 
 -- ── as contracts ask ──
 -- n nodes in their table, whatever their file is

@@ -3,7 +3,7 @@ ghost use mathlib.Core.Path.{_≡_};
 ghost use Prim.Native.Nat.{_≤_, _<_};
 ghost use lib.ListN.{length, getD};
 ghost use Rattle.graph.specs.Graph.{mostEdges};
-ghost use Rattle.graph.specs.Table.{edgeTable};
+ghost use Rattle.graph.specs.Table.{FieldsOf};
 ghost use Rattle.graph.specs.Table.Reading.{NumbersRead, EdgesFrom, EdgesRead};
 use number::Number;
 
@@ -20,6 +20,9 @@ pub const SOURCE: usize = 0;
 pub const TARGET: usize = 2;
 
 pub const TABLE: usize = FIELDS * MOST_EDGES;
+
+// The numbers of a small file's edges: no more than its bytes.
+pub const FEW_FIELDS: usize = 2048;
 
 // Some numbers: the place behind them, or a fault.
 pub enum Numbers {
@@ -55,12 +58,16 @@ fn read_numbers(s: &[u8], at: usize, k: usize, edges: &mut [u32]) -> Numbers
     Numbers::End(i)
 }
 
-// m edges.
+// m edges. Each of their numbers takes a byte at least.
 fn edges_from(s: &[u8], at: usize, m: usize, edges: &mut [u32]) -> Edges
-    requires { ⌜ (m ≤ mostEdges) × (length (now edges) ≡ edgeTable) ⌝ }
+    requires { ⌜ (m ≤ mostEdges) × FieldsOf (now s) (now edges) ⌝ }
     ensures { λ r. ⌜ EdgesFrom (now (s .entry)) at m (now (edges .exit)) r ⌝ }
 {
-    match read_numbers(s, at, FIELDS * m, edges) {
+    let k = FIELDS * m;
+    if s.len() < k {
+        return Edges::Fault;
+    }
+    match read_numbers(s, at, k, edges) {
         Numbers::End(e) => Edges::End(m, e),
         Numbers::Fault => Edges::Fault,
     }
@@ -68,7 +75,7 @@ fn edges_from(s: &[u8], at: usize, m: usize, edges: &mut [u32]) -> Edges
 
 // The count, 4,096 at most, and the edges.
 pub fn read_edges(s: &[u8], at: usize, edges: &mut [u32]) -> Edges
-    requires { ⌜ length (now edges) ≡ edgeTable ⌝ }
+    requires { ⌜ FieldsOf (now s) (now edges) ⌝ }
     ensures { λ r. ⌜ EdgesRead (now (s .entry)) at (now (edges .exit)) r ⌝ }
 {
     match number::below(s, at, EDGE_LIMIT) {

@@ -6,8 +6,8 @@ ghost use Rattle.lists.specs.Asks.{Asks, Promises};
 ghost use Rattle.octets.specs.Limits.{longest};
 ghost use Rattle.protocol.specs.Protocol.{Protocol};
 ghost use Rattle.prepared.specs.Prepared.{Prepared};
-ghost use Rattle.steps.specs.Table.{tableLength};
-ghost use Rattle.graph.specs.Table.{edgeTable};
+ghost use Rattle.steps.specs.Table.{RowsOf};
+ghost use Rattle.graph.specs.Table.{FieldsOf};
 ghost use Rattle.graph.specs.Reading.{BehindNodes, GraphTold};
 use crate::edges;
 use crate::edges::Edges;
@@ -23,7 +23,7 @@ pub enum GraphEnd {
 
 // Behind n nodes: the edges, and nothing behind them.
 fn behind_nodes(s: &[u8], n: usize, at: usize, edges: &mut [u32]) -> GraphEnd
-    requires { ⌜ length (now edges) ≡ edgeTable ⌝ }
+    requires { ⌜ FieldsOf (now s) (now edges) ⌝ }
     ensures { λ r. ⌜ BehindNodes (now (s .entry)) n at (now (edges .exit)) r ⌝ }
 {
     match edges::read_edges(s, at, edges) {
@@ -38,7 +38,7 @@ fn behind_nodes(s: &[u8], n: usize, at: usize, edges: &mut [u32]) -> GraphEnd
 }
 
 pub fn read_graph(p: &[u8], s: &[u8], nodes: &mut [usize], edges: &mut [u32]) -> GraphEnd
-    requires { ⌜ Asks (Prepared (now p)) × (length (now s) ≤ longest) × (length (now nodes) ≡ tableLength) × (length (now edges) ≡ edgeTable) ⌝ }
+    requires { ⌜ Asks (Prepared (now p)) × (length (now s) ≤ longest) × RowsOf (now s) 0 (now nodes) × FieldsOf (now s) (now edges) ⌝ }
     ensures { λ r. ⌜ Promises (Prepared (now (p .entry))) (λ (P : Protocol). GraphTold P (now (p .entry)) (now (s .entry)) (now (nodes .exit)) (now (edges .exit)) r) ⌝ }
 {
     match nodes::read_nodes(p, s, 0, nodes) {

@@ -7,20 +7,19 @@ ghost use Rattle.lists.specs.Asks.{Asks, Promises, Asks₂, Promises₂, Asks�
 ghost use Rattle.octets.specs.Limits.{longest};
 ghost use Rattle.protocol.specs.Protocol.{Protocol};
 ghost use Rattle.prepared.specs.Prepared.{Prepared};
-ghost use Rattle.steps.specs.Table.{tableLength};
-ghost use Rattle.facts.specs.Writing.{factRoom};
-ghost use Rattle.facts.specs.Calls.{Room};
+ghost use Rattle.steps.specs.Table.{RowsOf};
 ghost use Rattle.graph.specs.Graph.{Graph};
-ghost use Rattle.graph.specs.Table.{edgeTable, GraphIn, ReadIn};
+ghost use Rattle.graph.specs.Table.{FieldsOf, GraphIn, ReadIn};
 ghost use Rattle.graph.specs.Joins.{EndedOf};
 ghost use Rattle.graph.specs.Uses.{countTable};
+ghost use Rattle.graph.specs.Area.{Area};
 ghost use Rattle.graph.specs.Ruling.{usesRuling, edgesRuling, Decided, ReadDecided, Answered};
+use crate::area;
 use crate::ends;
 use crate::joins;
 use crate::passes;
 use crate::reading;
 use crate::reading::GraphEnd;
-use crate::uses;
 use steps::ruling;
 use steps::ruling::NodesRuling;
 
@@ -63,18 +62,33 @@ fn rule_edges(
     m: usize,
     work: &mut [u8],
 ) -> GraphRuling
-    requires { ⌜ Asks₂ (GraphIn (now p) (now s) (now nodes) n (now edges) m) × Room (now work) factRoom ⌝ }
+    requires { ⌜ Asks₂ (GraphIn (now p) (now s) (now nodes) n (now edges) m) × Area (now work) ⌝ }
     ensures { λ r. ⌜ Promises₂ (GraphIn (now (p .entry)) (now (s .entry)) (now (nodes .entry)) n (now (edges .entry)) m) (λ (P : Protocol) (g : Graph). Decided (edgesRuling P g) g n m r) ⌝ }
 {
     let missing = ends::end_pass(p, nodes, n, edges, m);
     if missing != 0 {
         return GraphRuling::Refused(rewriting::END_MISSING, missing);
     }
-    let differs = joins::fact_pass(work, p, s, nodes, n, edges, m);
+    let differs = joins::fact_pass(
+        &mut work[area::FACTS..area::FACTS_END],
+        p,
+        s,
+        nodes,
+        n,
+        edges,
+        m,
+    );
     if differs != 0 {
         return GraphRuling::Refused(rewriting::FACTS_DIFFER, differs);
     }
-    rule_uses(p, nodes, n, edges, m, &mut work[..uses::COUNTS])
+    rule_uses(
+        p,
+        nodes,
+        n,
+        edges,
+        m,
+        &mut work[area::COUNTS..area::COUNTS_END],
+    )
 }
 
 // 7 to 13 of nodes and edges that were read.
@@ -87,7 +101,7 @@ fn rule_read(
     m: usize,
     work: &mut [u8],
 ) -> GraphRuling
-    requires { ⌜ Asks₂ (ReadIn (now p) (now s) (now nodes) n (now edges) m) × Room (now work) factRoom ⌝ }
+    requires { ⌜ Asks₂ (ReadIn (now p) (now s) (now nodes) n (now edges) m) × Area (now work) ⌝ }
     ensures { λ r. ⌜ Promises₂ (ReadIn (now (p .entry)) (now (s .entry)) (now (nodes .entry)) n (now (edges .entry)) m) (λ (P : Protocol) (g : Graph). ReadDecided P g n m r) ⌝ }
 {
     match ruling::rule_nodes(p, s, nodes, n) {
@@ -104,7 +118,7 @@ pub fn rule_graph(
     edges: &mut [u32],
     work: &mut [u8],
 ) -> GraphRuling
-    requires { ⌜ Asks (Prepared (now p)) × (length (now s) ≤ longest) × (length (now nodes) ≡ tableLength) × (length (now edges) ≡ edgeTable) × Room (now work) factRoom ⌝ }
+    requires { ⌜ Asks (Prepared (now p)) × (length (now s) ≤ longest) × RowsOf (now s) 0 (now nodes) × FieldsOf (now s) (now edges) × Area (now work) ⌝ }
     ensures { λ r. ⌜ Promises (Prepared (now (p .entry))) (λ (P : Protocol). Answered P (now (p .entry)) (now (s .entry)) (now (nodes .exit)) r) ⌝ }
 {
     match reading::read_graph(p, s, nodes, edges) {

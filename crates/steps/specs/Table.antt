@@ -1,6 +1,6 @@
 -- The table of nodes that their reading fills: a row for each node, with its rule number, the places of its values and the place behind
 -- them, how many symbols each value has, and whether one holds a variable.
-use Prim.Native.Nat.{ℕ, _+_, _*_, _≤_, _<_}
+use Prim.Native.Nat.{ℕ, suc, _+_, _*_, _≤_, _<_}
 use mathlib.Core.List.{List}
 use mathlib.Core.Bool.{Bool}
 use mathlib.Core.Path.{_≡_}
@@ -10,7 +10,7 @@ use Rattle.lists.specs.Choice.{pick}
 use Rattle.lists.specs.Lists.{anyBy}
 use Rattle.octets.specs.Limits.{longest}
 use Rattle.number.specs.Groups.{numberLimit}
-use Rattle.number.specs.Reading.{got}
+use Rattle.number.specs.Reading.{got, below}
 use Rattle.term.specs.Term.{Term, symbols}
 use Rattle.term.specs.Reader.{term}
 use Rattle.term.specs.Walk.{holds}
@@ -30,8 +30,17 @@ placeCount = mostVariables + 1
 abbrev pub rowLength : ℕ
 rowLength = 1 + placeCount + mostVariables + 1
 
+-- rows for the most nodes
 abbrev pub tableLength : ℕ
 tableLength = rowLength * mostNodes
+
+-- a table has rows for n nodes
+abbrev pub RowsFor : List ℕ → ℕ → Type 0
+RowsFor nodes n = rowLength * n ≤ length nodes
+
+-- for as many nodes as the list at a place has by its count
+abbrev pub RowsOf : List ℕ → ℕ → List ℕ → Type 0
+RowsOf s at nodes = (n e : ℕ) → below s (suc mostNodes) at ≡ got n e → RowsFor nodes n
 
 abbrev pub rowAt : ℕ → ℕ
 rowAt j = rowLength * j
@@ -44,6 +53,14 @@ sizesAt j = rowAt j + (1 + placeCount)
 
 abbrev pub heldAt : ℕ → ℕ
 heldAt j = rowAt j + (1 + placeCount + mostVariables)
+
+-- ── tables for few nodes ──
+abbrev pub fewNodes : ℕ
+fewNodes = 32
+
+-- the list that a file begins with has few nodes by its count
+abbrev pub FewNodes : List ℕ → Type 0
+FewNodes s = (n e : ℕ) → below s (suc mostNodes) 0 ≡ got n e → n ≤ fewNodes
 
 -- ── what stands there ──
 -- each value from its place up to the next
@@ -75,7 +92,7 @@ pub record NodeIn (p s nodes : List ℕ) (j : ℕ) (P : Protocol) (x : Node) : T
   pub within : NodeWithin P x
   pub row : Row p s nodes j x
   pub few : j < mostNodes
-  pub long : length nodes ≡ tableLength
+  pub long : RowsFor nodes (j + 1)
   pub short : length s ≤ longest
 
 -- n nodes, of a step list or of a graph
@@ -85,5 +102,5 @@ pub record NodesIn (p s nodes : List ℕ) (n : ℕ) (P : Protocol) (xs : List No
   pub few : n ≤ mostNodes
   pub within : All (NodeWithin P) xs
   pub rows : (j : ℕ) → j < n → Row p s nodes j (getD xs j noNode)
-  pub long : length nodes ≡ tableLength
+  pub long : RowsFor nodes n
   pub short : length s ≤ longest

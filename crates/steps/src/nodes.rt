@@ -1,5 +1,6 @@
 // The nodes of a step list or graph, read front to back for 3 and 6 into their table.
 ghost use mathlib.Core.Path.{_≡_};
+ghost use mathlib.Core.Bool.{true};
 ghost use Prim.Native.Nat.{_≤_, _<_, _+_};
 ghost use lib.ListN.{length};
 ghost use Rattle.octets.specs.Limits.{longest};
@@ -10,7 +11,7 @@ ghost use Rattle.prepared.specs.Prepared.{Prepared};
 ghost use Rattle.steps.specs.Nodes.{nodesFrom, nodeList, steps, mostNodes};
 ghost use Rattle.steps.specs.Nodes.Code.{Told};
 ghost use Rattle.steps.specs.Nodes.Filling.{ValuesRead, NodeEntered, NodeRead};
-ghost use Rattle.steps.specs.Table.{placeCount, tableLength, heldFlag};
+ghost use Rattle.steps.specs.Table.{placeCount, RowsFor, RowsOf, FewNodes, heldFlag};
 use number::Number;
 use prepared::finding;
 use prepared::finding::Found;
@@ -36,6 +37,11 @@ pub const HELD: usize = FIRST_SIZE + figures::MOST_VARIABLES;
 pub const ROW: usize = HELD + 1;
 
 pub const TABLE: usize = ROW * MOST_NODES;
+
+// Most lists have few nodes, and a table with rows for no more is soon made.
+pub const FEW_NODES: usize = 32;
+
+pub const FEW_ROWS: usize = ROW * FEW_NODES;
 
 // A node: the place behind it, a layout fault, or no such rule.
 pub enum NodeEnd {
@@ -101,7 +107,7 @@ fn enter_node(
     nodes: &mut [usize],
     j: usize,
 ) -> NodeEnd
-    requires { ⌜ Asks (Prepared (now p)) × (length (now s) ≤ longest) × (j < mostNodes) × (length (now nodes) ≡ tableLength) ⌝ }
+    requires { ⌜ Asks (Prepared (now p)) × (length (now s) ≤ longest) × (j < mostNodes) × RowsFor (now nodes) (j + 1) ⌝ }
     ensures { λ r. ⌜ Promises (Prepared (now (p .entry))) (λ (P : Protocol). NodeEntered P (now (p .entry)) (now (s .entry)) number at (now (nodes .entry)) (now (nodes .exit)) j r) ⌝ }
 {
     match finding::rule_place(p, number) {
@@ -117,7 +123,7 @@ fn enter_node(
 
 // The node at a place goes into row j: its rule number is judged before its values are read.
 fn read_node(p: &[u8], s: &[u8], at: usize, nodes: &mut [usize], j: usize) -> NodeEnd
-    requires { ⌜ Asks (Prepared (now p)) × (length (now s) ≤ longest) × (j < mostNodes) × (length (now nodes) ≡ tableLength) ⌝ }
+    requires { ⌜ Asks (Prepared (now p)) × (length (now s) ≤ longest) × (j < mostNodes) × RowsFor (now nodes) (j + 1) ⌝ }
     ensures { λ r. ⌜ Promises (Prepared (now (p .entry))) (λ (P : Protocol). NodeRead P (now (p .entry)) (now (s .entry)) at (now (nodes .entry)) (now (nodes .exit)) j r) ⌝ }
 {
     match number::read_number(s, at) {
@@ -128,7 +134,7 @@ fn read_node(p: &[u8], s: &[u8], at: usize, nodes: &mut [usize], j: usize) -> No
 
 // n nodes.
 fn nodes_from(p: &[u8], s: &[u8], at: usize, n: usize, nodes: &mut [usize]) -> Nodes
-    requires { ⌜ Asks (Prepared (now p)) × (length (now s) ≤ longest) × (n ≤ mostNodes) × (length (now nodes) ≡ tableLength) ⌝ }
+    requires { ⌜ Asks (Prepared (now p)) × (length (now s) ≤ longest) × (n ≤ mostNodes) × RowsFor (now nodes) n ⌝ }
     ensures { λ r. ⌜ Promises (Prepared (now (p .entry))) (λ (P : Protocol). Told (nodesFrom P (now (s .entry)) 1 n at) (now (p .entry)) (now (s .entry)) (now (nodes .exit)) r) ⌝ }
 {
     let mut i = at;
@@ -152,7 +158,7 @@ fn nodes_from(p: &[u8], s: &[u8], at: usize, n: usize, nodes: &mut [usize]) -> N
 
 // The count, 512 at most, and the nodes.
 pub fn read_nodes(p: &[u8], s: &[u8], at: usize, nodes: &mut [usize]) -> Nodes
-    requires { ⌜ Asks (Prepared (now p)) × (length (now s) ≤ longest) × (length (now nodes) ≡ tableLength) ⌝ }
+    requires { ⌜ Asks (Prepared (now p)) × (length (now s) ≤ longest) × RowsOf (now s) at (now nodes) ⌝ }
     ensures { λ r. ⌜ Promises (Prepared (now (p .entry))) (λ (P : Protocol). Told (nodeList P (now (s .entry)) at) (now (p .entry)) (now (s .entry)) (now (nodes .exit)) r) ⌝ }
 {
     match number::below(s, at, NODE_LIMIT) {
@@ -161,9 +167,19 @@ pub fn read_nodes(p: &[u8], s: &[u8], at: usize, nodes: &mut [usize]) -> Nodes
     }
 }
 
+// Whether the list that a file begins with has few nodes by its count.
+pub fn few_nodes(s: &[u8]) -> bool
+    ensures { λ r. ⌜ (r ≡ true → FewNodes (now (s .entry))) ⌝ }
+{
+    match number::below(s, 0, NODE_LIMIT) {
+        Number::Value(n, _) => (n as usize) <= FEW_NODES,
+        Number::Fault => true,
+    }
+}
+
 // A whole step list: leftover bytes are a layout fault.
 pub fn read_steps(p: &[u8], s: &[u8], nodes: &mut [usize]) -> Nodes
-    requires { ⌜ Asks (Prepared (now p)) × (length (now s) ≤ longest) × (length (now nodes) ≡ tableLength) ⌝ }
+    requires { ⌜ Asks (Prepared (now p)) × (length (now s) ≤ longest) × RowsOf (now s) 0 (now nodes) ⌝ }
     ensures { λ r. ⌜ Promises (Prepared (now (p .entry))) (λ (P : Protocol). Told (steps P (now (s .entry))) (now (p .entry)) (now (s .entry)) (now (nodes .exit)) r) ⌝ }
 {
     match read_nodes(p, s, 0, nodes) {

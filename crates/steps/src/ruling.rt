@@ -8,7 +8,7 @@ ghost use Rattle.lists.specs.Asks.{Asks, Promises, Asks₂, Promises₂};
 ghost use Rattle.protocol.specs.Protocol.{Protocol};
 ghost use Rattle.prepared.specs.Prepared.{Prepared};
 ghost use Rattle.steps.specs.Nodes.{Node, steps};
-ghost use Rattle.steps.specs.Table.{tableLength, NodesIn};
+ghost use Rattle.steps.specs.Table.{RowsOf, NodesIn};
 ghost use Rattle.steps.specs.Causes.{nodeRuling, listRuling, stepsItem};
 ghost use Rattle.steps.specs.Causes.Code.{rulingOf, counted};
 ghost use Rattle.steps.specs.Causes.Good.{WhereGood};
@@ -46,7 +46,7 @@ pub fn rule_nodes(p: &[u8], s: &[u8], nodes: &[usize], n: usize) -> NodesRuling
 
 // The whole step list; the table of its nodes is filled in.
 pub fn rule_steps(p: &[u8], s: &[u8], nodes: &mut [usize]) -> NodesRuling
-    requires { ⌜ Asks (Prepared (now p)) × (length (now s) ≤ longest) × (length (now nodes) ≡ tableLength) ⌝ }
+    requires { ⌜ Asks (Prepared (now p)) × (length (now s) ≤ longest) × RowsOf (now s) 0 (now nodes) ⌝ }
     ensures ruled { λ r. ⌜ Promises (Prepared (now (p .entry))) (λ (P : Protocol). rulingOf r ≡ counted (listRuling P stepsItem (steps P (now (s .entry))))) ⌝ }
     ensures good { λ r. ⌜ Promises (Prepared (now (p .entry))) (λ (P : Protocol). WhereGood P (now (p .entry)) (now (s .entry)) (now (nodes .exit)) r) ⌝ }
 {

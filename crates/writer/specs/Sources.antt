@@ -15,7 +15,7 @@ use Rattle.steps.specs.Nodes.{Node, noNode}
 use Rattle.steps.specs.Facts.{factsOf}
 use Rattle.steps.specs.Runs.{protocolFacts, rewrittens}
 use Rattle.steps.specs.Causes.Good.{RightNodes}
-use Rattle.graph.specs.Table.{edgeFields, edgeAt, EdgesIn}
+use Rattle.graph.specs.Table.{edgeFields, edgeAt, FieldsFor, EdgesIn}
 use Rattle.writer.specs.declared.sources.Fed.{Fed}
 use Rattle.writer.specs.declared.sources.Fed.the-variants as of-node
 use Rattle.writer.specs.declared.sources.Sources.{Sources}
@@ -60,6 +60,7 @@ module _ (P : Protocol) (xs : List Node) where
 pub record Reached (edges : List ℕ) (e : ℕ) (rest : Ruling (List Edge)) (P : Protocol) (xs : List Node) : Type 0 where
   pub so-far : List Edge
   pub stand : EdgesIn edges e so-far
+  pub room : FieldsFor edges (mostFacts * length xs)
   pub drawn : allEdges P xs ≡ edgesThen so-far rest
 
 -- the nodes before k, and the premises before i of node k, have their edge

@@ -15,7 +15,7 @@ use graph::edges;
 
 // How many bytes the first k numbers of the table take.
 fn numbers_len(edges: &[u32], k: usize) -> usize
-    requires { ⌜ (k ≤ length (now edges)) × (length (now edges) ≤ longest) ⌝ }
+    requires { ⌜ (k ≤ length (now edges)) × (k ≤ longest) ⌝ }
     ensures { λ r. ⌜ (r ≡ length (numberBytes (now (edges .entry)) k)) × (r ≤ numberRoom * k) ⌝ }
 {
     let mut len: usize = 0;

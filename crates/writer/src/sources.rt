@@ -8,8 +8,8 @@ ghost use Rattle.steps.specs.Nodes.{mostNodes};
 ghost use Rattle.steps.specs.Causes.Good.{RightNodes};
 ghost use Rattle.facts.specs.Writing.{factRoom};
 ghost use Rattle.facts.specs.Calls.{Room};
-ghost use Rattle.graph.specs.Graph.{place-of, edge-of};
-ghost use Rattle.graph.specs.Table.{edgeFields, edgeTable};
+ghost use Rattle.graph.specs.Graph.{mostEdges, place-of, edge-of};
+ghost use Rattle.graph.specs.Table.{edgeFields, FieldsFor};
 ghost use Rattle.graph.specs.Uses.{countTable};
 ghost use Rattle.writer.specs.Free.{entryPlace};
 ghost use Rattle.writer.specs.Sources.{EdgePut, Feeding, AtPremise, PremiseFed, NodeFed, AllFed};
@@ -49,7 +49,7 @@ fn from_one(i: usize) -> u32
 
 // Edge e, from 0, goes from the conclusion of an entry into a premise.
 fn put_edge(edges: &mut [u32], e: usize, entry: usize, target: Premise)
-    requires { ⌜ (edgeFields * e + edgeFields ≤ length (now edges)) × (length (now edges) ≡ edgeTable) × (entry < countTable) × (target .node < mostNodes) × (target .number < mostFacts) ⌝ }
+    requires { ⌜ (edgeFields * e + edgeFields ≤ length (now edges)) × (e < mostEdges) × (entry < countTable) × (target .node < mostNodes) × (target .number < mostFacts) ⌝ }
     ensures { λ r. ⌜ EdgePut (now (edges .entry)) (now (edges .exit)) e (edge-of (entryPlace entry) (place-of (suc (target .node)) (suc (target .number)))) ⌝ }
 {
     let from = edges::FIELDS * e + edges::SOURCE;
@@ -126,7 +126,7 @@ pub fn choose_sources(
     n: usize,
     edges: &mut [u32],
 ) -> Sources
-    requires { ⌜ Asks₂ (RightNodes (now p) (now s) (now nodes) n) × Room (now work) factRoom × (length (now edges) ≡ edgeTable) ⌝ }
+    requires { ⌜ Asks₂ (RightNodes (now p) (now s) (now nodes) n) × Room (now work) factRoom × FieldsFor (now edges) (mostFacts * n) ⌝ }
     ensures { λ r. ⌜ Promises₂ (RightNodes (now (p .entry)) (now (s .entry)) (now (nodes .entry)) n) (AllFed (now (edges .exit)) r) ⌝ }
 {
     let mut free = [0u32; free::ENTRIES];

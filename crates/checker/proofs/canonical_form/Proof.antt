@@ -1,12 +1,13 @@
--- A short work area is refused and nothing touched; else canonical_inside answers over its front, and clearing leaves zeros throughout.
-use Rattle.checker.specs.Canonical.Cases.{work-short, output-kept, work-kept}
-use Rattle.checker.specs.Canonical.Inside.{work-cleared}
-use mathlib.Core.Path.{ap, sym, _∙_}
-use Prim.Native.Nat.{ℕ}
-use lib.ListN.{length, replicate}
-use native.Mathlib.Omega.{arith}
-use lib.Seq.{length-take-le}
+-- A short work area is refused and nothing touched; else canonical_inside answers over a part of the facts' region, and clearing leaves zeros throughout.
+use Rattle.graph.specs.Uses.{countTable}
 use denote.Ref.{now}
+use lib.Seq.{length-take-le}
+use native.Mathlib.Omega.{arith}
+use lib.ListN.{length, replicate, drop, length-drop}
+use Prim.Native.Nat.{ℕ}
+use mathlib.Core.Path.{ap, sym, _∙_}
+use Rattle.checker.specs.Canonical.Inside.{work-cleared}
+use Rattle.checker.specs.Canonical.Cases.{work-short, output-kept, work-kept}
 use borrow.Author.Needs.{needs}
 use Rattle.checker.proofs.canonical_form.Statement.{statement}
 use Rattle.checker.proofs.canonical_form.Tie as tie
@@ -26,16 +27,22 @@ returns c =
       ),
     )
 
-slice-relend-prefix-canonical-inside : tie.Need-slice-relend-prefix-canonical-inside
-slice-relend-prefix-canonical-inside c = search needs
+add-canonical-inside : tie.Need-add-canonical-inside
+add-canonical-inside c = search needs
 
-slice-aggregate-canonical-inside : tie.Need-slice-aggregate-canonical-inside
-slice-aggregate-canonical-inside c =
-    sym (length-take-le _ (now (c .before .before .before .before .before .before .before .args .work)) (omega (arith, c .before .before .if1 .left)))
+sub-canonical-inside : tie.Need-sub-canonical-inside
+sub-canonical-inside c = search needs
+
+part-canonical-inside-start : tie.Need-part-canonical-inside-start
+part-canonical-inside-start c = search needs
+
+part-canonical-inside-end : tie.Need-part-canonical-inside-end
+part-canonical-inside-end c = search needs
 
 canonical-inside-requires : tie.Need-canonical-inside-requires
 canonical-inside-requires c κs =
-    length-take-le _ (now (c .before .before .before .before .before .before .before .args .work)) (omega (arith, c .before .before .if1 .left))
+    let c7 = c .before .before .before .before .before .before .before in
+    length-take-le _ (drop countTable (now (c7 .args .work))) (omega (arith, c .before .before .if1 .left, length-drop countTable (now (c7 .args .work))))
 
 clear-requires : tie.Need-clear-requires
 clear-requires c κs = search needs
@@ -67,8 +74,10 @@ canonical-form-spec =
     (tie.spec
     refused-requires
     returns
-    slice-relend-prefix-canonical-inside
-    slice-aggregate-canonical-inside
+    add-canonical-inside
+    sub-canonical-inside
+    part-canonical-inside-start
+    part-canonical-inside-end
     canonical-inside-requires
     clear-requires
     same-length

@@ -1,11 +1,10 @@
--- A short work area is refused and nothing touched; else check_files answers over its front, and clearing leaves zeros throughout.
-use denote.Ref.{now}
-use lib.Seq.{length-take-le}
-use native.Mathlib.Omega.{arith}
-use lib.ListN.{length, replicate}
-use Prim.Native.Nat.{ℕ}
-use mathlib.Core.Path.{ap, sym, _∙_}
+-- A short work area is refused and nothing touched; else check_files answers in it, and clearing leaves zeros throughout.
 use Rattle.checker.specs.Check.Cases.{work-short, work-kept, work-cleared}
+use mathlib.Core.Path.{ap, sym, _∙_}
+use Prim.Native.Nat.{ℕ}
+use lib.ListN.{length, replicate}
+use native.Mathlib.Omega.{arith}
+use denote.Ref.{now}
 use borrow.Author.Needs.{needs}
 use Rattle.checker.proofs.check.Statement.{statement}
 use Rattle.checker.proofs.check.Tie as tie
@@ -18,21 +17,12 @@ returns c =
     let c6 = c .before .before .before .before .before .before in (
       c .refuse .ensures ∙ sym (work-short (now (c6 .args .protocol)) (now (c6 .args .property)) (now (c6 .args .graph)) (length (now (c6 .args .work)))
           (c .before .if1 .taken)),
-      work-kept (now (c6 .args .protocol)) (now (c6 .args .property)) (now (c6 .args .graph)) (now (c6 .args .work))
-          (c .before .if1 .taken),
+      work-kept (now (c6 .args .protocol)) (now (c6 .args .property)) (now (c6 .args .graph)) (now (c6 .args .work)) (c .before .if1 .taken),
     )
-
-slice-relend-prefix-check-files : tie.Need-slice-relend-prefix-check-files
-slice-relend-prefix-check-files c = search needs
-
-slice-aggregate-check-files : tie.Need-slice-aggregate-check-files
-slice-aggregate-check-files c =
-    sym (length-take-le _ (now (c .before .before .before .before .before .before .args .work)) (omega (arith, c .before .if1 .left)))
 
 check-files-requires : tie.Need-check-files-requires
 check-files-requires c κs =
-    let l = length-take-le 65536 (now (c .before .before .before .before .before .before .args .work)) (omega (arith, c .before .if1 .left)) in
-    record { enough = omega (arith, l); short = omega (arith, l) }
+    omega (arith, c .before .if1 .left)
 
 clear-requires : tie.Need-clear-requires
 clear-requires c κs = search needs
@@ -54,12 +44,4 @@ returns-2 c =
 pub check-spec : {M : Type 1} → statement M
 check-spec =
     tie.close
-    (tie.spec
-    refuse-requires
-    returns
-    slice-relend-prefix-check-files
-    slice-aggregate-check-files
-    check-files-requires
-    clear-requires
-    same-length
-    returns-2)
+    (tie.spec refuse-requires returns check-files-requires clear-requires same-length returns-2)

@@ -1,12 +1,12 @@
--- A short work area is refused first and left; otherwise what is inside answers, and the area is cleared.
-use Rattle.checker.specs.Draw.Cleared.{work-cleared}
-use Rattle.checker.specs.Draw.Cases.{work-short, output-kept, work-kept}
-use lib.Seq.{length-take-le}
-use lib.ListN.{length, replicate}
-use Prim.Native.Nat.{ℕ}
-use mathlib.Core.Path.{ap, sym, _∙_}
-use denote.Ref.{now}
+-- A short work area is refused first and left; otherwise what is inside answers over the facts' region, and the area is cleared.
 use native.Mathlib.Omega.{arith}
+use denote.Ref.{now}
+use mathlib.Core.Path.{ap, sym, _∙_}
+use Prim.Native.Nat.{ℕ}
+use lib.ListN.{length, replicate}
+use Rattle.graph.specs.Area.{facts-room}
+use Rattle.checker.specs.Draw.Cases.{work-short, output-kept, work-kept}
+use Rattle.checker.specs.Draw.Cleared.{work-cleared}
 use borrow.Author.Needs.{needs}
 use Rattle.checker.proofs.draw.Statement.{statement}
 use Rattle.checker.proofs.draw.Tie as tie
@@ -28,17 +28,18 @@ returns c =
       ),
     )
 
-slice-relend-prefix-draw-files : tie.Need-slice-relend-prefix-draw-files
-slice-relend-prefix-draw-files c = search needs
+sub-draw-files : tie.Need-sub-draw-files
+sub-draw-files c = search needs
 
-slice-aggregate-draw-files : tie.Need-slice-aggregate-draw-files
-slice-aggregate-draw-files c =
-    sym (length-take-le _ (now (c .before .before .before .before .before .before .before .args .work)) (omega (arith, c .before .before .if1 .left)))
+part-draw-files-start : tie.Need-part-draw-files-start
+part-draw-files-start c = search needs
+
+part-draw-files-end : tie.Need-part-draw-files-end
+part-draw-files-end c = search needs
 
 draw-files-requires : tie.Need-draw-files-requires
 draw-files-requires c κs =
-    let l = length-take-le 65536 (now (c .before .before .before .before .before .before .before .args .work)) (omega (arith, c .before .before .if1 .left)) in
-    record { enough = omega (arith, l); short = omega (arith, l) }
+    facts-room (now (c .before .before .before .before .before .before .before .args .work)) (omega (arith, c .before .before .if1 .left))
 
 clear-requires : tie.Need-clear-requires
 clear-requires c κs = search needs
@@ -69,8 +70,9 @@ draw-spec =
     (tie.spec
     refused-requires
     returns
-    slice-relend-prefix-draw-files
-    slice-aggregate-draw-files
+    sub-draw-files
+    part-draw-files-start
+    part-draw-files-end
     draw-files-requires
     clear-requires
     same-length

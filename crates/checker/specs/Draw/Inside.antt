@@ -10,7 +10,6 @@ use Rattle.number.specs.Layout.{listed}
 use Rattle.rewriting.specs.Graph.{Edge}
 use Rattle.steps.specs.Nodes.{Node, mostNodes}
 use Rattle.steps.specs.Nodes as files
-use Rattle.steps.specs.Table.{tableLength}
 use Rattle.steps.specs.Causes.{stepsItem, listRuling}
 use Rattle.steps.specs.Causes.Code.{rulingOf, counted}
 use Rattle.steps.specs.Causes.Good.{GoodNodes, WhereGood, good-right}
@@ -84,12 +83,12 @@ module _ {p steps nodes : List ℕ} {n : ℕ} {P : Protocol} {xs : List Node} (d
 -- ── the steps: 3 and 6 to 9, or their nodes ──
 module _ (P : Protocol) (p steps : List ℕ) (prepared : Prepared p P) (bytes : Bytes steps) (short : length steps ≤ stepsLimit) (r : NodesRuling) where
   pub steps-drawable :
-      (nodes : List ℕ) {n : ℕ} → length nodes ≡ tableLength → WhereGood P p steps nodes r → r ≡ nr.Good n → (xs : List Node) × Drawable p steps nodes n P xs
-  steps-drawable nodes {n} long good h =
+      (nodes : List ℕ) {n : ℕ} → WhereGood P p steps nodes r → r ≡ nr.Good n → (xs : List Node) × Drawable p steps nodes n P xs
+  steps-drawable nodes {n} good h =
       let g : GoodNodes P p steps 0 nodes n (length steps) = subst (WhereGood P p steps nodes) h good in (
         g .items,
         record {
-          right = good-right P p steps nodes bytes prepared long (omega (arith, short)) 0 n (length steps) g;
+          right = good-right P p steps nodes bytes prepared (omega (arith, short)) 0 n (length steps) g;
           bytes = good-bytes P steps bytes p nodes n g;
           under = steps-good P steps bytes p nodes n g;
         },

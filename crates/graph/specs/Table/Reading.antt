@@ -4,9 +4,14 @@ use mathlib.Core.List.{List, [], _∷_, _++_}
 use mathlib.Core.Path.{_≡_, refl, ap, ap₂, sym, _∙_, subst}
 use native.Mathlib.Omega.{arith}
 use native.Mathlib.Numerals.{add-one}
-use lib.ListN.{length, getD, drop, set, List·getD-append}
+use lib.ListN.{length, length-append, getD, drop, set, List·getD-append}
 use lib.Seq.{getD-drop, getD-set-same, getD-set-other, drop-append-seam}
 use Rattle.lists.specs.Choice.{by-size}
+use Rattle.octets.specs.Head.{Bytes, stands-within}
+use Rattle.number.specs.Groups.{groups, numberLimit}
+use Rattle.number.specs.Groups.Laws.{groups-some}
+use Rattle.number.specs.Layout.{flat}
+use Rattle.number.specs.Layout.Laws.{number-exact, many-exact}
 use Rattle.number.specs.Reading.{Read, got, fault, andThen, readNumber, below, many}
 use Rattle.number.specs.Reading.Laws.{then-got, then-fault, then-then, then-ext, then-same-at}
 use Rattle.number.specs.Reading.Many.{many-split, many-snoc, many-stop, many-length, counted-got, counted-fault}
@@ -16,7 +21,7 @@ use Rattle.graph.specs.declared.edges.Numbers.the-variants as nums
 use Rattle.graph.specs.declared.edges.Edges.{Edges}
 use Rattle.graph.specs.declared.edges.Edges.the-variants as all
 use Rattle.graph.specs.Graph.{place-of, edge-of, mostEdges, place, edge, edgeList}
-use Rattle.graph.specs.Table.{edgeAt, noEdge, edgeTable, EdgesIn}
+use Rattle.graph.specs.Table.{edgeFields, edgeAt, noEdge, FieldsFor, EdgesIn}
 
 -- ── what code answers ──
 -- some numbers stand in the table from its start
@@ -140,7 +145,7 @@ module _ (s : List ℕ) (at m : ℕ) (edges : List ℕ) (r : Numbers) (told : Nu
   as-read : {q : Numbers} → r ≡ q → NumbersRead s at (4 * m) edges q
   as-read h = subst (NumbersRead s at (4 * m) edges) h told
 
-  pub edges-end : {e : ℕ} → r ≡ nums.End e → m ≤ mostEdges → length edges ≡ edgeTable → EdgesAre (many (edge s) m at) edges m e
+  pub edges-end : {e : ℕ} → r ≡ nums.End e → m ≤ mostEdges → FieldsFor edges m → EdgesAre (many (edge s) m at) edges m e
   edges-end q few long =
       let h = as-read q in
       record {
@@ -156,6 +161,21 @@ module _ (s : List ℕ) (at m : ℕ) (edges : List ℕ) (r : Numbers) (told : Nu
 
   pub edges-fault : r ≡ nums.Fault → many (edge s) m at ≡ fault
   edges-fault q = edges-numbers s m at ∙ then-fault (many (readNumber s) (4 * m) at) _ (as-read q)
+
+-- ── each number takes a byte at least, so a file of fewer bytes has fewer ──
+numbers-many : (ns : List ℕ) → length ns ≤ length (flat groups ns)
+numbers-many [] = omega arith
+numbers-many (n ∷ ns) = omega (arith, numbers-many ns, groups-some n, length-append (groups n) (flat groups ns))
+
+pub edges-short : (s : List ℕ) → Bytes s → (at m : ℕ) → length s < edgeFields * m → many (edge s) m at ≡ fault
+edges-short s bytes at m h = edges-numbers s m at ∙ then-fault (many (readNumber s) (4 * m) at) _ (go (many (readNumber s) (4 * m) at) refl)
+  where
+    go : (r : Read (List ℕ)) → many (readNumber s) (4 * m) at ≡ r → r ≡ fault
+    go fault q = refl
+    go (got ns e) q =
+        let f = many-exact s (readNumber s) (λ v. v < numberLimit) groups (number-exact s bytes) (4 * m) .form ns at e q in
+        let some : 0 < length (flat groups ns) = omega (arith, f .0 .0, numbers-many ns) in
+        absurd (omega (arith, f .0 .0, numbers-many ns, f .1 .ends, stands-within (f .1) some))
 
 -- the count and then the edges
 pub edges-told : (s : List ℕ) (at n e : ℕ) (edges : List ℕ) (r : Edges) → below s (suc mostEdges) at ≡ got n e → EdgesFrom s e n edges r → EdgesRead s at edges

@@ -13,7 +13,7 @@ use Rattle.prepared.specs.Prepared.{Prepared}
 use Rattle.steps.specs.Nodes.{Node, Reading, steps}
 use Rattle.steps.specs.Nodes.Code.{NodesAre, Told}
 use Rattle.steps.specs.Nodes.Exact.{steps-form}
-use Rattle.steps.specs.Table.{tableLength, NodesIn}
+use Rattle.steps.specs.Table.{NodesIn}
 use Rattle.steps.specs.Values.Tests.{nodeValuesOk, nodeTermsOk}
 use Rattle.steps.specs.Values.Scan.{asFound, found-refused, found-passed}
 use Rattle.steps.specs.Table.Laws.{nodes-in}
@@ -81,10 +81,10 @@ module _ (P : Protocol) (p s nodes : List ℕ) (r : Nodes) (told : Told (steps P
     list-read = as-told h
 
     -- the nodes that were read stand in the table
-    pub list-in : Prepared p P → Bytes s → length nodes ≡ tableLength → length s ≤ longest → NodesIn p s nodes n P (list-read .items)
-    list-in f bytes long short =
+    pub list-in : Prepared p P → Bytes s → length s ≤ longest → NodesIn p s nodes n P (list-read .items)
+    list-in f bytes short =
         let t = list-read in
-        nodes-in f (steps-form P s bytes (t .items) e (t .there) .0) (t .count) (t .rows) long short
+        nodes-in f (steps-form P s bytes (t .items) e (t .there) .0) (t .count) (t .rows) (t .long) short
 
     pub list-nodes : (j : NodesRuling) → rulingOf j ≡ counted (nodeRuling P (list-read .items)) → rulingOf j ≡ Whole
     list-nodes j k = k ∙ ap (λ (q : Reading (List Node)). counted (listRuling P stepsItem q)) (sym (list-read .there))

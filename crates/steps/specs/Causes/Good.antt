@@ -16,7 +16,7 @@ use Rattle.prepared.specs.Prepared.{Prepared}
 use Rattle.steps.specs.Nodes.{Node, noNode, Reading, read, broken, no-rule, allOf, NodeWithin, nodeList, steps}
 use Rattle.steps.specs.Nodes.Code.{NodesAre}
 use Rattle.steps.specs.Nodes.Exact.{nodes-form, steps-form}
-use Rattle.steps.specs.Table.{tableLength, Row, NodesIn}
+use Rattle.steps.specs.Table.{RowsFor, Row, NodesIn}
 use Rattle.steps.specs.Table.Laws.{nodes-in}
 use Rattle.steps.specs.Values.{NodeRight}
 use Rattle.steps.specs.Causes.{nodeRows, nodeRuling}
@@ -30,6 +30,7 @@ pub record GoodNodes (P : Protocol) (p s : List ℕ) (at : ℕ) (nodes : List �
   pub items : List Node
   pub there : nodeList P s at ≡ read items e
   pub count : length items ≡ n
+  pub long : RowsFor nodes n
   pub rows : (j : ℕ) → j < n → Row p s nodes j (getD items j noNode)
   pub passing : Passing P items
 
@@ -78,6 +79,7 @@ module _ (P : Protocol) (p s nodes : List ℕ) (bytes : Bytes s) where
         items = t .items;
         there = list-of-all s (nodeList P s 0) (t .items) e (t .there) ∙ ap (read (t .items)) (f .2);
         count = t .count ∙ same;
+        long = omega (arith, t .long);
         rows = λ j l. t .rows j (omega arith);
         passing = g .1;
       }
@@ -85,10 +87,10 @@ module _ (P : Protocol) (p s nodes : List ℕ) (bytes : Bytes s) where
 
   -- what callers above have of good nodes
   pub good-right :
-      Prepared p P → length nodes ≡ tableLength → length s ≤ longest → (at n e : ℕ) (g : GoodNodes P p s at nodes n e)
+      Prepared p P → length s ≤ longest → (at n e : ℕ) (g : GoodNodes P p s at nodes n e)
       → RightNodes p s nodes n P (g .items)
-  good-right f long short at n e g =
+  good-right f short at n e g =
       record {
-        stand = nodes-in f (nodes-form P s bytes (g .items) at e (g .there) .0) (g .count) (g .rows) long short;
+        stand = nodes-in f (nodes-form P s bytes (g .items) at e (g .there) .0) (g .count) (g .rows) (g .long) short;
         right = g .passing .right;
       }

@@ -19,7 +19,7 @@ use Rattle.steps.specs.declared.nodes.Nodes.{Nodes}
 use Rattle.steps.specs.declared.nodes.Nodes.the-variants as all
 use Rattle.steps.specs.Nodes.{Node, node-of, noNode, mostNodes, Reading, read, broken, no-rule, plainly}
 use Rattle.steps.specs.Nodes.{absent, unknown, values, node, nodesFrom, nodeList, allOf, steps}
-use Rattle.steps.specs.Table.{Row}
+use Rattle.steps.specs.Table.{RowsFor, Row}
 
 -- ── one node ──
 -- behind some terms, or behind a node
@@ -44,6 +44,7 @@ pub record NodesAre (r : Reading (List Node)) (p s nodes : List ℕ) (n e : ℕ)
   pub items : List Node
   pub there : r ≡ read items e
   pub count : length items ≡ n
+  pub long : RowsFor nodes n
   pub rows : (j : ℕ) → j < n → Row p s nodes j (getD items j noNode)
 
 abbrev pub Told : Reading (List Node) → List ℕ → List ℕ → List ℕ → Nodes → Type 0
@@ -129,6 +130,7 @@ module _ (P : Protocol) (p s nodes : List ℕ) (r : Nodes) (told : Told (nodeLis
         items = t .items;
         there = ap (allOf s) (t .there) ∙ ap (λ (b : Bool). pick b (read (t .items) e) broken) (eq-eqb e (length s) q);
         count = t .count;
+        long = t .long;
         rows = t .rows;
       }
 

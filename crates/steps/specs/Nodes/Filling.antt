@@ -36,7 +36,7 @@ use Rattle.steps.specs.Nodes.{Node, node-of, noNode, values, node, nodes
 use Rattle.steps.specs.Nodes.Exact.{many-from}
 use Rattle.steps.specs.Nodes.Unknown.{stops-unknown, stops-broken}
 use Rattle.steps.specs.Nodes.Code.{termsEnd, nodeFrom, nodeOf, nodeEnd, end-node, broken-node, no-node, NodesAre}
-use Rattle.steps.specs.Table.{placeCount, rowAt, placesAt, sizesAt, heldAt, Stand, Sized, holdsAny, heldFlag, Row}
+use Rattle.steps.specs.Table.{placeCount, rowAt, placesAt, sizesAt, heldAt, Stand, Sized, holdsAny, heldFlag, RowsFor, Row}
 use Rattle.steps.specs.Table.Laws.{row-kept}
 use Rattle.steps.specs.Values.Parts.{noTerm}
 
@@ -343,14 +343,15 @@ module _ (P : Protocol) (p s : List ℕ) (at : ℕ) where
           let k : 1 + j ≡ j + 1 = omega arith in
           stops-unknown P s i (no-node P s i (sym (h .is-end) ∙ is)) j 1 n at (c .here .items) (c .here .there) l ∙ ap no-rule k
 
-  pub passed-all : (n j i : ℕ) (nodes : List ℕ) → Passed j i nodes → j ≡ n → NodesAre (nodesFrom P s 1 n at) p s nodes n i
-  passed-all n j i nodes c h =
+  pub passed-all : (n j i : ℕ) (nodes : List ℕ) → Passed j i nodes → j ≡ n → RowsFor nodes n → NodesAre (nodesFrom P s 1 n at) p s nodes n i
+  passed-all n j i nodes c h long =
       let xs : List Node = c .here .items in
       let there : many (node P s) n at ≡ got xs i = ap (λ (k : ℕ). many (node P s) k at) (sym h) ∙ c .here .there in
       record {
         items = xs;
         there = many-from P s 1 n at i xs there;
         count = many-length (node P s) n at i xs there;
+        long = long;
         rows = λ k l.
             let o = c .each k (omega arith) in
             let z = nth-here (node P s) noNode n at i k xs there l in

@@ -1,13 +1,16 @@
 -- What a row says: its node's rule stands in the prepared protocol, its values at their places.
-use Prim.Native.Nat.{ℕ, _+_, _*_, _<_, _≤_}
+use Prim.Native.Nat.{ℕ, suc, _+_, _*_, _<_, _≤_}
 use mathlib.Core.List.{List}
 use mathlib.Core.Option.{some}
 use mathlib.Core.Path.{_≡_, ap, sym, _∙_}
 use native.Mathlib.Omega.{arith}
 use lib.ListN.{length, getD}
 use Rattle.lists.specs.All.Laws.{all-inside}
+use Rattle.lists.specs.Choice.{clash}
+use Rattle.octets.specs.Head.{Bytes}
 use Rattle.octets.specs.Limits.{longest}
-use Rattle.number.specs.Reading.{got, below}
+use Rattle.number.specs.Reading.{got, fault, below}
+use Rattle.number.specs.Reading.Numbers.{below-inside}
 use Rattle.term.specs.Reader.{term}
 use Rattle.protocol.specs.Figures.{variableLimit, listCount}
 use Rattle.protocol.specs.Protocol.{Rule, Protocol}
@@ -17,14 +20,14 @@ use Rattle.rules.specs.Numbered.{ruleOf}
 use Rattle.prepared.specs.Sections.{ruleCount}
 use Rattle.prepared.specs.Prepared.{slotsOf, aritiesOf, placeAt, RuleAt, listEntry, ListAt, Prepared}
 use Rattle.prepared.specs.Finding.{rule-listed, rule-at}
-use Rattle.steps.specs.Nodes.{Node, noNode, NodeWithin, NodesWithin}
+use Rattle.steps.specs.Nodes.{Node, noNode, mostNodes, NodeWithin, NodesWithin}
 use Rattle.steps.specs.Values.Parts.{noTerm, lists-many}
-use Rattle.steps.specs.Table.{rowAt, tableLength, Row, NodeIn, NodesIn}
+use Rattle.steps.specs.Table.{rowAt, rowLength, tableLength, RowsFor, RowsOf, fewNodes, FewNodes, Row, NodeIn, NodesIn}
 
 -- ── nodes within the limits, each with its row ──
 pub nodes-in :
     {p s nodes : List ℕ} {n : ℕ} {P : Protocol} {xs : List Node} → Prepared p P → NodesWithin P xs → length xs ≡ n
-    → ((j : ℕ) → j < n → Row p s nodes j (getD xs j noNode)) → length nodes ≡ tableLength → length s ≤ longest → NodesIn p s nodes n P xs
+    → ((j : ℕ) → j < n → Row p s nodes j (getD xs j noNode)) → RowsFor nodes n → length s ≤ longest → NodesIn p s nodes n P xs
 nodes-in prepared within count rows long short = record {
   prepared = prepared;
   count = count;
@@ -35,6 +38,24 @@ nodes-in prepared within count rows long short = record {
   short = short;
 }
 
+-- ── rows for the most nodes are enough for every list ──
+pub all-rows : (s : List ℕ) → Bytes s → (at : ℕ) (nodes : List ℕ) → tableLength ≤ length nodes → RowsOf s at nodes
+all-rows s bytes at nodes h n e q = omega (arith, below-inside s (suc mostNodes) at bytes n e q .small)
+
+-- a count tells whether nodes are few
+pub few-counted : (s : List ℕ) {n e : ℕ} → below s (suc mostNodes) 0 ≡ got n e → n ≤ fewNodes → FewNodes s
+few-counted s {n} {e} h l m d q =
+    let z : got n e ≡ got m d = sym h ∙ q in
+    let y : n ≡ m = cc in
+    omega arith
+
+pub few-uncounted : (s : List ℕ) → below s (suc mostNodes) 0 ≡ fault → FewNodes s
+few-uncounted s h m d q = let z : fault ≡ got m d = sym h ∙ q in clash (cc)
+
+-- those for few nodes for a list of few
+pub few-rows : (s : List ℕ) → FewNodes s → (nodes : List ℕ) → rowLength * fewNodes ≤ length nodes → RowsOf s 0 nodes
+few-rows s few nodes h n e q = omega (arith, few n e q)
+
 -- ── one of the nodes ──
 pub node-in :
     {p s nodes : List ℕ} {n : ℕ} {P : Protocol} {xs : List Node} → NodesIn p s nodes n P xs → (j : ℕ) → j < n
@@ -44,7 +65,7 @@ node-in {P = P} {xs} h j l = record {
   within = all-inside (NodeWithin P) noNode xs (h .within) j (omega (arith, h .count));
   row = h .rows j l;
   few = omega (arith, h .few);
-  long = h .long;
+  long = omega (arith, h .long);
   short = h .short;
 }
 

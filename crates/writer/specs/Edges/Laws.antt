@@ -76,11 +76,11 @@ all-bytes (e ∷ es) ns l each =
 module _ {edges : List ℕ} {m : ℕ} {es : List Edge} (h : EdgesIn edges m es) where
   pub edges-bytes : groups m ++ numberBytes edges (edgeFields * m) ≡ listed encodeEdge es
   edges-bytes =
-      let b = all-bytes es edges (omega (arith, h .count, h .few, h .long)) (λ j l. h .each j (omega (arith, h .count))) in
+      let b = all-bytes es edges (omega (arith, h .count, h .long)) (λ j l. h .each j (omega (arith, h .count))) in
       ap₂ (λ (x y : List ℕ). x ++ y) (ap groups (sym (h .count))) (ap (λ (n : ℕ). numberBytes edges (4 * n)) (sym (h .count)) ∙ b)
 
   pub table-long : edgeFields * m ≤ length edges
-  table-long = omega (arith, h .few, h .long)
+  table-long = h .long
 
   pub edges-length : (a b : ℕ) → a ≡ length (groups m) → b ≡ length (numberBytes edges (edgeFields * m)) → a + b ≡ length (listed encodeEdge es)
   edges-length a b ha hb =

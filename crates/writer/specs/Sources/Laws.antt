@@ -30,7 +30,7 @@ use Rattle.facts.specs.Calls.{NodeOf, WholeFact}
 use Rattle.facts.specs.Marks.{markOf}
 use Rattle.graph.specs.Graph.{place-of, edge-of, mostEdges}
 use Rattle.graph.specs.Uses.{countTable}
-use Rattle.graph.specs.Table.{edgeFields, edgeAt, edgeTable, noEdge, EdgesIn}
+use Rattle.graph.specs.Table.{edgeFields, edgeAt, noEdge, FieldsFor, EdgesIn}
 use Rattle.graph.specs.Table.Reading.{edge-same}
 use Rattle.writer.specs.Free.{Marked, entryPlace, entryPlaced, freeIn}
 use Rattle.writer.specs.Free.Laws.{FirstAt, NoneTo, first-is, taken-is}
@@ -102,9 +102,9 @@ put-as {edges} {edges′} {e} ha hb hc hd put =
     subst (EdgePut edges edges′ e) (ap₂ edge-of (ap₂ place-of ha hb) (ap₂ place-of hc hd)) put
 
 pub edges-more :
-    {edges edges′ : List ℕ} {e : ℕ} {es : List Edge} {edge : Edge} → EdgesIn edges e es → e < mostEdges → EdgePut edges edges′ e edge
+    {edges edges′ : List ℕ} {e : ℕ} {es : List Edge} {edge : Edge} → EdgesIn edges e es → e < mostEdges → FieldsFor edges (e + 1) → EdgePut edges edges′ e edge
     → EdgesIn edges′ (e + 1) (es ++ (edge ∷ []))
-edges-more {edges} {edges′} {e} {es} {edge} h l put = record {
+edges-more {edges} {edges′} {e} {es} {edge} h l room put = record {
   count = omega (arith, length-append es (edge ∷ []), h .count);
   few = omega arith;
   each = λ j m.
@@ -116,7 +116,7 @@ edges-more {edges} {edges′} {e} {es} {edge} h l put = record {
       let n : length es ≡ j = omega (arith, h .count) in
       ap (λ (i : ℕ). getD (es ++ (edge ∷ [])) i noEdge) (sym n) ∙ getD-append-seam es edge [] noEdge ∙ sym (put .here) ∙ ap (edgeAt edges′) (sym a))
       (λ a. absurd (omega arith));
-  long = put .long ∙ h .long;
+  long = omega (arith, put .long, room);
 }
 
 -- ── edges in front ──
@@ -158,11 +158,11 @@ module _ {p s nodes free edges : List ℕ} {k i e : ℕ} {P : Protocol} {xs : Li
         facts-few P (h .feeding .right .stand .prepared .body .within) (getD xs k noNode)
         (all-inside (NodeWithin P) noNode xs (h .feeding .right .stand .within) k (h .feeding .inside)) premiseList
 
-    pub premise-bounds : (k < mostNodes) × (i < mostFacts) × (e < mostEdges)
+    pub premise-bounds : (k < mostNodes) × (i < mostFacts) × (e < mostEdges) × FieldsFor edges (e + 1)
     premise-bounds =
         let a : k < mostNodes = omega (arith, h .feeding .inside, h .feeding .right .stand .few) in
         let b : i < mostFacts = omega (arith, few-premises, h .listed) in
-        (a, b, omega (arith, h .feeding .few))
+        (a, b, omega (arith, h .feeding .few), omega (arith, b, h .feeding .few, h .feeding .inside, h .feeding .reached .room))
 
     pub premise-search : {mark : ℕ} → mark ≡ markOf fact → Searching p s nodes free target mark P xs
     premise-search m = record {
@@ -254,7 +254,8 @@ module _ {p s nodes free edges : List ℕ} {k i e : ℕ} {P : Protocol} {xs : Li
               few = omega (arith, h .feeding .few);
               reached = record {
                 so-far = h .feeding .reached .so-far ++ (edge ∷ []);
-                stand = edges-more (h .feeding .reached .stand) (premise-bounds .2) put;
+                stand = edges-more (h .feeding .reached .stand) (premise-bounds .2) (premise-bounds .3) put;
+                room = omega (arith, put .long, h .feeding .reached .room);
                 drawn = h .feeding .reached .drawn ∙ ap (edgesThen (h .feeding .reached .so-far)) one-edge
                     ∙ then-then (h .feeding .reached .so-far) (edge ∷ []) (fromPremise P xs free′ k (suc i))
                     ∙ ap (λ (j : ℕ). edgesThen (h .feeding .reached .so-far ++ (edge ∷ [])) (fromPremise P xs free′ k j)) one;
@@ -299,6 +300,7 @@ module _ {p s nodes free edges : List ℕ} {k e : ℕ} {P : Protocol} {xs : List
     reached = record {
       so-far = h .reached .so-far;
       stand = h .reached .stand;
+      room = h .reached .room;
       drawn = h .reached .drawn ∙ ap (λ (ys : List (graph.Node Fact)). edgesThen (h .reached .so-far)
           (drawFrom (protocolFacts P) (suc k) (freeIn P xs free (mostFacts * k)) ys))
           (drop-cons (rewrittens P xs) k (rewritten P noNode) (omega (arith, length-map xs (rewritten P)))
@@ -325,6 +327,7 @@ module _ {p s nodes free edges : List ℕ} {k e : ℕ} {P : Protocol} {xs : List
         reached = record {
           so-far = f .reached .so-far;
           stand = f .reached .stand;
+          room = f .reached .room;
           drawn = f .reached .drawn ∙ ap (edgesThen (f .reached .so-far))
               (premises-done (freeIn P xs free (mostFacts * k)) (length (premises P xs k)) (drop (length (premises P xs k)) (premises P xs k)) none
               ∙ ap (λ (l : List (Placed Fact)). drawFrom (protocolFacts P) (suc (suc k)) l (drop (suc k) (rewrittens P xs))) (sym (n .more))
@@ -351,7 +354,7 @@ module _ {p s nodes free edges : List ℕ} {k e : ℕ} {P : Protocol} {xs : List
       }
 
 module _ {p s nodes : List ℕ} {n : ℕ} {P : Protocol} {xs : List Node} (r : RightNodes p s nodes n P xs) where
-  pub none-chosen : {free edges : List ℕ} → length free ≡ countTable → ((i : ℕ) → getD free i 0 ≡ 0) → length edges ≡ edgeTable → Choosing p s nodes free edges
+  pub none-chosen : {free edges : List ℕ} → length free ≡ countTable → ((i : ℕ) → getD free i 0 ≡ 0) → FieldsFor edges (mostFacts * n) → Choosing p s nodes free edges
       0 0 P xs
   none-chosen long empty table = record {
     right = subst (λ (k : ℕ). RightNodes p s nodes k P xs) (sym (r .stand .count)) r;
@@ -360,7 +363,8 @@ module _ {p s nodes : List ℕ} {n : ℕ} {P : Protocol} {xs : List Node} (r : R
     few = omega arith;
     reached = record {
       so-far = [];
-      stand = record { count = refl; few = omega arith; each = λ j l. absurd (omega arith); long = table };
+      stand = record { count = refl; few = omega arith; each = λ j l. absurd (omega arith); long = omega arith };
+      room = omega (arith, r .stand .count, table);
       drawn = whole (allEdges P xs);
     };
   }

@@ -1,12 +1,25 @@
 -- The verdict's truth decides between run and attack, and its count and the two sizes are the line's counts.
-use mathlib.Core.Path.{sym, _∙_}
 use Rattle.checker.specs.Check.Inside.{told}
+use Rattle.graph.specs.Area.{facts-room}
+use mathlib.Core.Path.{sym, _∙_}
+use denote.Ref.{now}
 use borrow.Author.Needs.{needs}
 use Rattle.checker.proofs.checking.judge_graph.Statement.{statement}
 use Rattle.checker.proofs.checking.judge_graph.Tie as tie
 
+sub-facts : tie.Need-sub-facts
+sub-facts c = search needs
+
+part-facts-start : tie.Need-part-facts-start
+part-facts-start c = search needs
+
+part-facts-end : tie.Need-part-facts-end
+part-facts-end c = search needs
+
 judge-nodes-requires : tie.Need-judge-nodes-requires
-judge-nodes-requires c κs = search needs
+judge-nodes-requires c κs =
+    let c6 = c .before .before .before .before .before .before in
+    (c6 .pre .0, facts-room (now (c6 .args .work)) (c6 .pre .1))
 
 same-length : tie.Need-same-length
 same-length c = search needs
@@ -28,4 +41,13 @@ returns-2 c =
 
 pub judge-graph-spec : {M : Type 1} → statement M
 judge-graph-spec =
-    tie.close (tie.spec judge-nodes-requires same-length returns same-length-2 returns-2)
+    tie.close
+    (tie.spec
+    sub-facts
+    part-facts-start
+    part-facts-end
+    judge-nodes-requires
+    same-length
+    returns
+    same-length-2
+    returns-2)

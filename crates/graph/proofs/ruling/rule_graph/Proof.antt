@@ -22,11 +22,10 @@ rule-read-requires c κs =
       (
         P,
         file-read P (now (c18 .args .p)) (now (c18 .args .s)) (c10 .read-graph .last .1 .1 .0) (c10 .read-graph .last .1 .1 .1 .0) (c10 .read-graph .result)
-            (c10 .read-graph .ensures P f) (c4 .n .given .1) f (λ k. c16 .shared-slice-known2 .given k .fits)
-            (omega (arith, c10 .read-graph .kept .1 .1 .0, c18 .pre .2)) (c18 .pre .1) .is,
+            (c10 .read-graph .ensures P f) (c4 .n .given .1) f (λ k. c16 .shared-slice-known2 .given k .fits) (c18 .pre .1) .is,
         file-in P (now (c18 .args .p)) (now (c18 .args .s))
             (c10 .read-graph .last .1 .1 .0) (c10 .read-graph .last .1 .1 .1 .0) (c10 .read-graph .result) (c10 .read-graph .ensures P f) (c4 .n .given .1) f
-            (λ k. c16 .shared-slice-known2 .given k .fits) (omega (arith, c10 .read-graph .kept .1 .1 .0, c18 .pre .2)) (c18 .pre .1),
+            (λ k. c16 .shared-slice-known2 .given k .fits) (c18 .pre .1),
       ),
       c18 .pre .4,
     )
@@ -53,11 +52,10 @@ returns c =
     let c19 = c13 .before .before .before .before .before .before in
     let c21 = c19 .before .before in
     λ P f. file-answered P (now (c21 .args .p)) (now (c21 .args .s)) (c13 .read-graph .last .1 .1 .0) (c13 .read-graph .last .1 .1 .1 .0)
-    (c13 .read-graph .result) (c13 .read-graph .ensures P f) (c7 .n .given .1) f (λ k. c19 .shared-slice-known2 .given k .fits)
-    (omega (arith, c13 .read-graph .kept .1 .1 .0, c21 .pre .2)) (c21 .pre .1) (c .before .before .rule-read .result)
+    (c13 .read-graph .result) (c13 .read-graph .ensures P f) (c7 .n .given .1) f (λ k. c19 .shared-slice-known2 .given k .fits) (c21 .pre .1) (c .before .before .rule-read .result)
     (c .before .before .rule-read .ensures P _ (file-in P (now (c21 .args .p)) (now (c21 .args .s)) (c13 .read-graph .last .1 .1 .0)
     (c13 .read-graph .last .1 .1 .1 .0) (c13 .read-graph .result) (c13 .read-graph .ensures P f) (c7 .n .given .1) f
-    (λ k. c19 .shared-slice-known2 .given k .fits) (omega (arith, c13 .read-graph .kept .1 .1 .0, c21 .pre .2)) (c21 .pre .1)))
+    (λ k. c19 .shared-slice-known2 .given k .fits) (c21 .pre .1)))
 
 same-length-4 : tie.Need-same-length-4
 same-length-4 c = search needs

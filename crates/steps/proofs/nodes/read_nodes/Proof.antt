@@ -23,8 +23,9 @@ nodes-from-requires c κs =
     let c4 = c .before .before .before .before in
     let c6 = c4 .before .before in
     let c8 = c6 .before .before in
-    let b = below-inside _ _ _ (λ i. c6 .shared-slice-known2 .given i .fits) _ _ (sym (c4 .below .ensures) ∙ ap asRead (c .before .before .n .given .1)) in
-    (c8 .pre .0, c8 .pre .1, omega (arith, b .small), c8 .pre .2)
+    let q = sym (c4 .below .ensures) ∙ ap asRead (c .before .before .n .given .1) in
+    let b = below-inside _ _ _ (λ i. c6 .shared-slice-known2 .given i .fits) _ _ q in
+    (c8 .pre .0, c8 .pre .1, omega (arith, b .small), c8 .pre .2 _ _ q)
 
 enum-told : tie.Need-enum-told
 enum-told c = search needs

@@ -24,8 +24,7 @@ rule-nodes-requires c κs =
       list-read P (now (c11 .args .p)) (now (c11 .args .s)) (c6 .read-steps .last .1 .1 .0) (c6 .read-steps .result) told (c .before .before .n .given .1)
           .items,
       list-in P (now (c11 .args .p)) (now (c11 .args .s)) (c6 .read-steps .last .1 .1 .0) (c6 .read-steps .result) told
-          (c .before .before .n .given .1) f (λ k. c9 .shared-slice-known2 .given k .fits) (omega (arith, c6 .read-steps .kept .1 .1 .0, c11 .pre .2))
-          (c11 .pre .1),
+          (c .before .before .n .given .1) f (λ k. c9 .shared-slice-known2 .given k .fits) (c11 .pre .1),
     )
 
 enum-told : tie.Need-enum-told
@@ -46,14 +45,12 @@ returns c =
       λ P f. let told = c7 .read-steps .ensures P f in
           list-nodes P (now (c12 .args .p)) (now (c12 .args .s)) (c7 .read-steps .last .1 .1 .0) (c7 .read-steps .result) told (c3 .n .given .1)
           (c .rule-nodes .result) (c .rule-nodes .ensures P _ (list-in P (now (c12 .args .p)) (now (c12 .args .s)) (c7 .read-steps .last .1 .1 .0)
-          (c7 .read-steps .result) told (c3 .n .given .1) f (λ k. c10 .shared-slice-known2 .given k .fits)
-          (omega (arith, c7 .read-steps .kept .1 .1 .0, c12 .pre .2)) (c12 .pre .1))),
+          (c7 .read-steps .result) told (c3 .n .given .1) f (λ k. c10 .shared-slice-known2 .given k .fits) (c12 .pre .1))),
       λ P f. let told = c7 .read-steps .ensures P f in
           where-good P (now (c12 .args .p)) (now (c12 .args .s)) (c7 .read-steps .last .1 .1 .0) (λ k. c10 .shared-slice-known2 .given k .fits) _ _
           (list-read P (now (c12 .args .p)) (now (c12 .args .s)) (c7 .read-steps .last .1 .1 .0) (c7 .read-steps .result) told (c3 .n .given .1))
           (c .rule-nodes .result) (c .rule-nodes .ensures P _ (list-in P (now (c12 .args .p)) (now (c12 .args .s)) (c7 .read-steps .last .1 .1 .0)
-          (c7 .read-steps .result) told (c3 .n .given .1) f (λ k. c10 .shared-slice-known2 .given k .fits)
-          (omega (arith, c7 .read-steps .kept .1 .1 .0, c12 .pre .2)) (c12 .pre .1))),
+          (c7 .read-steps .result) told (c3 .n .given .1) f (λ k. c10 .shared-slice-known2 .given k .fits) (c12 .pre .1))),
     )
 
 same-length-2 : tie.Need-same-length-2

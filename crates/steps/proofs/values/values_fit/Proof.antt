@@ -5,12 +5,12 @@ use Rattle.steps.specs.Values.Code.{room-kept}
 use Rattle.steps.specs.Values.Parts.{noTerm}
 use Rattle.steps.specs.Values.Tests.{valueOk}
 use Rattle.steps.specs.Table.Laws.{node-variables, node-sort}
-use Rattle.steps.specs.Table.{tableLength, NodeIn}
+use Rattle.steps.specs.Table.{RowsFor, NodeIn}
 use Rattle.steps.specs.Nodes.{Node, mostNodes}
 use Rattle.prepared.specs.Prepared.Laws.{slots-length}
 use Rattle.protocol.specs.Protocol.{Protocol}
 use Rattle.protocol.specs.Figures.{mostVariables}
-use Prim.Native.Nat.{ℕ, _-_, _≤_, _<_}
+use Prim.Native.Nat.{ℕ, _+_, _-_, _≤_, _<_}
 use mathlib.Core.Path.{_≡_, ap, sym, _∙_}
 use lib.ListN.{length, getD}
 use denote.Ref.{now}
@@ -20,7 +20,7 @@ use Rattle.steps.proofs.values.values_fit.Tie as tie
 
 abbrev Inv-loop : tie.InvT-loop
 Inv-loop out₀ p s nodes j place k first sizes v₀ out v =
-    (v ≤ k) × (length out ≡ length out₀) × (k ≤ mostVariables) × (j < mostNodes) × (length nodes ≡ tableLength) ×
+    (v ≤ k) × (length out ≡ length out₀) × (k ≤ mostVariables) × (j < mostNodes) × RowsFor nodes (j + 1) ×
     ((P : Protocol) (x : Node) (h : NodeIn p s nodes j P x) → Left h v)
 
 abbrev μ-loop : tie.MeasureT-loop

@@ -42,9 +42,8 @@ put-edge-requires c κs =
     let c23 = c15 .before .before .before .before .before .before .before .before in
     let (P, xs, h) = c23 .pre .0 in let q = premise-search h (c15 .fact-mark .ensures P _ (premise-there h)) in let first = found-at q (c6 .v .given .1)
     (c10 .find-source .ensures P xs q) in let b = premise-bounds h in (
-      omega (arith, b .2, h .feeding .reached .stand .long),
-      h .feeding .reached .stand
-          .long,
+      omega (arith, b .3),
+      b .2,
       source-bounds h first,
       b .0,
       b .1,
