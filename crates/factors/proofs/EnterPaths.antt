@@ -66,12 +66,28 @@ module _ {A : Type 0} (d : A) (s : ℕ) (some : 0 < s) (old : List A) (n : ℕ) 
   moved new i j h k M = record { below = λ m l. M .still m (omega arith); above = λ m l g. M .up m (omega arith) g }
 
 -- ── finding a place ──
--- the entries from i on come behind these bytes
-abbrev pub Behind : List ℕ → List ℕ → List ℕ → ℕ → ℕ → Type 0
-Behind key src Q n i = (i ≤ n) × (i < n → orderAt key src Q i ≡ Less)
+-- the place is lo at least and hi at most: the entries below lo come before these bytes, the one at hi, if there is one, behind them
+pub record Between (key src Q : List ℕ) (n lo hi : ℕ) : Type 0 where
+  pub low : lo ≤ hi
+  pub high : hi ≤ n
+  pub before : (k : ℕ) → k < lo → orderAt key src Q k ≡ Greater
+  pub behind : hi < n → orderAt key src Q hi ≡ Less
 
-module _ (key src Q : List ℕ) (n : ℕ) (R : Rising src Q n) where
-  module _ (j : ℕ) (l : j < n) (o : Order) (e : o ≡ orderAt key src Q j) where
+-- what is left of that after a look at an entry
+pub record Narrowed (key src Q : List ℕ) (n lo hi lo₁ hi₁ : ℕ) : Type 0 where
+  pub between : Between key src Q n lo₁ hi₁
+  pub fewer : hi₁ - lo₁ < hi - lo
+
+module _ (key src Q : List ℕ) (n : ℕ) where
+  pub between-all : Between key src Q n 0 n
+  between-all = record { low = omega arith; high = omega arith; before = λ k h. absurd (omega arith); behind = λ h. absurd (omega arith) }
+
+  pub found-between : (lo hi : ℕ) → hi ≤ lo → Between key src Q n lo hi → Found key src Q n lo false
+  found-between lo hi h B =
+      let z : lo ≡ hi = omega (arith, B .low) in
+      record { within = omega (arith, B .high); before = B .before; here = rw z (B .behind); end = λ e. clash (cc) }
+
+  module _ (R : Rising src Q n) (j : ℕ) (l : j < n) (o : Order) (e : o ≡ orderAt key src Q j) where
     -- the entries below one that comes before these bytes come before them
     below-greater : o ≡ Greater → (k : ℕ) → k < j → orderAt key src Q k ≡ Greater
     below-greater g k h =
@@ -86,19 +102,23 @@ module _ (key src Q : List ℕ) (n : ℕ) (R : Rising src Q n) where
     pub found-same : o ≡ Equal → Found key src Q n j true
     found-same g = record { within = omega arith; before = below-same g; here = λ h. sym e ∙ g; end = λ z. l }
 
-    pub found-after : o ≡ Greater → (i : ℕ) → j ≡ i - 1 → 0 < i → Behind key src Q n i → Found key src Q n i false
-    found-after g i q p b = record {
-      within = b .0;
-      before = λ k h. elim (decLt k j) [ yes y ↦ below-greater g k y | no y ↦ (let z : k ≡ j = omega arith in rw z (sym e ∙ g)) ];
-      here = b .1;
-      end = λ z. clash (cc);
-    }
+    module _ (lo hi : ℕ) (B : Between key src Q n lo hi) (a : lo ≤ j) (b : j < hi) where
+      pub narrowed-less : o ≡ Less → (lo₁ hi₁ : ℕ) → lo₁ ≡ lo → hi₁ ≡ j → Narrowed key src Q n lo hi lo₁ hi₁
+      narrowed-less g lo₁ hi₁ p q = record {
+        between = rw (p, q) (record { low = a; high = omega arith; before = B .before; behind = λ h. sym e ∙ g });
+        fewer = omega arith;
+      }
 
-    pub behind-less : o ≡ Less → Behind key src Q n j
-    behind-less g = (omega arith, λ h. sym e ∙ g)
-
-  pub found-first : Behind key src Q n 0 → Found key src Q n 0 false
-  found-first b = record { within = omega arith; before = λ k h. absurd (omega arith); here = b .1; end = λ z. clash (cc) }
+      pub narrowed-greater : o ≡ Greater → (lo₁ hi₁ : ℕ) → lo₁ ≡ j + 1 → hi₁ ≡ hi → Narrowed key src Q n lo hi lo₁ hi₁
+      narrowed-greater g lo₁ hi₁ p q = record {
+        between = rw (p, q) (record {
+          low = omega arith;
+          high = B .high;
+          before = λ k h. elim (decLt k j) [ yes y ↦ below-greater g k y | no y ↦ (let z : k ≡ j = omega arith in rw z (sym e ∙ g)) ];
+          behind = B .behind;
+        });
+        fewer = omega arith;
+      }
 
 -- ── entering ──
 module _ (key src Q : List ℕ) (P : List ℤ) (n a : ℕ) where

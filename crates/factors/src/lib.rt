@@ -1,6 +1,6 @@
 // The factors of some terms in a table: for each its place in the caller's slice and its exponent, ascending by encoded bytes.
 ghost use mathlib.Core.Path.{_≡_};
-ghost use Prim.Native.Nat.{_+_, _-_, _*_, _≤_};
+ghost use Prim.Native.Nat.{_+_, _-_, _*_, _≤_, _<_};
 ghost use lib.ListN.{length, take, drop};
 ghost use lib.IntN.{pos};
 ghost use Rattle.term.specs.Term.{Term, Terms, encode, encodes};
@@ -33,16 +33,23 @@ pub enum Way {
     Factor,
 }
 
+// How many entries the table has, and where to look for the next factor first: at the place behind the one entered last.
+pub struct Put {
+    pub n: usize,
+    pub hint: usize,
+}
+
 // How far the walk is, and how many entries the table has.
 pub struct Filled {
     pub at: usize,
     pub n: usize,
 }
 
-// The same after one term, and how many of its arguments are to be walked from there.
+// The same after one term, where to look for the next factor first, and how many of its arguments are to be walked from there.
 pub struct Onward {
     pub at: usize,
     pub n: usize,
+    pub hint: usize,
     pub more: usize,
 }
 
@@ -54,29 +61,47 @@ fn compare_at(key: &[u8], src: &[u8], a: usize, e: usize) -> Order
     octets::compare_bytes(key, &src[a..e])
 }
 
-// Where these bytes belong among n entries: looked for from the last entry on, as factors mostly come in order.
-fn find_place(key: &[u8], src: &[u8], spans: &[u32], n: usize) -> Position
+// The entry to look at first: the hinted one, or the last.
+fn first_look(n: usize, hint: usize) -> usize
+    ensures { λ r. ⌜ (0 < n → r < n) ⌝ }
+{
+    if hint < n {
+        return hint;
+    }
+    if 0 < n {
+        return n - 1;
+    }
+    0
+}
+
+// Where these bytes belong among n entries: by halves, after a look at the hinted entry, as factors mostly come in order.
+fn find_place(key: &[u8], src: &[u8], spans: &[u32], n: usize, hint: usize) -> Position
     requires { ⌜ (2 * n ≤ length (now spans)) × Bounds (now src) (now spans) n × Rising (now src) (now spans) n ⌝ }
     ensures { λ r. ⌜ FoundAt (now (key .entry)) (now (src .entry)) (now (spans .entry)) n r ⌝ }
 {
-    let mut i = n;
-    while 0 < i {
-        let j = i - 1;
+    let mut lo = 0;
+    let mut hi = n;
+    let mut j = first_look(n, hint);
+    while lo < hi {
         let a = spans[SPAN * j] as usize;
         let e = spans[SPAN * j + 1] as usize;
         match compare_at(key, src, a, e) {
             Order::Less => {
-                i = j;
+                hi = j;
             }
             Order::Equal => {
                 return Position { at: j, same: true };
             }
             Order::Greater => {
-                return Position { at: i, same: false };
+                lo = j + 1;
             }
         }
+        j = lo + (hi - lo) / 2;
     }
-    Position { at: 0, same: false }
+    Position {
+        at: lo,
+        same: false,
+    }
 }
 
 // Makes room for an entry's places: the elements from i up to n move up by a span.
@@ -112,29 +137,31 @@ fn unit(minus: bool) -> i32
     if minus { -1 } else { 1 }
 }
 
-// The factor whose bytes stand at a goes into the table of n entries with one exponent more or less: returns how many entries there are.
+// The factor whose bytes stand at a goes into the table of n entries with one exponent more or less.
 fn enter(
     spans: &mut [u32],
     powers: &mut [i32],
     n: usize,
+    hint: usize,
     src: &[u8],
     key: &[u8],
     a: usize,
     minus: bool,
-) -> usize
+) -> Put
     requires { ⌜ Asks₂ (Enter (now key) (now src) (now spans) (now powers) n a) ⌝ }
-    ensures { λ r. ⌜ Promises₂ (Enter (now (key .entry)) (now (src .entry)) (now (spans .entry)) (now (powers .entry)) n a) (λ (l : Exps) (t : Term). Table (now (src .entry)) (now (spans .exit)) (now (powers .exit)) r (enter t (sign minus) l)) ⌝ }
+    ensures { λ r. ⌜ Promises₂ (Enter (now (key .entry)) (now (src .entry)) (now (spans .entry)) (now (powers .entry)) n a) (λ (l : Exps) (t : Term). Table (now (src .entry)) (now (spans .exit)) (now (powers .exit)) (r .n) (enter t (sign minus) l)) ⌝ }
 {
     let e = a + key.len();
-    let p = find_place(key, src, spans, n);
+    let p = find_place(key, src, spans, n, hint);
     let i = p.at;
     let same = p.same;
+    let next = i + 1;
     let u = unit(minus);
     if same {
         let k = powers[i];
         let v = k + u;
         powers[i] = v;
-        return n;
+        return Put { n: n, hint: next };
     }
     let at = SPAN * i;
     open_row(spans, at, SPAN * n);
@@ -142,7 +169,10 @@ fn enter(
     spans[at] = a as u32;
     spans[at + 1] = e as u32;
     powers[i] = u;
-    n + 1
+    Put {
+        n: n + 1,
+        hint: next,
+    }
 }
 
 // The way of the term at a place.
@@ -172,6 +202,7 @@ fn enter_at(
     spans: &mut [u32],
     powers: &mut [i32],
     n: usize,
+    hint: usize,
     src: &[u8],
     at: usize,
     arities: &[u8],
@@ -181,10 +212,11 @@ fn enter_at(
     ensures { λ r. ⌜ Promises₂ (OneTerm (now (arities .entry)) (now (src .entry)) (now (spans .entry)) (now (powers .entry)) n at) (λ (l : Exps) (t : Term). Entered (now (src .entry)) (now (spans .exit)) (now (powers .exit)) (at + length (encode t)) r (enter t (sign minus) l)) ⌝ }
 {
     let key = term::term_part(src, arities, at);
-    let m = enter(spans, powers, n, src, key, at, minus);
+    let p = enter(spans, powers, n, hint, src, key, at, minus);
     Onward {
         at: at + key.len(),
-        n: m,
+        n: p.n,
+        hint: p.hint,
         more: 0,
     }
 }
@@ -194,6 +226,7 @@ fn one_term(
     spans: &mut [u32],
     powers: &mut [i32],
     n: usize,
+    hint: usize,
     src: &[u8],
     at: usize,
     arities: &[u8],
@@ -206,6 +239,7 @@ fn one_term(
         Way::On(c, next) => Onward {
             at: next,
             n: n,
+            hint: hint,
             more: c,
         },
         Way::Turn(c, next) => {
@@ -213,18 +247,20 @@ fn one_term(
             Onward {
                 at: f.at,
                 n: f.n,
+                hint: f.n,
                 more: 0,
             }
         }
         Way::Leaf(e) => {
-            let m = enter(spans, powers, n, src, &src[at..e], at, minus);
+            let p = enter(spans, powers, n, hint, src, &src[at..e], at, minus);
             Onward {
                 at: e,
-                n: m,
+                n: p.n,
+                hint: p.hint,
                 more: 0,
             }
         }
-        Way::Factor => enter_at(spans, powers, n, src, at, arities, minus),
+        Way::Factor => enter_at(spans, powers, n, hint, src, at, arities, minus),
     }
 }
 
@@ -244,11 +280,13 @@ pub fn collect(
 {
     let mut i = at;
     let mut m = n;
+    let mut hint = n;
     let mut left = k;
     while 0 < left {
-        let o = one_term(spans, powers, m, src, i, arities, minus);
+        let o = one_term(spans, powers, m, hint, src, i, arities, minus);
         i = o.at;
         m = o.n;
+        hint = o.hint;
         left = left - 1 + o.more;
     }
     Filled { at: i, n: m }

@@ -1,12 +1,12 @@
 -- Together, the slice that is left falling: what is gathered and the pending terms' factors are all the terms' factors, and a turned sign negates.
-use borrow.Author.Needs.{needs}
-use Rattle.factors.proofs.CollectPaths.{on-gone, turn-asks, turn-gone, leaf-gone, factor-gone, Walk}
-use Rattle.factors.proofs.CollectPaths.{walk-first, walk-done, term-asks, walk-more, walk-next}
-use Rattle.factors.proofs.EnterPaths.{one-asks, one-entered, leaf-end, leaf-key, leaf-within}
-use lib.ListN.{length}
-use mathlib.Core.Path.{refl, sym, _∙_}
-use native.Mathlib.Omega.{arith}
 use Prim.Native.Nat.{_-_, _+_, _*_, ℕ, _<_}
+use native.Mathlib.Omega.{arith}
+use mathlib.Core.Path.{refl, sym, _∙_}
+use lib.ListN.{length}
+use Rattle.factors.proofs.EnterPaths.{one-asks, one-entered, leaf-end, leaf-key, leaf-within}
+use Rattle.factors.proofs.CollectPaths.{walk-first, walk-done, term-asks, walk-more, walk-next}
+use Rattle.factors.proofs.CollectPaths.{on-gone, turn-asks, turn-gone, leaf-gone, factor-gone, Walk}
+use borrow.Author.Needs.{needs}
 use Prim.Native.Nat.{ℕ, _<_}
 use borrow.Fn.Kinds.{In}
 use borrow.Fn.PlainCycle.{Measures, is, falls, and}
@@ -28,7 +28,7 @@ abbrev μ-collect : Measures 4 collect-kinds.ps ℕ
 
 abbrev μ-one-term : Measures 4 one-term-kinds.ps ℕ
 μ-one-term κs a =
-    2 * (length (a .1 .1 .1 .0 .now) - a .1 .1 .1 .1 .0)
+    2 * (length (a .1 .1 .1 .1 .0 .now) - a .1 .1 .1 .1 .1 .0)
 
 abbrev collect-at : ℕ → In 4 collect-kinds.ps
 collect-at t = and 4 collect-kinds.ps (is 4 collect-kinds.ps μ-collect t) collect.Pre
@@ -44,11 +44,11 @@ one-term-below t =
     and 4 one-term-kinds.ps (falls 4 one-term-kinds.ps _<_ μ-one-term t) one-term.Pre
 
 abbrev collect-Inv-loop : collect-lts.InvT-loop
-collect-Inv-loop spans₀ powers₀ n src at k arities minus i₀ m₀ left₀ spans powers i m left =
+collect-Inv-loop spans₀ powers₀ n src at k arities minus i₀ m₀ hint₀ left₀ spans powers i m hint left =
     Walk arities src spans₀ powers₀ n at k minus spans powers m i left
 
 abbrev collect-μ-loop : collect-lts.MeasureT-loop
-collect-μ-loop spans₀ powers₀ n src at k arities minus i₀ m₀ left₀ spans powers i m left =
+collect-μ-loop spans₀ powers₀ n src at k arities minus i₀ m₀ hint₀ left₀ spans powers i m hint left =
     length src - i
 
 collect-loop-holds :

@@ -1,7 +1,7 @@
 -- A factor that stands in the table gains or loses one exponent; one that does not gets a row where its bytes belong, so the rows still ascend.
-use lib.ListN.{length-set}
-use Rattle.factors.proofs.EnterPaths.{enter-few, enter-asks, enter-within, enter-fits, row-fits, entered-same, entered-new}
 use native.Mathlib.Omega.{arith}
+use Rattle.factors.proofs.EnterPaths.{enter-few, enter-asks, enter-within, enter-fits, row-fits, entered-same, entered-new}
+use lib.ListN.{length-set}
 use borrow.Author.Needs.{needs}
 use Rattle.factors.proofs.enter.Statement.{statement}
 use Rattle.factors.proofs.enter.Tie as tie
@@ -15,6 +15,12 @@ find-place-requires : tie.Need-find-place-requires
 find-place-requires c κs =
     let c4 = c .before .before .before .before in
     let r = c4 .args in enter-asks (r .key .now) (r .src .now) (r .spans .now) (r .powers .now) (r .n) (r .a) (c4 .pre)
+
+add-next : tie.Need-add-next
+add-next c =
+    let c5 = c .before .before .before .before .before in
+    let r = c5 .args in let f = enter-few (r .key .now) (r .src .now) (r .spans .now) (r .powers .now) (r .n) (r .a) (c5 .pre) in omega
+    (arith, c .find-place .ensures .within)
 
 unit-requires : tie.Need-unit-requires
 unit-requires c κs = search needs
@@ -156,8 +162,8 @@ slice-set-from-u c =
     let r = c14 .args in let f = enter-few (r .key .now) (r .src .now) (r .spans .now) (r .powers .now) (r .n) (r .a) (c14 .pre) in omega
     (arith, c9 .find-place .ensures .within, c .before .open-power .kept .0)
 
-add-result : tie.Need-add-result
-add-result c =
+add-t33 : tie.Need-add-t33
+add-t33 c =
     let c14 = c .before .before .before .before .before .before .before .before .before .before .before .before .before .before in
     let r = c14 .args in let f = enter-few (r .key .now) (r .src .now) (r .spans .now) (r .powers .now) (r .n) (r .a) (c14 .pre) in omega arith
 
@@ -184,6 +190,7 @@ enter-spec =
     (tie.spec
     add-e
     find-place-requires
+    add-next
     unit-requires
     mul-k
     slice-copy-out-k
@@ -206,7 +213,7 @@ enter-spec =
     slice-write-spans-2
     mul-u
     slice-set-from-u
-    add-result
+    add-t33
     same-length-3
     same-length-4
     returns-2)

@@ -1,7 +1,7 @@
 -- The part that term_part hands back is the factor's bytes, which is what `enter` asks of its key.
-use Rattle.factors.proofs.EnterPaths.{one-asks, one-short, one-entered, walked, walked-end}
-use native.Mathlib.Omega.{arith}
 use mathlib.Core.Path.{refl}
+use native.Mathlib.Omega.{arith}
+use Rattle.factors.proofs.EnterPaths.{one-asks, one-short, one-entered, walked, walked-end}
 use borrow.Author.Needs.{needs}
 use Rattle.factors.proofs.enter_at.Statement.{statement}
 use Rattle.factors.proofs.enter_at.Tie as tie
@@ -17,8 +17,8 @@ enter-requires c κs =
     (walked (r .arities .now) (r .src .now) (r .spans .now) (r .powers .now) (r .n) (r .at) (λ i. c4 .shared-slice-known .given i .fits) _
     (c .before .before .term-part .ensures)) (c6 .pre)
 
-add-t15 : tie.Need-add-t15
-add-t15 c =
+add-t16 : tie.Need-add-t16
+add-t16 c =
     let c6 = c .before .before .before .before .before .before in
     let c8 = c6 .before .before in
     let c10 = c8 .before .before in
@@ -48,4 +48,4 @@ returns c =
 pub enter-at-spec : {M : Type 1} → statement M
 enter-at-spec =
     tie.close
-    (tie.spec term-part-requires enter-requires add-t15 same-length same-length-2 returns)
+    (tie.spec term-part-requires enter-requires add-t16 same-length same-length-2 returns)
