@@ -1,5 +1,5 @@
 -- The classes of arguments: places with the same canonical form get the same number.
-use Prim.Native.Nat.{ℕ, suc, _*_, _/_, _%_, _+_, _<_}
+use Prim.Native.Nat.{ℕ, suc, _*_, _/_, _%_, _+_, _≤_, _<_}
 use mathlib.Core.List.{List}
 use mathlib.Core.Logic.{_↔_}
 use mathlib.Core.Path.{_≡_}
@@ -42,6 +42,7 @@ pub record Walkable (p s nodes entries chains : List ℕ) (head q : ℕ) (P : Pr
   pub place : IsPlace P xs q
   pub first : (r : ℕ) → head ≡ suc r → IsPlace P xs r
   pub links : (i r : ℕ) → getD chains i 0 ≡ suc r → IsPlace P xs r
+  pub low : head ≤ q
   pub falls : Falls chains
 
 -- a place of the chain and one, or 0 where none has the same form
@@ -52,6 +53,7 @@ pub record Earlier (key : ℕ → Term) (chains : List ℕ) (head q h : ℕ) : T
 -- those before h in the chain have other forms
 pub record Walking (P : Protocol) (xs : List Node) (chains : List ℕ) (head q h : ℕ) : Type 0 where
   pub places : (r : ℕ) → h ≡ suc r → IsPlace P xs r
+  pub low : h ≤ q
   pub back : (l : ℕ) → InChain chains h l → InChain chains head l
   pub left : (l : ℕ) → InChain chains head l → keyAt P xs l ≡ keyAt P xs q → InChain chains h l
 

@@ -19,9 +19,13 @@ pub mod Made
 pub mod Trace
 
 -- ── sizes ──
+-- n nodes have so many actions at most
+abbrev pub actionsOf : ℕ → ℕ
+actionsOf n = mostFacts * n
+
 -- the actions of all nodes, and the places of their arguments
 abbrev pub mostActions : ℕ
-mostActions = mostFacts * mostNodes
+mostActions = actionsOf mostNodes
 
 -- argument j of action e has the place stride * e + j
 abbrev pub stride : ℕ
@@ -29,6 +33,10 @@ stride = mostFactArity
 
 abbrev pub placeCount : ℕ
 placeCount = stride * mostActions
+
+-- up to so many nodes tables are small
+abbrev pub fewNodes : ℕ
+fewNodes = 32
 
 -- the number of public name 0: above all places and all marks
 abbrev pub base : ℕ

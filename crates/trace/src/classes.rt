@@ -8,7 +8,7 @@ ghost use Rattle.protocol.specs.Protocol.{Protocol};
 ghost use Rattle.steps.specs.Nodes.{Node};
 ghost use Rattle.facts.specs.Writing.{factRoom};
 ghost use Rattle.facts.specs.Calls.{Room};
-ghost use Rattle.trace.specs.Tables.{stride, mostActions, placeCount};
+ghost use Rattle.trace.specs.Tables.{stride};
 ghost use Rattle.trace.specs.Entries.{ListedAll};
 ghost use Rattle.trace.specs.Chains.{linksAt, Classed};
 ghost use Rattle.trace.specs.Classes.{Walkable, Earlier, keyAt, Classing, Ready, ClassesAre};
@@ -21,6 +21,8 @@ const LINKS: usize = 4096;
 
 const CHAINS: usize = LINKS + numbers::PLACES;
 
+const FEW_CHAINS: usize = LINKS + numbers::FEW_PLACES;
+
 // A place in the chain from a head on whose argument is the same as that of place q, and one; 0 if there is none.
 fn earlier(
     work: &mut [u8],
@@ -32,7 +34,7 @@ fn earlier(
     head: u32,
     q: usize,
 ) -> u32
-    requires { ⌜ Asks₂ (Walkable (now p) (now s) (now nodes) (now entries) (now chains) head q) × Room (now work) factRoom × (mostActions ≤ length (now entries)) × (linksAt + placeCount ≤ length (now chains)) ⌝ }
+    requires { ⌜ Asks₂ (Walkable (now p) (now s) (now nodes) (now entries) (now chains) head q) × Room (now work) factRoom × (linksAt + q ≤ length (now chains)) ⌝ }
     ensures { λ r. ⌜ Promises₂ (Walkable (now (p .entry)) (now (s .entry)) (now (nodes .entry)) (now (entries .entry)) (now (chains .entry)) head q) (λ (P : Protocol) (xs : List Node). Earlier (keyAt P xs) (now (chains .entry)) head q r) ⌝ }
 {
     let x = entries::action_of(entries[q / numbers::STRIDE]);
@@ -68,7 +70,7 @@ fn class_place(
     chains: &mut [u32],
     q: usize,
 )
-    requires { ⌜ Asks₃ (Classing (now p) (now s) (now nodes) (now entries) (now classes) (now chains) q) × Room (now work) factRoom × (mostActions ≤ length (now entries)) × (placeCount ≤ length (now classes)) × (linksAt + placeCount ≤ length (now chains)) ⌝ }
+    requires { ⌜ Asks₃ (Classing (now p) (now s) (now nodes) (now entries) (now classes) (now chains) q) × Room (now work) factRoom × (q < length (now classes)) × (linksAt + q < length (now chains)) ⌝ }
     ensures { λ r. ⌜ Promises₃ (Classing (now (p .entry)) (now (s .entry)) (now (nodes .entry)) (now (entries .entry)) (now (classes .entry)) (now (chains .entry)) q) (λ (raw : List ℕ) (P : Protocol) (xs : List Node). Classed (keyAt P xs) raw (now (classes .exit)) (now (chains .exit)) (q + 1)) ⌝ }
 {
     let mark = classes[q];
@@ -98,7 +100,7 @@ fn class_places(
     chains: &mut [u32],
     total: usize,
 )
-    requires { ⌜ Asks₂ (Ready (now p) (now s) (now nodes) (now entries) (now classes) total) × Room (now work) factRoom × (mostActions ≤ length (now entries)) × (placeCount ≤ length (now classes)) × (linksAt + placeCount ≤ length (now chains)) × ((i : ℕ) → getD (now chains) i 0 ≡ 0) ⌝ }
+    requires { ⌜ Asks₂ (Ready (now p) (now s) (now nodes) (now entries) (now classes) total) × Room (now work) factRoom × (stride * total ≤ length (now classes)) × (linksAt + stride * total ≤ length (now chains)) × ((i : ℕ) → getD (now chains) i 0 ≡ 0) ⌝ }
     ensures { λ r. ⌜ Promises₂ (Ready (now (p .entry)) (now (s .entry)) (now (nodes .entry)) (now (entries .entry)) (now (classes .entry)) total) (λ (P : Protocol) (xs : List Node). Classed (keyAt P xs) (now (classes .entry)) (now (classes .exit)) (now (chains .exit)) (stride * total)) ⌝ }
 {
     let end = numbers::STRIDE * total;
@@ -119,10 +121,18 @@ pub fn class_arguments(
     total: usize,
     classes: &mut [u32],
 )
-    requires { ⌜ Asks₂ (ListedAll (now p) (now s) (now nodes) (now entries) total) × Room (now work) factRoom × (mostActions ≤ length (now entries)) × (placeCount ≤ length (now classes)) ⌝ }
+    requires { ⌜ Asks₂ (ListedAll (now p) (now s) (now nodes) (now entries) total) × Room (now work) factRoom × (stride * total ≤ length (now classes)) ⌝ }
     ensures { λ r. ⌜ Promises₂ (ListedAll (now (p .entry)) (now (s .entry)) (now (nodes .entry)) (now (entries .entry)) total) (λ (P : Protocol) (xs : List Node). ClassesAre (now (classes .exit)) (stride * total) P xs) ⌝ }
 {
+    if total == 0 {
+        return;
+    }
     numbers::number_actions(work, p, s, nodes, entries, total, classes);
+    if total <= entries::FEW_ACTIONS {
+        let mut chains = [0u32; FEW_CHAINS];
+        class_places(work, p, s, nodes, entries, classes, &mut chains, total);
+        return;
+    }
     let mut chains = [0u32; CHAINS];
     class_places(work, p, s, nodes, entries, classes, &mut chains, total);
 }

@@ -9,7 +9,7 @@ ghost use Rattle.message.specs.Canon.{canon};
 ghost use Rattle.protocol.specs.Protocol.{Protocol};
 ghost use Rattle.steps.specs.Nodes.{Node};
 ghost use Rattle.facts.specs.Calls.{Room, OneOf, factAt, argumentAt};
-ghost use Rattle.trace.specs.Tables.{stride, mostActions, placeCount};
+ghost use Rattle.trace.specs.Tables.{stride, mostActions};
 ghost use Rattle.trace.specs.Entries.{ListedAll};
 ghost use Rattle.trace.specs.Numbers.{FormIn, formNumber, argumentNumber, Counted, ActionOf, NumberedTo};
 use crate::entries;
@@ -27,6 +27,8 @@ pub const BASE: u32 = 65536;
 pub const STRIDE: usize = protocol::figures::MOST_FACT_ARITY;
 
 pub const PLACES: usize = STRIDE * entries::MOST_ACTIONS;
+
+pub const FEW_PLACES: usize = STRIDE * entries::FEW_ACTIONS;
 
 // The mark of a form is that of its bytes alone.
 const NO_MARK: u32 = 0;
@@ -81,7 +83,7 @@ fn number_action(
     e: usize,
     classes: &mut [u32],
 )
-    requires { ⌜ Asks₂ (ActionOf (now p) (now s) (now nodes) x e) × Room (now work) 0 × (e < mostActions) × (placeCount ≤ length (now classes)) ⌝ }
+    requires { ⌜ Asks₂ (ActionOf (now p) (now s) (now nodes) x e) × Room (now work) 0 × (e < mostActions) × (stride * (e + 1) ≤ length (now classes)) ⌝ }
     ensures { λ r. ⌜ Promises₂ (ActionOf (now (p .entry)) (now (s .entry)) (now (nodes .entry)) x e) (λ (P : Protocol) (xs : List Node). NumberedTo (now (classes .entry)) (stride * e) P xs → NumberedTo (now (classes .exit)) (stride * (e + 1)) P xs) ⌝ }
 {
     let count = symbols::argument_count(p, nodes, x);
@@ -102,7 +104,7 @@ pub fn number_actions(
     total: usize,
     classes: &mut [u32],
 )
-    requires { ⌜ Asks₂ (ListedAll (now p) (now s) (now nodes) (now entries) total) × Room (now work) 0 × (mostActions ≤ length (now entries)) × (placeCount ≤ length (now classes)) ⌝ }
+    requires { ⌜ Asks₂ (ListedAll (now p) (now s) (now nodes) (now entries) total) × Room (now work) 0 × (stride * total ≤ length (now classes)) ⌝ }
     ensures { λ r. ⌜ Promises₂ (ListedAll (now (p .entry)) (now (s .entry)) (now (nodes .entry)) (now (entries .entry)) total) (λ (P : Protocol) (xs : List Node). NumberedTo (now (classes .exit)) (stride * total) P xs) ⌝ }
 {
     let mut e: usize = 0;

@@ -1,7 +1,8 @@
 -- What the verdict's code asks and promises.
-use Prim.Native.Nat.{ℕ}
+use Prim.Native.Nat.{ℕ, _*_, _≤_, _<_}
 use mathlib.Core.List.{List}
 use mathlib.Core.Path.{_≡_, sym, subst}
+use lib.ListN.{length}
 use Rattle.lists.specs.Lists.{countBy}
 use Rattle.lists.specs.Reflects.{Reflects}
 use Rattle.protocol.specs.Protocol.{Protocol, factArities}
@@ -15,6 +16,7 @@ use Rattle.property.specs.Causes.Laws.{Passing}
 use Rattle.property.specs.declared.ruling.PropertyRuling.{PropertyRuling}
 use Rattle.property.specs.declared.ruling.PropertyRuling.the-variants as pr
 use Rattle.property.specs.Truth.{Truth, actionsOfNodes}
+use Rattle.trace.specs.Tables.{actionsOf, stride, Tables}
 use Rattle.trace.specs.Active.{isActive}
 use Rattle.verdict.specs.declared.Verdict.{Verdict}
 use Rattle.verdict.specs.Truth.{truth}
@@ -26,6 +28,16 @@ pub mod Joined
 pub record Posed (p file s nodes : List ℕ) (n : ℕ) (P : Protocol) (xs : List Node) (φ : Formula) : Type 0 where
   pub right : RightNodes p s nodes n P xs
   pub passing : Passing (property file (factArities (P .symbols))) φ
+
+-- and tables of their trace, each long enough for n nodes; nodes of any file
+pub record Tabled (p file : List ℕ) (n : ℕ) (starts symbols classes : List ℕ) (P : Protocol) (xs : List Node) (φ : Formula) : Type 0 where
+  pub s : List ℕ
+  pub nodes : List ℕ
+  pub posed : Posed p file s nodes n P xs φ
+  pub tables : Tables starts symbols classes P xs
+  pub many : n < length starts
+  pub known : actionsOf n ≤ length symbols
+  pub wide : stride * actionsOf n ≤ length classes
 
 -- the truth of the property over their trace, and the number of nodes with an action
 pub record Judged (r : Verdict) (P : Protocol) (xs : List Node) (φ : Formula) : Type 0 where

@@ -40,7 +40,7 @@ module _ {K : Type 0} (key : ℕ → K) (raw : List ℕ) where
         less : (q : ℕ) → q < m + 1 → Marked raw q → q < m
         less q l k = by-order q m (λ a. a) (λ a. absurd (omega (arith, ap (λ (i : ℕ). getD raw i 0) a, k, h))) (λ a. absurd (omega arith))
 
-    head-low : (i : ℕ) → getD chains i 0 ≤ m
+    pub head-low : (i : ℕ) → getD chains i 0 ≤ m
     head-low i = go (getD chains i 0) refl
       where
         go : (h : ℕ) → getD chains i 0 ≡ h → h ≤ m

@@ -86,6 +86,9 @@ pub ready :
     → NumberedTo raw (stride * total) P xs → Ready p s nodes entries raw total P xs
 ready a t = record { all = a; numbered = t }
 
+pub classes-none : {classes : List ℕ} {total : ℕ} {P : Protocol} {xs : List Node} → total ≡ 0 → ClassesAre classes (stride * total) P xs
+classes-none z = record { same = λ q r l. absurd (omega (arith, z, l)); named = λ q n l. absurd (omega (arith, z, l)) }
+
 pub classes-made :
     {p s nodes entries raw classes chains : List ℕ} {total : ℕ} {P : Protocol} {xs : List Node} → Ready p s nodes entries raw total P xs
     → Classed (keyAt P xs) raw classes chains (stride * total) → ClassesAre classes (stride * total) P xs

@@ -16,7 +16,7 @@ use Rattle.trace.specs.Tables.{base, stride, placeCount, mostActions, ac
 use Rattle.trace.specs.Entries.Laws.{actions-few, total-few}
 use Rattle.trace.specs.Chains.{linksAt, chainOf, InChain, Classed, Marked}
 use Rattle.trace.specs.Chains.Laws.{chain-has}
-use Rattle.trace.specs.Chains.Steps.{classed-past, classed-same, classed-new}
+use Rattle.trace.specs.Chains.Steps.{head-low, classed-past, classed-same, classed-new}
 use Rattle.trace.specs.Numbers.{formNumber, argumentNumber, placeNumber, NumberedTo}
 use Rattle.trace.specs.Numbers.Places.{numbered-at}
 use Rattle.trace.specs.Classes.{actionAt, keyAt, IsPlace, Walkable, Earlier, Classing, Ready}
@@ -69,6 +69,7 @@ module _ {p s nodes entries classes chains : List ℕ} {m : ℕ} {raw : List ℕ
       place = marked-place (g .numbered) m (g .less) is-marked;
       first = places (chainOf (getD classes m 0));
       links = places;
+      low = head-low (keyAt P xs) raw (g .classed) (chainOf (getD classes m 0));
       falls = g .classed .falls;
     }
 
@@ -78,21 +79,18 @@ module _ {p s nodes entries classes chains : List ℕ} {m : ℕ} {raw : List ℕ
         marked-number (g .numbered) q (omega (arith, l, g .less)) k ∙ ap formNumber e
         ∙ sym (marked-number (g .numbered) r (omega (arith, n, g .less)) j)
 
-    module _ (room : placeCount ≤ length classes) {h : ℕ} (a : Earlier (keyAt P xs) chains (getD chains (chainOf (getD classes m 0)) 0) m h) where
-      inside : m < length classes
-      inside = omega (arith, classing-small)
-
+    module _ (room : m < length classes) {h : ℕ} (a : Earlier (keyAt P xs) chains (getD chains (chainOf (getD classes m 0)) 0) m h) where
       found-before : (r : ℕ) → h ≡ suc r → (r < m) × Marked raw r
       found-before r e =
           chain-has (λ q. (q < m) × Marked raw q) (g .classed .sound) (a .somewhere r e .0) (g .classed .sound (chainOf (getD classes m 0)))
 
-      pub found-small : (r : ℕ) → h ≡ suc r → r < placeCount
-      found-small r e = omega (arith, found-before r e .0, classing-small)
+      pub found-small : (r : ℕ) → h ≡ suc r → r < length classes
+      found-small r e = omega (arith, found-before r e .0, room)
 
       pub class-found : (r : ℕ) → h ≡ suc r → Classed (keyAt P xs) raw (set classes m (getD classes r 0)) chains (m + 1)
       class-found r e =
           let (l, o) = found-before r e in
-          classed-same (keyAt P xs) raw (g .classed) inside is-marked marks r l o (a .somewhere r e .1)
+          classed-same (keyAt P xs) raw (g .classed) room is-marked marks r l o (a .somewhere r e .1)
 
       -- the chain of its mark would have one with its form
       new : h ≡ 0 → (q : ℕ) → q < m → Marked raw q → keyAt P xs q ≡ keyAt P xs m → ⊥
@@ -102,13 +100,13 @@ module _ {p s nodes entries classes chains : List ℕ} {m : ℕ} {raw : List ℕ
           (subst (λ (j : ℕ). InChain chains (getD chains (chainOf j) 0) x) (marks q m (omega arith) (omega arith) k is-marked e ∙ sym same-raw) i) (d ∙ e)
 
       pub class-new :
-          h ≡ 0 → linksAt + placeCount ≤ length chains
+          h ≡ 0 → linksAt + m < length chains
           → Classed (keyAt P xs) raw (set classes m m)
           (set (set chains (linksAt + m) (getD chains (chainOf (getD classes m 0)) 0)) (chainOf (getD classes m 0)) (m + 1)) (m + 1)
       class-new z long =
           subst (λ (j : ℕ). Classed (keyAt P xs) raw (set classes m m) (set (set chains (linksAt + m) (getD chains (chainOf j) 0)) (chainOf j) (m + 1))
           (m + 1)) (sym same-raw)
-          (classed-new (keyAt P xs) raw (g .classed) inside is-marked marks (new z) (omega (arith, classing-small)))
+          (classed-new (keyAt P xs) raw (g .classed) room is-marked marks (new z) long)
 
 -- ── all places ──
 module _ {p s nodes entries raw : List ℕ} {total : ℕ} {P : Protocol} {xs : List Node} (r : Ready p s nodes entries raw total P xs) where

@@ -19,7 +19,7 @@ use Rattle.facts.specs.declared.writing.Wanted.the-variants as want
 use Rattle.facts.specs.declared.nodes.FactId.{FactId}
 use Rattle.facts.specs.Calls.{factAt, argumentAt, OneOf, FactsIn}
 use Rattle.facts.specs.Calls.Meaning.{fact-formed}
-use Rattle.trace.specs.Tables.{ar, stride, placeCount, mostActions}
+use Rattle.trace.specs.Tables.{ar, stride, placeCount}
 use Rattle.trace.specs.Entries.{actionId, Listed}
 use Rattle.trace.specs.Entries.Laws.{actions-few}
 use Rattle.trace.specs.Chains.{linksAt, here, later}
@@ -31,13 +31,14 @@ use Rattle.trace.specs.Classes.{keyAt, IsPlace, Walkable, Earlier, Walki
 -- ── along a chain ──
 module _ {p s nodes entries chains : List ℕ} {head q : ℕ} {P : Protocol} {xs : List Node} (w : Walkable p s nodes entries chains head q P xs) where
   pub walking-first : Walking P xs chains head q head
-  walking-first = record { places = w .first; back = λ l i. i; left = λ l i e. i }
+  walking-first = record { places = w .first; low = w .low; back = λ l i. i; left = λ l i e. i }
 
   module _ {h : ℕ} (g : Walking P xs chains head q h) where
     pub walking-next :
         (r : ℕ) → h ≡ suc r → (keyAt P xs r ≡ keyAt P xs q → ⊥) → Walking P xs chains head q (getD chains (linksAt + r) 0)
     walking-next r e n = record {
       places = w .links (linksAt + r);
+      low = omega (arith, w .falls r, e, g .low);
       back = λ l i. g .back l (later r e i);
       left = λ l i k. chain-behind (g .left l i k) r e (λ z. n (ap (keyAt P xs) (sym z) ∙ k));
     }
@@ -56,8 +57,8 @@ module _ {p s nodes entries chains : List ℕ} {head q : ℕ} {P : Protocol} {xs
 
 -- ── two places ──
 module _ {p s nodes entries : List ℕ} {P : Protocol} {xs : List Node} (t : Listed p s nodes entries P xs) where
-  pub place-small : (q : ℕ) → IsPlace P xs q → (q / stride < mostActions) × (q < placeCount)
-  place-small q i = (omega (arith, i .entry, actions-few (t .right)), omega (arith, i .entry, actions-few (t .right)))
+  pub place-small : (q : ℕ) → IsPlace P xs q → (q / stride < length entries) × (q < placeCount)
+  place-small q i = (omega (arith, i .entry, t .long), omega (arith, i .entry, actions-few (t .right)))
 
   module _ (q : ℕ) (i : IsPlace P xs q) (a : FactId) (is : a ≡ actionId (getD entries (q / stride) 0)) where
     abbrev action : ActionOf p s nodes a (q / stride) P xs

@@ -18,9 +18,9 @@ use Rattle.steps.specs.Facts.Formed.{FactFormed, facts-formed}
 use Rattle.steps.specs.Values.Parts.{noTerm}
 use Rattle.facts.specs.Calls.{factAt}
 use Rattle.facts.specs.Writing.Nodes.{arities-few}
-use Rattle.trace.specs.Tables.{mostActions, Starts, ar, stride, actions, actionsIn, entryOf, placeOf, ArgumentIs, Tables}
-use Rattle.trace.specs.Entries.{AllEntered}
-use Rattle.trace.specs.Entries.Laws.{actions-few}
+use Rattle.trace.specs.Tables.{actionsOf, Starts, ar, stride, actions, actionsIn, entryOf, placeOf, ArgumentIs, Tables}
+use Rattle.trace.specs.Entries.{AllEntered, SymbolsTo}
+use Rattle.trace.specs.Entries.Laws.{actions-of}
 use Rattle.trace.specs.Classes.{ClassesAre, actionAt, keyAt, IsPlace}
 
 -- ── the place of an argument ──
@@ -69,7 +69,7 @@ module _ {p s nodes : List ℕ} {P : Protocol} {xs : List Node} (r : RightNodes 
 
 -- ── the tables ──
 module _ {p s nodes starts symbols entries classes : List ℕ} {total : ℕ} {P : Protocol} {xs : List Node}
-    (e : AllEntered p nodes starts symbols entries total s P xs) (c : ClassesAre classes (stride * total) P xs) where
+    (e : AllEntered p nodes starts entries total s P xs) (y : SymbolsTo symbols total P xs) (c : ClassesAre classes (stride * total) P xs) where
   right : RightNodes p s nodes (length xs) P xs
   right = e .entered .right
 
@@ -83,7 +83,7 @@ module _ {p s nodes starts symbols entries classes : List ℕ} {total : ℕ} {P 
   tables-made = record {
     begun = e .begun;
     symbol = λ k i l m.
-        e .entered .symbol (entryOf P xs k i) (omega (arith, e .all, before-inside (actions P) noNode xs k i l m))
+        y .each (entryOf P xs k i) (omega (arith, e .all, before-inside (actions P) noNode xs k i l m))
         ∙ ap (λ (f : Fact). f .symbol) (joined-at (actions P) noNode noFact xs k i l m);
     same = λ {k} {i} {j} {k′} {i′} {j′} {m} {m′} a b.
         let w = c .same (placeOf P xs k i j) (placeOf P xs k′ i′ j′) (within _ (argument-inside right a)) (within _ (argument-inside right b))
@@ -103,5 +103,5 @@ module _ {p s nodes starts symbols entries classes : List ℕ} {total : ℕ} {P 
 -- ── what callers may ask: the entries of all nodes lie within the tables ──
 pub starts-few :
     {p s nodes starts : List ℕ} {n : ℕ} {P : Protocol} {xs : List Node} → RightNodes p s nodes n P xs → Starts starts P xs → (k : ℕ) → k ≤ n
-    → getD starts k 0 ≤ mostActions
-starts-few {P = P} {xs} r b k l = omega (arith, b .begins k (omega (arith, r .stand .count)), before-most (actions P) xs k, actions-few r)
+    → getD starts k 0 ≤ actionsOf n
+starts-few {P = P} {xs} r b k l = omega (arith, b .begins k (omega (arith, r .stand .count)), before-most (actions P) xs k, actions-of r)

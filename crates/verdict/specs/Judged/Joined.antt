@@ -1,6 +1,6 @@
 -- The tables that crate trace makes are a trace in numbers of crate judge: node by node, fact by fact and argument by argument the messages of
 -- the nodes' actions. So the answer over numbers is the truth.
-use Prim.Native.Nat.{ℕ, suc, _+_, _-_, _≤_, _<_}
+use Prim.Native.Nat.{ℕ, suc, _+_, _*_, _-_, _≤_, _<_}
 use mathlib.Core.List.{List, [], map}
 use mathlib.Core.Bool.{Bool}
 use mathlib.Core.Path.{_≡_, ap, sym, _∙_, subst}
@@ -23,13 +23,13 @@ use Rattle.property.specs.Meaning.Alike.{LikeTrace}
 use Rattle.property.specs.Judge.{judge}
 use Rattle.property.specs.Judge.Numbers.{numbers, Numbering, judge-numbers}
 use Rattle.property.specs.Truth.{realMessages, plainFact, plainTrace, actionsOfNodes}
-use Rattle.trace.specs.Tables.{base, ar, mostActions, placeCount, actions, actionsBefore, Tables}
+use Rattle.trace.specs.Tables.{base, ar, actionsOf, stride, actions, actionsBefore, Tables}
 use Rattle.trace.specs.Tables.Made.{starts-few}
 use Rattle.trace.specs.Tables.Trace.{NumberFact, numberFact, numberNode, numberTrace, Numbered, numbered-name, numbered-exact, trace-numbered}
 use Rattle.judge.specs.Tables.{factsAt, traceOf, Shape}
 use Rattle.judge.specs.Judging.{Property}
 use Rattle.judge.specs.Owed.{passing-property}
-use Rattle.verdict.specs.Judged.{Posed}
+use Rattle.verdict.specs.Judged.{Posed, Tabled}
 use Rattle.verdict.specs.Truth.{truth}
 use Rattle.verdict.specs.Truth.Laws.{truth-judged}
 
@@ -62,12 +62,12 @@ module _ {p s nodes starts symbols classes : List ℕ} {n : ℕ} {P : Protocol} 
   begins = t .begun .begins
 
   -- ── the shape ──
-  last-few : getD starts (length starts - 1) 0 ≤ mostActions
+  last-few : getD starts (length starts - 1) 0 ≤ actionsOf n
   last-few =
       let z : length starts - 1 ≡ n = omega arith in
       omega (arith, ap (λ (k : ℕ). getD starts k 0) z, starts-few r (t .begun) n (omega arith))
 
-  tables-shape : mostActions ≤ length symbols → placeCount ≤ length classes → Shape starts symbols classes
+  tables-shape : actionsOf n ≤ length symbols → stride * actionsOf n ≤ length classes → Shape starts symbols classes
   tables-shape a b = record {
     some = omega (arith, long);
     few = omega (arith, long, r .stand .few);
@@ -120,26 +120,34 @@ pub posed-property :
     → Property file (aritiesOf p) (factArities (P .symbols)) φ
 posed-property {file = file} {φ = φ} q = passing-property (q .right .stand .prepared .body) file φ (q .passing)
 
+pub posed-tabled :
+    {p file s nodes starts symbols classes : List ℕ} {n : ℕ} {P : Protocol} {xs : List Node} {φ : Formula} → Posed p file s nodes n P xs φ
+    → Tables starts symbols classes P xs → n < length starts → actionsOf n ≤ length symbols → stride * actionsOf n ≤ length classes
+    → Tabled p file n starts symbols classes P xs φ
+posed-tabled {s = s} {nodes} q t a b c = record { s = s; nodes = nodes; posed = q; tables = t; many = a; known = b; wide = c }
+
 -- the part of the starts that is lent
-module _ {p s nodes starts symbols classes : List ℕ} {n : ℕ} {P : Protocol} {xs : List Node} (r : RightNodes p s nodes n P xs)
-    (t : Tables starts symbols classes P xs) (long : n < length starts) where
+module _ {p file starts symbols classes : List ℕ} {n : ℕ} {P : Protocol} {xs : List Node} {φ : Formula}
+    (d : Tabled p file n starts symbols classes P xs φ) where
   abbrev lent : List ℕ
   lent = take (n + 1) starts
 
+  abbrev right : RightNodes p (d .s) (d .nodes) n P xs
+  right = d .posed .right
+
   lent-long : length lent ≡ n + 1
-  lent-long = length-take-le (n + 1) starts (omega (arith, long))
+  lent-long = length-take-le (n + 1) starts (omega (arith, d .many))
 
   lent-tables : Tables lent symbols classes P xs
   lent-tables = record {
-    begun = record { begins = λ k l. getD-take (n + 1) starts k 0 (omega (arith, r .stand .count)) ∙ t .begun .begins k l };
-    symbol = t .symbol;
-    same = t .same;
-    named = t .named;
+    begun = record { begins = λ k l. getD-take (n + 1) starts k 0 (omega (arith, right .stand .count)) ∙ d .tables .begun .begins k l };
+    symbol = d .tables .symbol;
+    same = d .tables .same;
+    named = d .tables .named;
   }
 
-  pub lent-shape : mostActions ≤ length symbols → placeCount ≤ length classes → Shape lent symbols classes
-  lent-shape = tables-shape r lent-tables lent-long
+  pub lent-shape : Shape lent symbols classes
+  lent-shape = tables-shape right lent-tables lent-long (d .known) (d .wide)
 
-  pub lent-truth :
-      (φ : Formula) {b : Bool} → b ≡ judge (numbers base) (traceOf (factArities (P .symbols)) symbols classes lent) [] φ → b ≡ truth P xs φ
-  lent-truth φ h = h ∙ truth-numbers r lent-tables lent-long φ
+  pub lent-truth : {b : Bool} → b ≡ judge (numbers base) (traceOf (factArities (P .symbols)) symbols classes lent) [] φ → b ≡ truth P xs φ
+  lent-truth h = h ∙ truth-numbers right lent-tables lent-long φ

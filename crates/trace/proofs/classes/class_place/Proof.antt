@@ -19,7 +19,7 @@ mul-mark c =
 slice-read-mark : tie.Need-slice-read-mark
 slice-read-mark c =
     let c8 = c .before .before .before .before .before .before .before .before in
-    omega (arith, classing-small (c8 .pre .0 .3), c8 .pre .3)
+    omega (arith, c8 .pre .2)
 
 returns : tie.Need-returns
 returns c =
@@ -39,7 +39,7 @@ earlier-requires c κs =
     let c3 = c .before .before .before in
     let c12 = c3 .before .before .before .before .before .before .before .before .before in
     let (raw, P, xs, g) = c12 .pre .0 in
-    ((P, xs, classing-walkable g (omega (arith, c3 .if1 .left))), c12 .pre .1, c12 .pre .2, c12 .pre .4)
+    ((P, xs, classing-walkable g (omega (arith, c3 .if1 .left))), c12 .pre .1, omega (arith, c12 .pre .3))
 
 cast-classes : tie.Need-cast-classes
 cast-classes c =
@@ -60,7 +60,7 @@ mul-classes c =
 slice-write-classes : tie.Need-slice-write-classes
 slice-write-classes c =
     let c16 = c .before .before .before .before .before .before .before .before .before .before .before .before .before .before .before .before in
-    omega (arith, classing-small (c16 .pre .0 .3), c16 .pre .3)
+    omega (arith, c16 .pre .2)
 
 add-chains : tie.Need-add-chains
 add-chains c =
@@ -81,7 +81,7 @@ mul-chains c =
 slice-write-chains : tie.Need-slice-write-chains
 slice-write-chains c =
     let c16 = c .before .before .before .before .before .before .before .before .before .before .before .before .before .before .before .before in
-    omega (arith, classing-small (c16 .pre .0 .3), c16 .pre .4)
+    omega (arith, c16 .pre .3)
 
 add-chains-2 : tie.Need-add-chains-2
 add-chains-2 c =
@@ -105,7 +105,7 @@ mul-chains-2 c = search needs
 slice-write-chains-2 : tie.Need-slice-write-chains-2
 slice-write-chains-2 c =
     let c16 = c .before .before .before .before .before .before .before .before .before .before .before .before .before .before .before .before in
-    let k : chainOf (getD (now (c16 .args .classes)) (c16 .args .q) 0) < length (now (c16 .args .chains)) = omega (arith, c16 .pre .4) in
+    let k : chainOf (getD (now (c16 .args .classes)) (c16 .args .q) 0) < length (now (c16 .args .chains)) = omega (arith, c16 .pre .3) in
     lt-length-set (now (c16 .args .chains)) _ _ k
 
 same-length : tie.Need-same-length
@@ -122,8 +122,8 @@ returns-2 c =
     let c3 = c .before .before .before in
     let c7 = c3 .before .before .before .before in
     let c16 = c7 .before .before .before .before .before .before .before .before .before in
-    λ raw P xs g. let k : getD (now (c16 .args .classes)) (c16 .args .q) 0 < base = omega (arith, c7 .if1 .left) in class-new g k (c16 .pre .3)
-    (c3 .earlier .ensures P xs (classing-walkable g k)) (c .if2 .taken) (c16 .pre .4)
+    λ raw P xs g. let k : getD (now (c16 .args .classes)) (c16 .args .q) 0 < base = omega (arith, c7 .if1 .left) in class-new g k (c16 .pre .2)
+    (c3 .earlier .ensures P xs (classing-walkable g k)) (c .if2 .taken) (c16 .pre .3)
 
 cast-classes-2 : tie.Need-cast-classes-2
 cast-classes-2 c = search needs
@@ -142,7 +142,7 @@ slice-read-classes c =
     let (raw, P, xs, g) = c17 .pre .0 in
     let e : c4 .earlier .result ≡ suc (c4 .earlier .result - 1) = omega (arith, c .before .if2 .left) in
     let k : getD (now (c17 .args .classes)) (c17 .args .q) 0 < base = omega (arith, c8 .if1 .left) in
-    omega (arith, found-small g k (c17 .pre .3) (c4 .earlier .ensures P xs (classing-walkable g k)) _ e, c17 .pre .3)
+    omega (arith, found-small g k (c17 .pre .2) (c4 .earlier .ensures P xs (classing-walkable g k)) _ e)
 
 mul-classes-3 : tie.Need-mul-classes-3
 mul-classes-3 c =
@@ -155,7 +155,7 @@ mul-classes-3 c =
 slice-write-classes-2 : tie.Need-slice-write-classes-2
 slice-write-classes-2 c =
     let c17 = c .before .before .before .before .before .before .before .before .before .before .before .before .before .before .before .before .before in
-    omega (arith, classing-small (c17 .pre .0 .3), c17 .pre .3)
+    omega (arith, c17 .pre .2)
 
 same-length-4 : tie.Need-same-length-4
 same-length-4 c = search needs
@@ -174,7 +174,7 @@ returns-3 c =
     λ raw P xs g.
     let e : c4 .earlier .result ≡ suc (c4 .earlier .result - 1) = omega (arith, c .before .if2 .left) in
     let k : getD (now (c17 .args .classes)) (c17 .args .q) 0 < base = omega (arith, c8 .if1 .left) in
-    class-found g k (c17 .pre .3) (c4 .earlier .ensures P xs (classing-walkable g k)) _ e
+    class-found g k (c17 .pre .2) (c4 .earlier .ensures P xs (classing-walkable g k)) _ e
 
 pub class-place-spec : {M : Type 1} → statement M
 class-place-spec =

@@ -37,7 +37,7 @@ loop-holds c = (
   search needs,
   search needs,
   λ P xs r. classed-none (keyAt P xs) _ _
-      (c .before .before .before .before .before .before .before .pre .5),
+      (c .before .before .before .before .before .before .before .pre .4),
 )
 
 class-place-requires : tie.Need-class-place-requires Inv-loop μ-loop
@@ -48,9 +48,8 @@ class-place-requires c κs =
     let (P, xs, r) = c12 .pre .0 in (
       (now (c12 .args .classes), P, xs, ready-classing r _ (c3 .loop-test .taken) (c4 .loop .inv .4 P xs r)),
       room-kept _ _ _ (c4 .loop .inv .1) (c12 .pre .1),
-      c12 .pre .2,
-      omega (arith, c4 .loop .inv .2, c12 .pre .3),
-      omega (arith, c4 .loop .inv .3, c12 .pre .4),
+      omega (arith, c4 .loop .inv .2, c12 .pre .2, c3 .loop-test .taken),
+      omega (arith, c4 .loop .inv .3, c12 .pre .3, c3 .loop-test .taken),
     )
 
 add-q : tie.Need-add-q Inv-loop μ-loop

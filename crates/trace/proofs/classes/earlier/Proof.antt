@@ -32,7 +32,7 @@ shared-slice-read-action-of : tie.Need-shared-slice-read-action-of Inv-loop μ-l
 shared-slice-read-action-of c =
     let c7 = c .before .before .before .before .before .before .before in
     let (P, xs, w) = c7 .pre .0 in
-    omega (arith, place-small (w .listed) _ (w .place), c7 .pre .2)
+    omega (arith, place-small (w .listed) _ (w .place))
 
 action-of-requires : tie.Need-action-of-requires Inv-loop μ-loop
 action-of-requires c κs = search needs
@@ -61,7 +61,7 @@ shared-slice-read-action-of-2 c =
     let c11 = c .before .before .before .before .before .before .before .before .before .before .before in
     let (P, xs, w) = c11 .pre .0 in
     let e : c .before .before .loop .h ≡ suc (c .before .before .loop .h - 1) = omega (arith, c .before .loop-test .taken) in
-    omega (arith, place-small (w .listed) _ (c .before .before .loop .inv .1 P xs w .places _ e), c11 .pre .2)
+    omega (arith, place-small (w .listed) _ (c .before .before .loop .inv .1 P xs w .places _ e))
 
 action-of-requires-2 : tie.Need-action-of-requires-2 Inv-loop μ-loop
 action-of-requires-2 c κs = search needs
@@ -120,7 +120,7 @@ shared-slice-read-h c =
     let c18 = c9 .before .before .before .before .before .before .before .before .before in
     let (P, xs, w) = c18 .pre .0 in
     let e : c9 .loop .h ≡ suc (c9 .loop .h - 1) = omega (arith, c8 .loop-test .taken) in
-    omega (arith, place-small (w .listed) _ (c9 .loop .inv .1 P xs w .places _ e), c18 .pre .3)
+    omega (arith, c9 .loop .inv .1 P xs w .low, e, c18 .pre .2)
 
 loop-less : tie.Need-loop-less Inv-loop μ-loop
 loop-less c =

@@ -37,7 +37,8 @@ mul-action-of c =
 shared-slice-read-action-of : tie.Need-shared-slice-read-action-of Inv-loop μ-loop
 shared-slice-read-action-of c =
     let c9 = c .before .before .before .before .before .before .before .before .before in
-    omega (arith, total-few (c9 .pre .0 .2), c .before .loop-test .taken, c9 .pre .2)
+    let (P, xs, a) = c9 .pre .0 in
+    omega (arith, a .count, a .listed .long, c .before .loop-test .taken)
 
 action-of-requires : tie.Need-action-of-requires Inv-loop μ-loop
 action-of-requires c κs = search needs
@@ -52,7 +53,7 @@ number-action-requires c κs =
       room-kept _ _ _
           (c5 .loop .inv .1) (c12 .pre .1),
       omega (arith, total-few a, c4 .loop-test .taken),
-      omega (arith, c5 .loop .inv .2, c12 .pre .3),
+      omega (arith, c5 .loop .inv .2, c12 .pre .2, c4 .loop-test .taken),
     )
 
 add-e : tie.Need-add-e Inv-loop μ-loop
