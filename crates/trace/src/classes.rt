@@ -8,7 +8,7 @@ ghost use Rattle.protocol.specs.Protocol.{Protocol};
 ghost use Rattle.steps.specs.Nodes.{Node};
 ghost use Rattle.facts.specs.Writing.{factRoom};
 ghost use Rattle.facts.specs.Calls.{Room};
-ghost use Rattle.trace.specs.Tables.{stride};
+ghost use Rattle.trace.specs.Tables.{actionsOf, stride, fewNodes};
 ghost use Rattle.trace.specs.Entries.{ListedAll};
 ghost use Rattle.trace.specs.Chains.{linksAt, Classed};
 ghost use Rattle.trace.specs.Classes.{Walkable, Earlier, keyAt, Classing, Ready, ClassesAre};
@@ -111,6 +111,40 @@ fn class_places(
     }
 }
 
+// The same over chains for the actions of few nodes.
+fn class_few(
+    work: &mut [u8],
+    p: &[u8],
+    s: &[u8],
+    nodes: &[usize],
+    entries: &[u32],
+    classes: &mut [u32],
+    total: usize,
+)
+    requires { ⌜ Asks₂ (Ready (now p) (now s) (now nodes) (now entries) (now classes) total) × Room (now work) factRoom × (stride * total ≤ length (now classes)) × (total ≤ actionsOf fewNodes) ⌝ }
+    ensures { λ r. ⌜ Promises₂ (Ready (now (p .entry)) (now (s .entry)) (now (nodes .entry)) (now (entries .entry)) (now (classes .entry)) total) (λ (P : Protocol) (xs : List Node). ClassesAre (now (classes .exit)) (stride * total) P xs) ⌝ }
+{
+    let mut chains = [0u32; FEW_CHAINS];
+    class_places(work, p, s, nodes, entries, classes, &mut chains, total);
+}
+
+// The same over chains for as many as there may be.
+fn class_many(
+    work: &mut [u8],
+    p: &[u8],
+    s: &[u8],
+    nodes: &[usize],
+    entries: &[u32],
+    classes: &mut [u32],
+    total: usize,
+)
+    requires { ⌜ Asks₂ (Ready (now p) (now s) (now nodes) (now entries) (now classes) total) × Room (now work) factRoom × (stride * total ≤ length (now classes)) ⌝ }
+    ensures { λ r. ⌜ Promises₂ (Ready (now (p .entry)) (now (s .entry)) (now (nodes .entry)) (now (entries .entry)) (now (classes .entry)) total) (λ (P : Protocol) (xs : List Node). ClassesAre (now (classes .exit)) (stride * total) P xs) ⌝ }
+{
+    let mut chains = [0u32; CHAINS];
+    class_places(work, p, s, nodes, entries, classes, &mut chains, total);
+}
+
 // The class of each argument of the actions that are listed.
 pub fn class_arguments(
     work: &mut [u8],
@@ -129,10 +163,8 @@ pub fn class_arguments(
     }
     numbers::number_actions(work, p, s, nodes, entries, total, classes);
     if total <= entries::FEW_ACTIONS {
-        let mut chains = [0u32; FEW_CHAINS];
-        class_places(work, p, s, nodes, entries, classes, &mut chains, total);
+        class_few(work, p, s, nodes, entries, classes, total);
         return;
     }
-    let mut chains = [0u32; CHAINS];
-    class_places(work, p, s, nodes, entries, classes, &mut chains, total);
+    class_many(work, p, s, nodes, entries, classes, total);
 }
