@@ -36,7 +36,7 @@ module _ (P : Protocol) (xs : List Node) where
     pub argument : q % stride < length (actionAt q .terms)
 
 -- ── the chain of a place ──
--- every place in it is an argument's
+-- every place in it is an argument's, and before q
 pub record Walkable (p s nodes entries chains : List ℕ) (head q : ℕ) (P : Protocol) (xs : List Node) : Type 0 where
   pub listed : Listed p s nodes entries P xs
   pub place : IsPlace P xs q

@@ -111,7 +111,7 @@ fn class_places(
     }
 }
 
-// The same over chains for the actions of few nodes.
+// The same with chains for few nodes.
 fn class_few(
     work: &mut [u8],
     p: &[u8],
@@ -128,7 +128,7 @@ fn class_few(
     class_places(work, p, s, nodes, entries, classes, &mut chains, total);
 }
 
-// The same over chains for as many as there may be.
+// The same with chains for as many nodes as there may be.
 fn class_many(
     work: &mut [u8],
     p: &[u8],

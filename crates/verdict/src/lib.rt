@@ -42,7 +42,7 @@ fn verdict_of(
     }
 }
 
-// With tables for few nodes.
+// The verdict with tables for few nodes.
 fn judge_few(
     p: &[u8],
     property: &[u8],
@@ -70,7 +70,7 @@ fn judge_few(
     verdict_of(p, property, n, &starts, &symbols, &classes)
 }
 
-// With tables for as many nodes as there may be.
+// The verdict with tables for as many nodes as there may be.
 fn judge_many(
     p: &[u8],
     property: &[u8],
