@@ -34,10 +34,6 @@ stride = mostFactArity
 abbrev pub placeCount : ℕ
 placeCount = stride * mostActions
 
--- up to so many nodes tables are small
-abbrev pub fewNodes : ℕ
-fewNodes = 32
-
 -- the number of public name 0: above all places and all marks
 abbrev pub base : ℕ
 base = 65536

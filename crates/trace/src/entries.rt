@@ -19,10 +19,8 @@ const NODE_ACTIONS: usize = figures::MOST_FACTS;
 
 pub const MOST_ACTIONS: usize = NODE_ACTIONS * steps::nodes::MOST_NODES;
 
-// Up to so many nodes tables are small, since each call clears its own.
-pub const FEW_NODES: usize = 32;
-
-pub const FEW_ACTIONS: usize = NODE_ACTIONS * FEW_NODES;
+// Those of few nodes.
+pub const FEW_ACTIONS: usize = NODE_ACTIONS * steps::nodes::FEW_NODES;
 
 // The action of an entry: a node and the number of one of its actions, in one number.
 pub fn action_of(code: u32) -> FactId

@@ -20,7 +20,7 @@ pub const SYMBOLS: usize = entries::MOST_ACTIONS;
 
 pub const CLASSES: usize = numbers::PLACES;
 
-pub const FEW_STARTS: usize = entries::FEW_NODES + 1;
+pub const FEW_STARTS: usize = steps::nodes::FEW_NODES + 1;
 
 pub const FEW_SYMBOLS: usize = entries::FEW_ACTIONS;
 

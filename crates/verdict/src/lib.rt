@@ -3,7 +3,7 @@ ghost use Prim.Native.Nat.{_≤_};
 ghost use Rattle.lists.specs.Asks.{Asks₃, Promises₃};
 ghost use Rattle.facts.specs.Writing.{factRoom};
 ghost use Rattle.facts.specs.Calls.{Room};
-ghost use Rattle.trace.specs.Tables.{fewNodes};
+ghost use Rattle.steps.specs.Table.{fewNodes};
 ghost use Rattle.verdict.specs.Judged.{Posed, Tabled, Judged};
 use prepared::sections;
 use trace::active;
@@ -110,7 +110,7 @@ pub fn judge_nodes(
     requires { ⌜ Asks₃ (Posed (now p) (now property) (now s) (now nodes) n) × Room (now work) factRoom ⌝ }
     ensures { λ r. ⌜ Promises₃ (Posed (now (p .entry)) (now (property .entry)) (now (s .entry)) (now (nodes .entry)) n) (Judged r) ⌝ }
 {
-    if n <= trace::entries::FEW_NODES {
+    if n <= steps::nodes::FEW_NODES {
         return judge_few(p, property, s, nodes, n, work);
     }
     judge_many(p, property, s, nodes, n, work)

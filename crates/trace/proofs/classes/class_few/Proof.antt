@@ -1,7 +1,8 @@
 -- Chains for few nodes are empty and long enough, so the classes made over them are what is promised.
 use Rattle.trace.specs.Classes.Exact.{classes-made}
 use Rattle.trace.specs.Chains.{linksAt}
-use Rattle.trace.specs.Tables.{actionsOf, stride, fewNodes}
+use Rattle.steps.specs.Table.{fewNodes}
+use Rattle.trace.specs.Tables.{actionsOf, stride}
 use Rattle.lists.specs.Lists.Laws.{zeros-at}
 use Prim.Native.Nat.{_+_, _*_}
 use native.Mathlib.Omega.{arith}
