@@ -6,6 +6,7 @@ use reference::calls as engine;
 use reference::calls::{Outcome, WORK_AREA};
 use reference::cases::{self, hexadecimal};
 use reference::corpus;
+use reference::cost;
 use reference::generate::{canonical, graphs};
 use reference::random::Random;
 use reference::refusal::File;
@@ -118,6 +119,16 @@ impl Input {
             Input::writing(Call::Canonical, [&protocol, &case.bytes], 1_024, WORK_AREA)
         });
         corpus.chain(graphs).chain(steps).chain(messages).collect()
+    }
+
+    /// Whether judging the property may take much longer than a second.
+    pub fn takes_long(&self) -> bool {
+        match (self.call, &self.files[..]) {
+            (Call::Check, [protocol, property, graph]) => {
+                cost::of_files(protocol, property, graph) > cost::A_SECOND
+            }
+            _ => false,
+        }
     }
 
     /// The outcome and the answer; whether the bytes around the lent slices are untouched.

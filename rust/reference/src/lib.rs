@@ -61,5 +61,8 @@ pub mod corpus;
 /// Random inputs: mostly good, some damaged.
 pub mod generate;
 
+/// What judging takes at most.
+pub mod cost;
+
 /// Random numbers from a fixed seed.
 pub mod random;

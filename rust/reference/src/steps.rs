@@ -71,6 +71,11 @@ pub fn names_made_once(nodes: &[Node]) -> Judged<()> {
 }
 
 impl Step {
+    /// The symbols of its actions.
+    pub fn recorded(&self) -> impl Iterator<Item = u32> + '_ {
+        self.rule.actions.iter().map(|fact| fact.symbol)
+    }
+
     fn has_right_values(&self) -> bool {
         let mut pairs = self.values.iter().zip(&self.rule.variables);
         pairs.all(|(value, sort)| is_right(value, *sort))

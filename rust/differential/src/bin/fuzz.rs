@@ -3,7 +3,8 @@
 //!     fuzz MINUTES [--cores N] [--seed N]      as long as that
 //!     fuzz --inputs N [--cores N] [--seed N]   so many inputs
 //!
-//! The corpus and the cases by hand come first. Exits with 1 where the implementations differ.
+//! The corpus and the cases by hand come first. An input whose property may take much longer than a second is skipped and counted, so that a run
+//! ends when its time is over. Exits with 1 where the implementations differ.
 
 use differential::input::Input;
 use differential::reduce::reduced;
@@ -50,6 +51,7 @@ struct State {
     plan: Plan,
     begin: Instant,
     done: AtomicUsize,
+    skipped: AtomicUsize,
     stop: AtomicBool,
     found: Mutex<Option<Input>>,
     shares: Mutex<Shares>,
@@ -63,6 +65,10 @@ impl State {
 
     /// Counts the input, or keeps it where the two differ.
     fn run(&self, input: Input, shares: &mut Shares) {
+        if input.takes_long() {
+            self.skipped.fetch_add(1, Relaxed);
+            return;
+        }
         match input.agreed() {
             Ok(outcome) => shares.add(outcome),
             Err(_) => {
@@ -111,6 +117,7 @@ fn main() {
         plan,
         begin: Instant::now(),
         done: AtomicUsize::new(0),
+        skipped: AtomicUsize::new(0),
         stop: AtomicBool::new(false),
         found: Mutex::new(None),
         shares: Mutex::new(Shares::default()),
@@ -130,15 +137,15 @@ fn main() {
     let found = state.found.lock().expect("one input").take();
     let Some(input) = found else {
         state.shares.lock().expect("shares").print("no difference");
-        let done = state.done.load(Relaxed);
+        let (done, skipped) = (state.done.load(Relaxed), state.skipped.load(Relaxed));
         println!(
-            "{done} inputs in {seconds:.0} s, {:.0} a second",
+            "{done} inputs in {seconds:.0} s, {:.0} a second; {skipped} skipped, as they may take long",
             done as f64 / seconds
         );
         return;
     };
     let input = reduced(input);
-    let difference = input.agreed().err().expect("a difference");
+    let difference = input.agreed().expect_err("a difference");
     println!(
         "archive: {}\nreference: {}",
         difference.archive, difference.reference

@@ -5,6 +5,7 @@ use super::properties::{negated, Maker};
 use super::runs::{encoded, run, Step};
 use super::{faults, protocols};
 use crate::cases::trace;
+use crate::cost;
 use crate::judge::{holds, Trace};
 use crate::property::Formula;
 use crate::random::Random;
@@ -47,11 +48,12 @@ pub fn judge_input(random: &mut Random) -> JudgeInput {
 }
 
 /// The first of some properties that the trace makes true or false otherwise than no nodes do, or the last of
-/// them; it or its negation.
+/// them; it or its negation. One that takes long is not judged.
 pub fn some_property(random: &mut Random, maker: &Maker, trace: &Trace) -> Formula {
     let mut property = maker.property(random);
     for _ in 0..3 {
-        if holds(trace, &[], &property) == holds(&[], &[], &property) {
+        let quick = cost::of_trace(trace, &property) <= cost::A_SECOND;
+        if quick && holds(trace, &[], &property) == holds(&[], &[], &property) {
             property = maker.property(random);
         }
     }
