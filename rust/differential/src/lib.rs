@@ -22,8 +22,10 @@ use reference::number::Reader;
 use reference::refusal::File;
 use reference::steps::read_steps;
 use reference::term::{Term, EXP, INV, MUL};
+use std::cell::RefCell;
 use std::collections::BTreeMap;
 use std::io::Write;
+use std::panic::resume_unwind;
 use std::path::Path;
 use std::process::{Command, Stdio};
 use std::sync::OnceLock;
@@ -47,16 +49,30 @@ fn junk() -> &'static [u8] {
     })
 }
 
+thread_local! {
+    /// The vectors of slices that are no longer lent: making large ones anew takes longer than most calls.
+    static SPARE: RefCell<Vec<Vec<u8>>> = const { RefCell::new(Vec::new()) };
+}
+
 /// A slice between guard bytes, filled with junk that depends on a seed.
 pub struct Lent {
     bytes: Vec<u8>,
 }
 
+impl Drop for Lent {
+    fn drop(&mut self) {
+        SPARE.with_borrow_mut(|spare| spare.push(std::mem::take(&mut self.bytes)));
+    }
+}
+
 impl Lent {
     pub fn new(length: usize, seed: u64) -> Lent {
-        let mut bytes = vec![GUARD_BYTE; length + 2 * GUARD];
+        let mut bytes = SPARE.with_borrow_mut(Vec::pop).unwrap_or_default();
         let start = seed as usize % 4_096;
-        bytes[GUARD..GUARD + length].copy_from_slice(&junk()[start..start + length]);
+        bytes.clear();
+        bytes.extend_from_slice(&[GUARD_BYTE; GUARD]);
+        bytes.extend_from_slice(&junk()[start..start + length]);
+        bytes.extend_from_slice(&[GUARD_BYTE; GUARD]);
         Lent { bytes }
     }
 
@@ -209,6 +225,15 @@ pub fn canonical_form_agrees(
     theirs
 }
 
+/// The halves of a test's random inputs side by side, each from a seed of its own.
+pub fn side_by_side<T: Send>(seeds: [u64; 2], half: impl Fn(u64) -> T + Sync) -> [T; 2] {
+    let half = &half;
+    std::thread::scope(|scope| {
+        let halves = seeds.map(|seed| scope.spawn(move || half(seed)));
+        halves.map(|half| half.join().unwrap_or_else(|panic| resume_unwind(panic)))
+    })
+}
+
 /// What a test program reads at most.
 pub const MOST_INPUT: usize = 65_536;
 
@@ -256,14 +281,18 @@ pub fn program_agrees(name: &str, cases: &[Case]) {
     assert_eq!(ours.lines().count(), cases.len(), "{name}");
 }
 
+/// The facts of one good input in so many are looked into.
+const LOOKED_INTO: usize = 8;
+
 /// How often each kind of outcome came, and what the nodes of the good inputs are.
 #[derive(Default)]
 pub struct Shares {
     counts: BTreeMap<String, usize>,
     all: usize,
-    /// Good inputs of more than 100 nodes.
+    /// Good inputs, and those among them of more than 100 nodes.
+    good: usize,
     long: usize,
-    /// The facts of good inputs, and those among them that hold a product, an inverse or a power.
+    /// The facts of some good inputs, and those among them that hold a product, an inverse or a power.
     facts: usize,
     products: usize,
 }
@@ -290,10 +319,18 @@ impl Shares {
 
     /// The nodes of a good input: of a graph or of a step list.
     pub fn add_nodes(&mut self, file: File, protocol: &[u8], nodes: &[u8]) {
+        let count = Reader::new(nodes).number().expect("a count");
+        self.long += usize::from(count > 100);
+        if self.good.is_multiple_of(LOOKED_INTO) {
+            self.add_facts(file, protocol, nodes);
+        }
+        self.good += 1;
+    }
+
+    fn add_facts(&mut self, file: File, protocol: &[u8], nodes: &[u8]) {
         let protocol = fit_protocol(protocol).expect("a fit protocol");
         let steps = read_steps(file, &mut Reader::new(nodes), &protocol).expect("nodes");
         let nodes = reference::steps::nodes(&steps).expect("right values");
-        self.long += usize::from(nodes.len() > 100);
         let product = |term: &Term| matches!(term, Term::Apply(EXP | INV | MUL, _));
         for fact in facts(&nodes) {
             self.facts += 1;
@@ -307,6 +344,7 @@ impl Shares {
             *self.counts.entry(kind).or_default() += count;
         }
         self.all += other.all;
+        self.good += other.good;
         self.long += other.long;
         self.facts += other.facts;
         self.products += other.products;

@@ -1,15 +1,16 @@
 //! Canonical form beside the reference, over random inputs from a fixed seed, mostly good ones, some damaged.
 
-use differential::{canonical_form_agrees, Shares};
+use differential::{canonical_form_agrees, side_by_side, Shares};
 use reference::generate::canonical;
 use reference::random::Random;
 use reference::term::{EXP, INV, MUL};
 
-const INPUTS: usize = 200_000;
+/// Inputs of one half; the halves run side by side.
+const INPUTS: usize = 100_000;
 
-#[test]
-fn canonical_form_beside_the_reference() {
-    let mut random = Random::new(11);
+/// The shares, and how many terms hold a product, an inverse or a power.
+fn half(seed: u64) -> (Shares, usize) {
+    let mut random = Random::new(seed);
     let mut shares = Shares::default();
     let mut products = 0;
     for number in 0..INPUTS {
@@ -24,6 +25,14 @@ fn canonical_form_beside_the_reference() {
             number as u64,
         ));
     }
+    (shares, products)
+}
+
+#[test]
+fn canonical_form_beside_the_reference() {
+    let [(mut shares, products), (other, also_products)] = side_by_side([11, 10], half);
+    shares.merge(other);
+    let products = products + also_products;
     shares.print("canonical form");
     println!("with products        {products:8}");
     shares.at_least(2_500, &["written"]);
@@ -38,5 +47,5 @@ fn canonical_form_beside_the_reference() {
         "refused 15",
     ];
     shares.at_least(50, &refusals);
-    assert!(2 * products >= INPUTS);
+    assert!(products >= INPUTS);
 }

@@ -1,7 +1,7 @@
 //! Checking beside the reference, over random inputs from a fixed seed, mostly good ones, some damaged.
 
 use differential::sized::{self, GUARDS};
-use differential::{check_agrees, Shares};
+use differential::{check_agrees, side_by_side, Shares};
 use reference::calls::Outcome;
 use reference::generate::graphs;
 use reference::random::Random;
@@ -10,7 +10,7 @@ use reference::refusal::{File, Refusal};
 /// Inputs of one half; the halves run side by side.
 const INPUTS: usize = 100_000;
 
-fn beside_the_reference(seed: u64) {
+fn half(seed: u64) -> Shares {
     let mut random = Random::new(seed);
     let mut shares = Shares::default();
     for number in 0..INPUTS {
@@ -27,6 +27,13 @@ fn beside_the_reference(seed: u64) {
         }
         shares.add(outcome);
     }
+    shares
+}
+
+#[test]
+fn checking_beside_the_reference() {
+    let [mut shares, other] = side_by_side([12, 13], half);
+    shares.merge(other);
     shares.print("checking");
     shares.together_at_least(2_500, &["attack", "run"]);
     shares.at_least(1_000, &["attack", "run"]);
@@ -50,14 +57,4 @@ fn work_areas_around_the_limit() {
             assert_eq!(short, work < 65_536, "{work}: {outcome}");
         }
     }
-}
-
-#[test]
-fn checking_beside_the_reference() {
-    beside_the_reference(12);
-}
-
-#[test]
-fn checking_beside_the_reference_again() {
-    beside_the_reference(13);
 }

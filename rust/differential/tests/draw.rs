@@ -1,7 +1,7 @@
 //! Drawing beside the reference, over random inputs from a fixed seed, mostly good ones, some damaged; what is drawn is checked, and what is
 //! no run has no graph.
 
-use differential::{check_agrees, draw_agrees, Shares};
+use differential::{check_agrees, draw_agrees, side_by_side, Shares};
 use reference::calls::{fit_protocol, Outcome, WORK_AREA};
 use reference::generate::graphs::{draw_input, DrawInput};
 use reference::generate::runs::conclusions_equal;
@@ -19,7 +19,7 @@ const INPUTS: usize = 100_000;
 /// One of so many inputs is drawn again with other outputs, and its graph or graphs like it are checked.
 const FOLLOWED: usize = 32;
 
-fn beside_the_reference(seed: u64) {
+fn half(seed: u64) -> (Shares, Followed) {
     let mut random = Random::new(seed);
     let mut shares = Shares::default();
     let mut followed = Followed::default();
@@ -40,6 +40,14 @@ fn beside_the_reference(seed: u64) {
         }
         shares.add(outcome);
     }
+    (shares, followed)
+}
+
+#[test]
+fn drawing_beside_the_reference() {
+    let [(mut shares, mut followed), (other, also_followed)] = side_by_side([14, 15], half);
+    shares.merge(other);
+    followed.merge(also_followed);
     shares.print("drawing");
     followed.print();
     shares.at_least(2_500, &["written"]);
@@ -51,16 +59,6 @@ fn beside_the_reference(seed: u64) {
     shares.at_least(50, &["refused 1", "refused 4", "refused 6"]);
     shares.long_with_products();
     followed.often_enough();
-}
-
-#[test]
-fn drawing_beside_the_reference() {
-    beside_the_reference(14);
-}
-
-#[test]
-fn drawing_beside_the_reference_again() {
-    beside_the_reference(15);
 }
 
 /// How often a graph that was drawn is an attack or a run, and a list is none.
@@ -127,6 +125,12 @@ impl Followed {
         self.none += 1;
     }
 
+    fn merge(&mut self, other: Followed) {
+        self.attacks += other.attacks;
+        self.runs += other.runs;
+        self.none += other.none;
+    }
+
     fn print(&self) {
         println!(
             "drawn and checked: {} attacks, {} runs; no run and no graph: {}\n",
@@ -135,7 +139,7 @@ impl Followed {
     }
 
     fn often_enough(&self) {
-        let all = INPUTS / FOLLOWED;
+        let all = 2 * INPUTS / FOLLOWED;
         assert!(10 * self.attacks >= all && 10 * self.runs >= all && 50 * self.none >= all);
     }
 }

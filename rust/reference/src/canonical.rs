@@ -63,12 +63,12 @@ fn power(base: &Term, exponent: &Term) -> Term {
 /// of each factor, in the order of the factors' encoded bytes. A multiplicity of zero may stand here;
 /// it drops out when the term is made.
 #[derive(Default)]
-struct Product {
-    factors: BTreeMap<Vec<u8>, (Term, i64)>,
+struct Product<'a> {
+    factors: BTreeMap<Vec<u8>, (&'a Term, i64)>,
 }
 
-impl Product {
-    fn of<'a>(terms: impl IntoIterator<Item = (&'a Term, i64)>) -> Product {
+impl<'a> Product<'a> {
+    fn of(terms: impl IntoIterator<Item = (&'a Term, i64)>) -> Product<'a> {
         let mut product = Product::default();
         for (term, multiplicity) in terms {
             product.add(term, multiplicity);
@@ -77,7 +77,7 @@ impl Product {
     }
 
     /// Adds a canonical term so many times. "A factor is no mul, inv or one."
-    fn add(&mut self, term: &Term, multiplicity: i64) {
+    fn add(&mut self, term: &'a Term, multiplicity: i64) {
         match term {
             Term::Apply(ONE, _) => {}
             Term::Apply(INV, parts) => self.add(&parts[0], -multiplicity),
@@ -87,7 +87,7 @@ impl Product {
             }
             factor => {
                 let entry = self.factors.entry(factor.encoded());
-                entry.or_insert_with(|| (factor.clone(), 0)).1 += multiplicity;
+                entry.or_insert((factor, 0)).1 += multiplicity;
             }
         }
     }
@@ -108,9 +108,9 @@ impl Product {
     fn chain(&self, sign: i64) -> Option<Term> {
         let repeated = self.factors.values().flat_map(|(factor, multiplicity)| {
             let times = (sign * multiplicity).max(0) as usize;
-            std::iter::repeat_n(factor.clone(), times)
+            std::iter::repeat_n(*factor, times)
         });
-        let factors: Vec<Term> = repeated.collect();
+        let factors: Vec<Term> = repeated.cloned().collect();
         let from_the_last = factors.into_iter().rev();
         from_the_last.reduce(|rest, first| Term::apply(MUL, [first, rest]))
     }

@@ -3,24 +3,24 @@
 use crate::protocol::{Fact, Protocol};
 use crate::steps::Node;
 use crate::term::Fresh;
-use std::collections::{HashMap, HashSet};
+use std::collections::{BTreeMap, BTreeSet};
 
 /// "Its state is a bag of linear facts, a set of persistent ones and the names made so far, all empty
 /// before node 1."
 pub struct Machine<'a> {
     protocol: &'a Protocol,
-    linear: HashMap<Fact, usize>,
-    persistent: HashSet<Fact>,
-    made: HashSet<Fresh>,
+    linear: BTreeMap<Fact, usize>,
+    persistent: BTreeSet<Fact>,
+    made: BTreeSet<Fresh>,
 }
 
 impl<'a> Machine<'a> {
     pub fn new(protocol: &'a Protocol) -> Self {
         Machine {
             protocol,
-            linear: HashMap::new(),
-            persistent: HashSet::new(),
-            made: HashSet::new(),
+            linear: BTreeMap::new(),
+            persistent: BTreeSet::new(),
+            made: BTreeSet::new(),
         }
     }
 
@@ -59,7 +59,7 @@ impl<'a> Machine<'a> {
 
     /// "A node fails if a persistent premise is not in the set, if a linear fact stands more often among
     /// its premises than in the bag, or if it is of rule 0 and its name is made already."
-    fn fails(&self, node: &Node, removed: &HashMap<Fact, usize>) -> bool {
+    fn fails(&self, node: &Node, removed: &BTreeMap<Fact, usize>) -> bool {
         let missing =
             |fact: &Fact| self.protocol.persistent(fact) && !self.persistent.contains(fact);
         node.premises.iter().any(missing)
@@ -70,8 +70,8 @@ impl<'a> Machine<'a> {
     }
 
     /// How often each linear fact stands in the list.
-    fn linear_counts(&self, facts: &[Fact]) -> HashMap<Fact, usize> {
-        let mut counts = HashMap::new();
+    fn linear_counts(&self, facts: &[Fact]) -> BTreeMap<Fact, usize> {
+        let mut counts = BTreeMap::new();
         for fact in facts.iter().filter(|fact| !self.protocol.persistent(fact)) {
             *counts.entry(fact.clone()).or_default() += 1;
         }

@@ -42,7 +42,7 @@ impl Sort {
 }
 
 /// A fact of a rule, with variables, or of a node, without.
-#[derive(Clone, Debug, PartialEq, Eq, Hash)]
+#[derive(Clone, Debug, PartialEq, Eq, PartialOrd, Ord)]
 pub struct Fact {
     pub symbol: u32,
     pub terms: Vec<Term>,

@@ -134,8 +134,11 @@ impl<'a> Run<'a> {
 
     /// A fact with this symbol that is in the state.
     fn available(&self, random: &mut Random, symbol: u32) -> Option<Fact> {
-        let in_state = |fact: &&Fact| fact.symbol == symbol && self.machine.has(fact);
-        let facts: Vec<&Fact> = self.made.iter().filter(in_state).collect();
+        let with_symbol = self.made.iter().filter(|fact| fact.symbol == symbol);
+        // What is persistent and was made is there still.
+        let in_state =
+            |fact: &&Fact| self.protocol.persistent(fact) || self.machine.in_bag(fact) > 0;
+        let facts: Vec<&Fact> = with_symbol.filter(in_state).collect();
         (!facts.is_empty()).then(|| (*random.choose(&facts)).clone())
     }
 
