@@ -2,6 +2,7 @@
 //!
 //!     fuzz MINUTES [--cores N] [--seed N]      as long as that
 //!     fuzz --inputs N [--cores N] [--seed N]   so many inputs
+//!     fuzz --as-found ..                       the input as it was found, and not the smallest one
 //!
 //! The corpus and the cases by hand come first. An input whose property may take much longer than a second is skipped and counted, so that a run
 //! ends when its time is over. Exits with 1 where the implementations differ.
@@ -21,6 +22,7 @@ struct Plan {
     inputs: usize,
     cores: usize,
     seed: u64,
+    as_found: bool,
 }
 
 fn plan() -> Option<Plan> {
@@ -29,6 +31,7 @@ fn plan() -> Option<Plan> {
         inputs: usize::MAX,
         cores: 2,
         seed: 1,
+        as_found: false,
     };
     let words: Vec<String> = std::env::args().skip(1).collect();
     let mut words = words.iter();
@@ -39,9 +42,10 @@ fn plan() -> Option<Plan> {
             "--inputs" => plan.inputs = figure()? as usize,
             "--cores" => plan.cores = figure()? as usize,
             "--seed" => plan.seed = figure()?,
+            "--as-found" => plan.as_found = true,
             minutes => plan.time = Duration::from_secs_f64(60.0 * minutes.parse::<f64>().ok()?),
         }
-        bounded = bounded || !matches!(word.as_str(), "--cores" | "--seed");
+        bounded = bounded || !matches!(word.as_str(), "--cores" | "--seed" | "--as-found");
     }
     bounded.then_some(plan)
 }
@@ -144,7 +148,11 @@ fn main() {
         );
         return;
     };
-    let input = reduced(input);
+    let input = if state.plan.as_found {
+        input
+    } else {
+        reduced(input)
+    };
     let difference = input.agreed().expect_err("a difference");
     println!(
         "archive: {}\nreference: {}",
