@@ -17,6 +17,8 @@ pub mod Laws
 pub mod Many
 -- numbers: what is written reads back, and what reads is written so
 pub mod Numbers
+-- numbers, group by group
+pub mod Stepwise
 
 pub data Read (A : Type 0) : Type 0 where
   got : A → ℕ → Read A
@@ -27,10 +29,14 @@ module _ {A B : Type 0} where
   andThen (got x e) f = f x e
   andThen fault f = fault
 
--- a group that another follows: its seven bits, and then the rest, which is not zero in the shortest form
+-- groups of value `low`, and then the rest, which counts `weight` times and is not zero in the shortest form
+abbrev pub joined : ℕ → ℕ → Read ℕ → Read ℕ
+joined low weight (got v e) = pick (eqb v 0) fault (got (low + weight * v) e)
+joined low weight fault = fault
+
+-- a group that another follows: its seven bits, and then the rest
 abbrev pub longer : ℕ → Read ℕ → Read ℕ
-longer b (got v e) = pick (eqb v 0) fault (got (b - base + base * v) e)
-longer b fault = fault
+longer b r = joined (b - base) base r
 
 -- a number of at most k groups
 unfoldable pub readIn : ℕ → List ℕ → ℕ → Read ℕ

@@ -4,7 +4,7 @@ ghost use Prim.Native.Nat.{_+_, _-_, _^_, _≤_, _<_};
 ghost use lib.ListN.{length};
 ghost use Rattle.octets.specs.Splice.{splice};
 ghost use Rattle.number.specs.Groups.{groups, base, roomGroups};
-ghost use Rattle.number.specs.Reading.{readIn, readNumber, below, asRead, longer, got};
+ghost use Rattle.number.specs.Reading.{readNumber, below, asRead, joined, got};
 
 // "groups of seven bits": a group that another follows is from BASE on.
 const BITS: usize = 7;
@@ -30,40 +30,20 @@ pub enum Seen {
     Fault,
 }
 
-// A group that another follows, and the rest of the number behind it.
-fn longer(b: u8, v: u32, e: usize) -> Number
-    requires { ⌜ (base ≤ b) × (v < base ^ (roomGroups - 1)) ⌝ }
-    ensures { λ r. ⌜ asRead r ≡ longer b (got v e) ⌝ }
+// Groups of value `low`, and the rest of the number behind them, which counts `weight` times.
+fn joined(low: u32, weight: u32, v: u32, e: usize) -> Number
+    requires { ⌜ (low < weight) × (weight ≤ base ^ (roomGroups - 1)) × (v < base) ⌝ }
+    ensures { λ r. ⌜ asRead r ≡ joined low weight (got v e) ⌝ }
 {
     if v == 0 {
         return Number::Fault;
     }
-    Number::Value((b - TOP_BIT) as u32 + BASE * v, e)
-}
-
-// A number of at most `left` groups.
-fn read_groups(file: &[u8], at: usize, left: usize) -> Number
-    requires { ⌜ left ≤ roomGroups ⌝ }
-    ensures { λ r. ⌜ asRead r ≡ readIn left (now (file .entry)) at ⌝ }
-{
-    if left == 0 {
-        return Number::Fault;
-    }
-    if file.len() <= at {
-        return Number::Fault;
-    }
-    let b = file[at];
-    if b < TOP_BIT {
-        return Number::Value(b as u32, at + 1);
-    }
-    match read_groups(file, at + 1, left - 1) {
-        Number::Value(v, e) => longer(b, v, e),
-        Number::Fault => Number::Fault,
-    }
+    Number::Value(low + weight * v, e)
 }
 
 // The number at a place. A fault: the end of the slice, a group past the last, a form that is not the shortest.
-// Most numbers are one or two groups: these are read without the recursion.
+// Nearly all numbers are one group: it is read in front of the loop. The slice is handed on to no call, so that the
+// compiler can make this a part of its callers.
 pub fn read_number(file: &[u8], at: usize) -> Number
     ensures { λ r. ⌜ asRead r ≡ readNumber (now (file .entry)) at ⌝ }
 {
@@ -74,15 +54,24 @@ pub fn read_number(file: &[u8], at: usize) -> Number
     if b < TOP_BIT {
         return Number::Value(b as u32, at + 1);
     }
-    let next = at + 1;
-    if file.len() <= next {
-        return Number::Fault;
+    let mut i = at + 1;
+    let mut low = (b - TOP_BIT) as u32;
+    let mut weight = BASE;
+    let mut left = MOST_GROUPS - 1;
+    while 0 < left {
+        if file.len() <= i {
+            return Number::Fault;
+        }
+        let c = file[i];
+        i += 1;
+        if c < TOP_BIT {
+            return joined(low, weight, c as u32, i);
+        }
+        low += (c - TOP_BIT) as u32 * weight;
+        weight *= BASE;
+        left -= 1;
     }
-    let c = file[next];
-    if c < TOP_BIT {
-        return longer(b, c as u32, next + 1);
-    }
-    read_groups(file, at, MOST_GROUPS)
+    Number::Fault
 }
 
 // A number below n.

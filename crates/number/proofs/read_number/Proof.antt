@@ -1,87 +1,159 @@
--- A number of one or two groups is read as `readIn` says of these; a longer one is the recursion's.
+-- Each turn puts one group to the value so far; the number is always what the groups so far make of the rest (`Sofar`).
+use borrow.Author.Needs.{needs}
+use Rattle.number.specs.Reading.Stepwise.{Sofar, sofar-first, sofar-none, sofar-end, sofar-room, sofar-small, sofar-last, sofar-more}
+use Rattle.number.specs.Reading.Numbers.{number-in, now-end, now-one}
+use Rattle.number.specs.Groups.{mostGroups}
 use denote.Ref.{now}
 use native.Mathlib.Omega.{arith}
 use mathlib.Core.Path.{sym, _∙_}
-use Rattle.number.specs.Reading.Numbers.{number-in, now-end, now-one, two-end, two-groups}
-use Rattle.number.specs.Groups.{mostGroups}
-use borrow.Author.Needs.{needs}
 use Rattle.number.proofs.read_number.Statement.{statement}
 use Rattle.number.proofs.read_number.Tie as tie
 
-returns : tie.Need-returns
+abbrev Inv-loop : tie.InvT-loop
+Inv-loop file at b i₀ low₀ weight₀ left₀ i low weight left =
+    Sofar file at i low weight left
+
+abbrev μ-loop : tie.MeasureT-loop
+μ-loop file at b i₀ low₀ weight₀ left₀ i low weight left =
+    left
+
+returns : tie.Need-returns Inv-loop μ-loop
 returns c =
     sym (now-end (now (c .before .before .args .file)) (c .before .before .args .at) mostGroups (c .if1 .taken)) ∙ number-in
-    (now (c .before .before .args .file))
-    (c .before .before .args .at)
+    (now (c .before .before .args .file)) (c .before .before .args .at)
 
-shared-slice-read-b : tie.Need-shared-slice-read-b
+shared-slice-read-b : tie.Need-shared-slice-read-b Inv-loop μ-loop
 shared-slice-read-b c = search needs
 
-cast-t10 : tie.Need-cast-t10
-cast-t10 c = search needs
+cast-t13 : tie.Need-cast-t13 Inv-loop μ-loop
+cast-t13 c = search needs
 
-add-t11 : tie.Need-add-t11
-add-t11 c = search needs
+add-t14 : tie.Need-add-t14 Inv-loop μ-loop
+add-t14 c = search needs
 
-returns-2 : tie.Need-returns-2
+returns-2 : tie.Need-returns-2 Inv-loop μ-loop
 returns-2 c =
     let c4 = c .before .before .before .before in
     sym (now-one (now (c4 .args .file)) (c4 .args .at) mostGroups (λ z. omega arith) (omega (arith, c .before .before .if1 .left)) (c .if2 .taken)) ∙ number-in
     (now (c4 .args .file)) (c4 .args .at)
 
-add-next : tie.Need-add-next
-add-next c = search needs
+add-i : tie.Need-add-i Inv-loop μ-loop
+add-i c = search needs
 
-returns-3 : tie.Need-returns-3
+cast-low : tie.Need-cast-low Inv-loop μ-loop
+cast-low c =
+    omega (arith, c .before .shared-slice-known2 .given (c .before .before .before .before .args .at))
+
+sub-left : tie.Need-sub-left Inv-loop μ-loop
+sub-left c = search needs
+
+loop-holds : tie.Need-loop-holds Inv-loop μ-loop
+loop-holds c =
+    let c4 = c .before .before .before .before in
+    sofar-first (now (c4 .args .file)) (c4 .args .at) (omega (arith, c .before .before .if1 .left)) (c .if2 .left)
+    (omega (arith, c .before .shared-slice-known2 .given (c4 .args .at)))
+
+returns-3 : tie.Need-returns-3 Inv-loop μ-loop
 returns-3 c =
-    let c3 = c .before .before .before in
-    let c5 = c3 .before .before in
-    sym (two-end (now (c5 .args .file)) (c5 .args .at) (omega (arith, c3 .if1 .left)) (c .before .if2 .left) (c .if3 .taken))
+    sym (sofar-end (c .before .before .loop .inv) (c .if3 .taken))
 
-shared-slice-read-c : tie.Need-shared-slice-read-c
+shared-slice-read-c : tie.Need-shared-slice-read-c Inv-loop μ-loop
 shared-slice-read-c c = search needs
 
-cast-longer : tie.Need-cast-longer
-cast-longer c = search needs
+add-i-2 : tie.Need-add-i-2 Inv-loop μ-loop
+add-i-2 c = search needs
 
-add-longer : tie.Need-add-longer
-add-longer c = search needs
+cast-joined : tie.Need-cast-joined Inv-loop μ-loop
+cast-joined c = search needs
 
-longer-requires : tie.Need-longer-requires
-longer-requires c κs = search needs
+joined-requires : tie.Need-joined-requires Inv-loop μ-loop
+joined-requires c κs =
+    let c3 = c .before .before .before in
+    let c4 = c3 .before in
+    (c4 .loop .inv .small, sofar-room (c4 .loop .inv) (c3 .loop-test .taken), c .if4 .taken)
 
-returns-4 : tie.Need-returns-4
+returns-4 : tie.Need-returns-4 Inv-loop μ-loop
 returns-4 c =
     let c3 = c .before .before .before in
     let c4 = c3 .before in
-    let c6 = c4 .before .before in
-    let c8 = c6 .before .before in
-    c .longer .ensures ∙ sym (two-groups (now (c8 .args .file)) (c8 .args .at) (omega (arith, c6 .if1 .left)) (c4 .if2 .left) (omega (arith, c3 .if3 .left))
-    (c .before .if4 .taken))
+    let c5 = c4 .before in
+    c .joined .ensures ∙ sym (sofar-last (c5 .loop .inv) (c4 .loop-test .taken) (omega (arith, c3 .if3 .left)) (c .before .if4 .taken))
 
-read-groups-requires : tie.Need-read-groups-requires
-read-groups-requires c κs = search needs
+cast-low-2 : tie.Need-cast-low-2 Inv-loop μ-loop
+cast-low-2 c =
+    omega (arith, c .before .shared-slice-known3 .given (c .before .before .before .before .loop .i))
 
-returns-5 : tie.Need-returns-5
+mul-low : tie.Need-mul-low Inv-loop μ-loop
+mul-low c =
+    let c3 = c .before .before .before in
+    let c4 = c3 .before in
+    omega (
+      arith,
+      sofar-room (c4 .loop .inv) (c3 .loop-test .taken),
+      sofar-small (c4 .loop .inv)
+          (omega (arith, c .before .shared-slice-known3 .given (c4 .loop .i))),
+    )
+
+add-low : tie.Need-add-low Inv-loop μ-loop
+add-low c =
+    let c3 = c .before .before .before in
+    let c4 = c3 .before in
+    omega (
+      arith,
+      sofar-room (c4 .loop .inv) (c3 .loop-test .taken),
+      sofar-small (c4 .loop .inv)
+          (omega (arith, c .before .shared-slice-known3 .given (c4 .loop .i))),
+    )
+
+mul-weight : tie.Need-mul-weight Inv-loop μ-loop
+mul-weight c =
+    let c3 = c .before .before .before in
+    let c4 = c3 .before in
+    omega (arith, sofar-room (c4 .loop .inv) (c3 .loop-test .taken))
+
+sub-left-2 : tie.Need-sub-left-2 Inv-loop μ-loop
+sub-left-2 c = search needs
+
+loop-less : tie.Need-loop-less Inv-loop μ-loop
+loop-less c = search needs
+
+loop-again : tie.Need-loop-again Inv-loop μ-loop
+loop-again c =
+    let c3 = c .before .before .before in
+    let c4 = c3 .before in
+    sofar-more (c4 .loop .inv) (c3 .loop-test .taken) (omega (arith, c .before .before .if3 .left)) (c .if4 .left)
+    (omega (arith, c .before .shared-slice-known3 .given (c4 .loop .i)))
+
+returns-5 : tie.Need-returns-5 Inv-loop μ-loop
 returns-5 c =
-    let c8 = c .before .before .before .before .before .before .before .before in
-    c .read-groups .ensures ∙ number-in (now (c8 .args .file)) (c8 .args .at)
+    sym (sofar-none (c .before .loop .inv) (omega (arith, c .loop-test .left)))
 
 pub read-number-spec : {M : Type 1} → statement M
 read-number-spec =
     tie.close
     (tie.spec
+    Inv-loop
+    μ-loop
     returns
     shared-slice-read-b
-    cast-t10
-    add-t11
+    cast-t13
+    add-t14
     returns-2
-    add-next
+    add-i
+    cast-low
+    sub-left
+    loop-holds
     returns-3
     shared-slice-read-c
-    cast-longer
-    add-longer
-    longer-requires
+    add-i-2
+    cast-joined
+    joined-requires
     returns-4
-    read-groups-requires
+    cast-low-2
+    mul-low
+    add-low
+    mul-weight
+    sub-left-2
+    loop-less
+    loop-again
     returns-5)

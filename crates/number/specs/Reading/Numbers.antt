@@ -3,16 +3,16 @@ use Prim.Native.Nat.{ℕ, zero, suc, _+_, _-_, _*_, _/_, _%_, _^_, _≤_, _<_}
 use mathlib.Core.List.{List, _∷_, _++_}
 use mathlib.Core.Path.{_≡_, refl, ap, ap₂, sym, _∙_, subst, subst₂}
 use native.Mathlib.Omega.{arith}
-use native.Mathlib.Nat.{pow-succ', pow-zero, one-le-pow, pow-le-pow-right}
+use native.Mathlib.Nat.{pow-succ', pow-zero, one-le-pow}
 use lib.ListN.{length, getD, drop}
 use borrow.Author.Tests.{lt-ltb, le-ltb, eq-eqb, ne-eqb}
 use Rattle.lists.specs.Choice.{cut-lt, cut-eq, by-size, clash}
 use Rattle.octets.specs.Head.{head-at, head-of, Bytes, Stands, stands-within}
 use Rattle.octets.specs.Splice.{splice}
 use Rattle.octets.specs.Splice.Laws.{part-splice}
-use Rattle.number.specs.Groups.{groups, mostGroups, numberLimit, base, roomGroups}
+use Rattle.number.specs.Groups.{groups, mostGroups, numberLimit}
 use Rattle.number.specs.Groups.Laws.{groups-one, groups-more, groups-some}
-use Rattle.number.specs.Reading.{Read, got, fault, longer, readIn, readNumber, below}
+use Rattle.number.specs.Reading.{Read, got, fault, joined, longer, readIn, readNumber, below}
 use Rattle.number.specs.Reading.Laws.{cut-got, then-got, then-fault}
 
 -- ── readIn case by case: shared by the code's proof and the laws ──
@@ -30,11 +30,17 @@ module _ (k : ℕ) (file : List ℕ) (at : ℕ) where
     unfolding readIn
     in-more h = simp (lt-ltb at (length file) inside, le-ltb (getD file at 0) 128 h)
 
+pub joined-zero : (low weight v e : ℕ) → v ≡ 0 → joined low weight (got v e) ≡ fault
+joined-zero low weight v e h = simp (eq-eqb v 0 h)
+
+pub joined-some : (low weight v e : ℕ) → (v ≡ 0 → ⊥) → joined low weight (got v e) ≡ got (low + weight * v) e
+joined-some low weight v e h = simp (ne-eqb v 0 h)
+
 pub longer-zero : (b v e : ℕ) → v ≡ 0 → longer b (got v e) ≡ fault
-longer-zero b v e h = simp (eq-eqb v 0 h)
+longer-zero b v e h = joined-zero (b - 128) 128 v e h
 
 pub longer-some : (b v e : ℕ) → (v ≡ 0 → ⊥) → longer b (got v e) ≡ got (b - 128 + 128 * v) e
-longer-some b v e h = simp (ne-eqb v 0 h)
+longer-some b v e h = joined-some (b - 128) 128 v e h
 
 -- the same, as the code has it
 pub now-none : (k : ℕ) (file : List ℕ) (at : ℕ) → k ≡ 0 → readIn k file at ≡ fault
@@ -65,11 +71,8 @@ number-in file at = refl
 
 -- ── a group that another follows ──
 module _ (file : List ℕ) (at : ℕ) (inside : at < length file) (more : 128 ≤ getD file at 0) where
-  number-more : readNumber file at ≡ longer (getD file at 0) (readIn (mostGroups - 1) file (at + 1))
+  pub number-more : readNumber file at ≡ longer (getD file at 0) (readIn (mostGroups - 1) file (at + 1))
   number-more = sym (number-in file at) ∙ now-more file at mostGroups (λ z. omega arith) inside more
-
-  pub two-end : length file ≤ at + 1 → readNumber file at ≡ fault
-  two-end h = number-more ∙ ap (longer (getD file at 0)) (now-end file (at + 1) (mostGroups - 1) h)
 
   pub two-groups :
       at + 1 < length file → getD file (at + 1) 0 < 128
@@ -171,10 +174,6 @@ module _ (file : List ℕ) (bytes : Bytes file) where
       (λ l h. cut-longer (getD file at 0) (readIn k file (at + 1)) h
       (λ w r z q. subst (λ (x : ℕ). Written (suc k) file at x e) q (more-form k at w e inside l z (in-form k (at + 1) w e r)))))
       (λ out h. clash (cc))
-
-  -- a value of fewer groups than the code has room for
-  pub in-small : (k at v e : ℕ) → k ≤ roomGroups - 1 → readIn k file at ≡ got v e → v < base ^ (roomGroups - 1)
-  in-small k at v e l h = omega (arith, in-form k at v e h .small, pow-le-pow-right {n = base} (omega arith) {i = k} {j = roomGroups - 1} l)
 
   pub read-form : (at v e : ℕ) → readNumber file at ≡ got v e → (v < numberLimit) × Stands file at (groups v) e
   unfolding readNumber numberLimit
