@@ -42,8 +42,7 @@ fn joined(low: u32, weight: u32, v: u32, e: usize) -> Number
 }
 
 // The number at a place. A fault: the end of the slice, a group past the last, a form that is not the shortest.
-// Nearly all numbers are one group: it is read in front of the loop. The slice is handed on to no call, so that the
-// compiler can make this a part of its callers.
+// Nearly all numbers are one group: it is read in front of the loop. The slice is handed on to no call, for which it would be laid on the stack.
 pub fn read_number(file: &[u8], at: usize) -> Number
     ensures { λ r. ⌜ asRead r ≡ readNumber (now (file .entry)) at ⌝ }
 {
