@@ -1,5 +1,4 @@
 // A graph file, front to back for 3 and 6: the nodes and the edges go into their tables.
-ghost use mathlib.Core.Path.{_≡_};
 ghost use Prim.Native.Nat.{_≤_};
 ghost use lib.ListN.{length};
 ghost use Rattle.lists.specs.Asks.{Asks, Promises};

@@ -9,12 +9,6 @@ use denote.Ref.{now}
 use borrow.Author.Needs.{needs}
 use Rattle.cases_graphs.proofs.show_ruling.Statement.{statement}
 use Rattle.cases_graphs.proofs.show_ruling.Tie as tie
-use Rattle.cases_graphs.proofs.show_ruling.Reads as reads
-use Rattle.cases_graphs.proofs.show_ruling.Lts as lts
-use Rattle.case_file.proofs.show.Reads as show-reads
-use Rattle.case_file.proofs.show_more.Reads as show-more-reads
-use Rattle.case_file.proofs.show_refusal.Reads as show-refusal-reads
-use Rattle.graph.proofs.ruling.rule_graph.Reads as rule-graph-reads
 
 slice-aggregate-rule-graph : tie.Need-slice-aggregate-rule-graph
 slice-aggregate-rule-graph c = search needs
@@ -27,7 +21,15 @@ slice-aggregate-rule-graph-3 c = search needs
 
 rule-graph-requires : tie.Need-rule-graph-requires
 rule-graph-requires c κs =
-    (c .before .before .before .before .before .pre .0, omega (arith, c .before .before .before .before .before .pre .1), all-rows (now (c .before .before .before .before .before .args .file)) (λ i. c .before .before .before .before .shared-slice-known .given i .fits) 0 (replicate tableLength 0) (omega arith), all-fields (now (c .before .before .before .before .before .args .file)) (replicate edgeTable 0) (omega arith), omega arith)
+    let c4 = c .before .before .before .before in
+    let c5 = c4 .before in (
+      c5 .pre .0,
+      omega (arith, c5 .pre .1),
+      all-rows (now (c5 .args .file)) (λ i. c4 .shared-slice-known .given i .fits) 0 (replicate tableLength 0)
+          (omega arith),
+      all-fields (now (c5 .args .file)) (replicate edgeTable 0) (omega arith),
+      omega arith,
+    )
 
 enum-known-n : tie.Need-enum-known-n
 enum-known-n c = search needs

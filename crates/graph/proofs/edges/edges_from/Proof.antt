@@ -5,20 +5,19 @@ use Rattle.graph.specs.Table.Reading.{edges-end, edges-fault, edges-shor
 use borrow.Author.Needs.{needs}
 use Rattle.graph.proofs.edges.edges_from.Statement.{statement}
 use Rattle.graph.proofs.edges.edges_from.Tie as tie
-use Rattle.graph.proofs.edges.edges_from.Reads as reads
-use Rattle.graph.proofs.edges.edges_from.Lts as lts
-use Rattle.graph.proofs.edges.read_numbers.Reads as read-numbers-reads
 
 mul-k : tie.Need-mul-k
 mul-k c = search needs
 
 returns : tie.Need-returns
 returns c =
-    edges-short (now (c .before .before .before .args .s)) (λ k. c .before .before .shared-slice-known .given k .fits) (c .before .before .before .args .at) (c .before .before .before .args .m) (c .if1 .taken)
+    let c3 = c .before .before .before in
+    edges-short (now (c3 .args .s)) (λ k. c .before .before .shared-slice-known .given k .fits) (c3 .args .at) (c3 .args .m) (c .if1 .taken)
 
 read-numbers-requires : tie.Need-read-numbers-requires
 read-numbers-requires c κs =
-    omega (arith, c .before .before .before .before .pre .1 (c .before .before .before .before .args .m) (c .before .before .before .before .pre .0) (omega (arith, c .before .if1 .left)))
+    let c4 = c .before .before .before .before in
+    omega (arith, c4 .pre .1 (c4 .args .m) (c4 .pre .0) (omega (arith, c .before .if1 .left)))
 
 enum-known-e : tie.Need-enum-known-e
 enum-known-e c = search needs
@@ -31,14 +30,26 @@ same-length c = search needs
 
 returns-2 : tie.Need-returns-2
 returns-2 c =
-    edges-end (now (c .before .before .before .before .before .before .before .before .before .before .args .s)) (c .before .before .before .before .before .before .before .before .before .before .args .at) (c .before .before .before .before .before .before .before .before .before .before .args .m) (c .before .before .before .before .before .read-numbers .last .1 .1 .1 .0) (c .before .before .before .before .before .read-numbers .result) (c .before .before .before .before .before .read-numbers .ensures) (c .before .e .given .1) (c .before .before .before .before .before .before .before .before .before .before .pre .0) (omega (arith, c .before .before .before .before .before .read-numbers .kept .1 .1 .1 .0, c .before .before .before .before .before .before .before .before .before .before .pre .1 (c .before .before .before .before .before .before .before .before .before .before .args .m) (c .before .before .before .before .before .before .before .before .before .before .pre .0) (omega (arith, c .before .before .before .before .before .before .before .if1 .left))))
+    let c5 = c .before .before .before .before .before in
+    let c7 = c5 .before .before in
+    let c10 = c7 .before .before .before in
+    edges-end (now (c10 .args .s)) (c10 .args .at) (c10 .args .m) (c5 .read-numbers .last .1 .1 .1 .0) (c5 .read-numbers .result) (c5 .read-numbers .ensures)
+    (c .before .e .given .1) (c10 .pre .0) (omega (
+      arith,
+      c5 .read-numbers .kept .1 .1 .1 .0,
+      c10 .pre .1 (c10 .args .m) (c10 .pre .0)
+          (omega (arith, c7 .if1 .left)),
+    ))
 
 same-length-2 : tie.Need-same-length-2
 same-length-2 c = search needs
 
 returns-3 : tie.Need-returns-3
 returns-3 c =
-    edges-fault (now (c .before .before .before .before .before .before .before .before .before .args .s)) (c .before .before .before .before .before .before .before .before .before .args .at) (c .before .before .before .before .before .before .before .before .before .args .m) (c .before .before .before .before .read-numbers .last .1 .1 .1 .0) (c .before .before .before .before .read-numbers .result) (c .before .before .before .before .read-numbers .ensures) (c .enum-told .given .1)
+    let c4 = c .before .before .before .before in
+    let c9 = c4 .before .before .before .before .before in
+    edges-fault (now (c9 .args .s)) (c9 .args .at) (c9 .args .m) (c4 .read-numbers .last .1 .1 .1 .0) (c4 .read-numbers .result) (c4 .read-numbers .ensures)
+    (c .enum-told .given .1)
 
 pub edges-from-spec : {M : Type 1} → statement M
 edges-from-spec =

@@ -13,18 +13,14 @@ use native.Mathlib.Omega.{arith}
 use borrow.Author.Needs.{needs}
 use Rattle.graph.proofs.ruling.rule_edges.Statement.{statement}
 use Rattle.graph.proofs.ruling.rule_edges.Tie as tie
-use Rattle.graph.proofs.ruling.rule_edges.Reads as reads
-use Rattle.graph.proofs.ruling.rule_edges.Lts as lts
-use Rattle.graph.proofs.ends.end_pass.Reads as end-pass-reads
-use Rattle.graph.proofs.joins.fact_pass.Reads as fact-pass-reads
-use Rattle.graph.proofs.ruling.rule_uses.Reads as rule-uses-reads
 
 end-pass-requires : tie.Need-end-pass-requires
 end-pass-requires c κs = search needs
 
 returns : tie.Need-returns
 returns c =
-    λ P g h. sym (found-refused 10 (c .before .end-pass .result) _ _ (c .before .end-pass .ensures (now (c .before .before .before .before .before .before .before .args .s)) P g h) (c .if1 .taken))
+    λ P g h. sym (found-refused 10 (c .before .end-pass .result) _ _ (c .before .end-pass .ensures
+    (now (c .before .before .before .before .before .before .before .args .s)) P g h) (c .if1 .taken))
 
 sub-fact-pass : tie.Need-sub-fact-pass
 sub-fact-pass c = search needs
@@ -39,17 +35,25 @@ part-fact-pass-end c =
 
 fact-pass-requires : tie.Need-fact-pass-requires
 fact-pass-requires c κs =
-    let (P, g, h) = c .before .before .before .before .before .before .before .before .pre .0 in
-    ((P, g, ended-in h (ap asFound (sym (c .before .if1 .left)) ∙ c .before .before .end-pass .ensures (now (c .before .before .before .before .before .before .before .before .args .s)) P g h)), facts-room (now (c .before .before .before .before .before .before .before .before .args .work)) (c .before .before .before .before .before .before .before .before .pre .1))
+    let c8 = c .before .before .before .before .before .before .before .before in
+    let (P, g, h) = c8 .pre .0 in (
+      (P, g, ended-in h (ap asFound (sym (c .before .if1 .left)) ∙ c .before .before .end-pass .ensures (now (c8 .args .s)) P g h)),
+      facts-room
+          (now (c8 .args .work)) (c8 .pre .1),
+    )
 
 same-length : tie.Need-same-length
 same-length c = search needs
 
 returns-2 : tie.Need-returns-2
 returns-2 c =
-    λ P g h. sym (found-refused 11 (c .before .before .before .fact-pass .result) _ (usesRuling P g) (c .before .before .before .fact-pass .ensures P g
-    (ended-in h (ap asFound (sym (c .before .before .before .before .before .if1 .left)) ∙ c .before .before .before .before .before .before .end-pass .ensures (now (c .before .before .before .before .before .before .before .before .before .before .before .before .args .s)) P g h))) (c .if2 .taken) ∙ found-passed 10
-    (c .before .before .before .before .before .before .end-pass .result) _ _ (c .before .before .before .before .before .before .end-pass .ensures (now (c .before .before .before .before .before .before .before .before .before .before .before .before .args .s)) P g h) (c .before .before .before .before .before .if1 .left))
+    let c3 = c .before .before .before in
+    let c5 = c3 .before .before in
+    let c6 = c5 .before in
+    let c12 = c6 .before .before .before .before .before .before in
+    λ P g h. sym (found-refused 11 (c3 .fact-pass .result) _ (usesRuling P g) (c3 .fact-pass .ensures P g
+    (ended-in h (ap asFound (sym (c5 .if1 .left)) ∙ c6 .end-pass .ensures (now (c12 .args .s)) P g h))) (c .if2 .taken) ∙ found-passed 10
+    (c6 .end-pass .result) _ _ (c6 .end-pass .ensures (now (c12 .args .s)) P g h) (c5 .if1 .left))
 
 sub-rule-uses : tie.Need-sub-rule-uses
 sub-rule-uses c = search needs
@@ -62,9 +66,14 @@ part-rule-uses-end c = search needs
 
 rule-uses-requires : tie.Need-rule-uses-requires
 rule-uses-requires c κs =
-    let (P, g, h) = c .before .before .before .before .before .before .before .before .before .before .before .before .before .pre .0 in (
-      (now (c .before .before .before .before .before .before .before .before .before .before .before .before .before .args .s), P, g, ended-in h (ap asFound (sym (c .before .before .before .before .before .before .if1 .left)) ∙ c .before .before .before .before .before .before .before .end-pass .ensures (now (c .before .before .before .before .before .before .before .before .before .before .before .before .before .args .s)) P g h)),
-      ap length (take-put countTable (2 * factRoom) (now (c .before .before .before .before .before .before .before .before .before .before .before .before .before .args .work)) (c .before .before .before .before .fact-pass .last .0) (omega (arith, c .before .before .before .before .before .before .before .before .before .before .before .before .before .pre .1))) ∙ counts-length (now (c .before .before .before .before .before .before .before .before .before .before .before .before .before .args .work)) (c .before .before .before .before .before .before .before .before .before .before .before .before .before .pre .1),
+    let c4 = c .before .before .before .before in
+    let c6 = c4 .before .before in
+    let c7 = c6 .before in
+    let c13 = c7 .before .before .before .before .before .before in
+    let (P, g, h) = c13 .pre .0 in (
+      (now (c13 .args .s), P, g, ended-in h (ap asFound (sym (c6 .if1 .left)) ∙ c7 .end-pass .ensures (now (c13 .args .s)) P g h)),
+      ap length (take-put countTable (2 * factRoom) (now (c13 .args .work)) (c4 .fact-pass .last .0) (omega (arith, c13 .pre .1))) ∙ counts-length
+          (now (c13 .args .work)) (c13 .pre .1),
     )
 
 same-length-2 : tie.Need-same-length-2
@@ -73,11 +82,16 @@ same-length-2 c =
 
 returns-3 : tie.Need-returns-3
 returns-3 c =
-    λ P g h. decided-as (found-passed 11 (c .before .before .before .before .before .before .before .fact-pass .result) _ (usesRuling P g)
-    (c .before .before .before .before .before .before .before .fact-pass .ensures P g (ended-in h (ap asFound (sym (c .before .before .before .before .before .before .before .before .before .if1 .left)) ∙ c .before .before .before .before .before .before .before .before .before .before .end-pass .ensures (now (c .before .before .before .before .before .before .before .before .before .before .before .before .before .before .before .before .args .s)) P g h))) (c .before .before .before .before .if2 .left) ∙
-    found-passed 10 (c .before .before .before .before .before .before .before .before .before .before .end-pass .result) _ _ (c .before .before .before .before .before .before .before .before .before .before .end-pass .ensures (now (c .before .before .before .before .before .before .before .before .before .before .before .before .before .before .before .before .args .s)) P g h) (c .before .before .before .before .before .before .before .before .before .if1 .left)) g _ _
-    (c .before .before .rule-uses .result) (c .before .before .rule-uses .ensures (now (c .before .before .before .before .before .before .before .before .before .before .before .before .before .before .before .before .args .s)) P g
-    (ended-in h (ap asFound (sym (c .before .before .before .before .before .before .before .before .before .if1 .left)) ∙ c .before .before .before .before .before .before .before .before .before .before .end-pass .ensures (now (c .before .before .before .before .before .before .before .before .before .before .before .before .before .before .before .before .args .s)) P g h)))
+    let c4 = c .before .before .before .before in
+    let c7 = c4 .before .before .before in
+    let c9 = c7 .before .before in
+    let c10 = c9 .before in
+    let c16 = c10 .before .before .before .before .before .before in
+    λ P g h. decided-as (found-passed 11 (c7 .fact-pass .result) _ (usesRuling P g)
+    (c7 .fact-pass .ensures P g (ended-in h (ap asFound (sym (c9 .if1 .left)) ∙ c10 .end-pass .ensures (now (c16 .args .s)) P g h))) (c4 .if2 .left) ∙
+    found-passed 10 (c10 .end-pass .result) _ _ (c10 .end-pass .ensures (now (c16 .args .s)) P g h) (c9 .if1 .left)) g _ _
+    (c .before .before .rule-uses .result) (c .before .before .rule-uses .ensures (now (c16 .args .s)) P g
+    (ended-in h (ap asFound (sym (c9 .if1 .left)) ∙ c10 .end-pass .ensures (now (c16 .args .s)) P g h)))
 
 pub rule-edges-spec : {M : Type 1} → statement M
 rule-edges-spec =

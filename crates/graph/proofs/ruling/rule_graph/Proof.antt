@@ -1,5 +1,4 @@
 -- A file that reads has its nodes and edges in the tables, so rule_read rules on it; a fault is 3, an unknown rule 6.
-use native.Mathlib.Omega.{arith}
 use denote.Ref.{now}
 use Rattle.graph.specs.Ruling.{file-broken, file-unknown, file-read, file-in, file-answered}
 use borrow.Author.Needs.{needs}
@@ -52,7 +51,8 @@ returns c =
     let c19 = c13 .before .before .before .before .before .before in
     let c21 = c19 .before .before in
     λ P f. file-answered P (now (c21 .args .p)) (now (c21 .args .s)) (c13 .read-graph .last .1 .1 .0) (c13 .read-graph .last .1 .1 .1 .0)
-    (c13 .read-graph .result) (c13 .read-graph .ensures P f) (c7 .n .given .1) f (λ k. c19 .shared-slice-known2 .given k .fits) (c21 .pre .1) (c .before .before .rule-read .result)
+    (c13 .read-graph .result) (c13 .read-graph .ensures P f) (c7 .n .given .1) f (λ k. c19 .shared-slice-known2 .given k .fits) (c21 .pre .1)
+    (c .before .before .rule-read .result)
     (c .before .before .rule-read .ensures P _ (file-in P (now (c21 .args .p)) (now (c21 .args .s)) (c13 .read-graph .last .1 .1 .0)
     (c13 .read-graph .last .1 .1 .1 .0) (c13 .read-graph .result) (c13 .read-graph .ensures P f) (c7 .n .given .1) f
     (λ k. c19 .shared-slice-known2 .given k .fits) (c21 .pre .1)))

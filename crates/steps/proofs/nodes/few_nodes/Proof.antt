@@ -1,16 +1,12 @@
 -- A count that reads is compared with the bound; one that does not read is the count of no list.
 use borrow.Author.Tests.{leb-true}
 use denote.Ref.{now}
-use native.Mathlib.Omega.{arith}
 use mathlib.Core.Path.{ap, sym, _∙_}
 use Rattle.number.specs.Reading.{asRead}
 use Rattle.steps.specs.Table.Laws.{few-counted, few-uncounted}
 use borrow.Author.Needs.{needs}
 use Rattle.steps.proofs.nodes.few_nodes.Statement.{statement}
 use Rattle.steps.proofs.nodes.few_nodes.Tie as tie
-use Rattle.steps.proofs.nodes.few_nodes.Reads as reads
-use Rattle.steps.proofs.nodes.few_nodes.Lts as lts
-use Rattle.number.proofs.below.Reads as below-reads
 
 below-requires : tie.Need-below-requires
 below-requires c κs = search needs
@@ -26,7 +22,9 @@ enum-told c = search needs
 
 returns : tie.Need-returns
 returns c =
-    λ h. few-counted (now (c .before .before .before .before .before .args .s)) (sym (c .before .before .before .below .ensures) ∙ ap asRead (c .before .n .given .1)) (leb-true _ _ h)
+    let c3 = c .before .before .before in
+    let c5 = c3 .before .before in
+    λ h. few-counted (now (c5 .args .s)) (sym (c3 .below .ensures) ∙ ap asRead (c .before .n .given .1)) (leb-true _ _ h)
 
 returns-2 : tie.Need-returns-2
 returns-2 c =

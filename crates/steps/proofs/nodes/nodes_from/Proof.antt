@@ -87,8 +87,9 @@ same-length-3 c = search needs
 
 returns-3 : tie.Need-returns-3 Inv-loop μ-loop
 returns-3 c =
-    let m : c .before .loop .j ≡ c .before .before .before .before .before .args .n = omega arith in
-    λ P f. passed-all P _ _ _ _ _ _ _ (c .before .loop .inv .2 P f) m (omega (arith, c .before .loop .inv .1, c .before .before .before .before .before .pre .3))
+    let c5 = c .before .before .before .before .before in
+    let m : c .before .loop .j ≡ c5 .args .n = omega arith in
+    λ P f. passed-all P _ _ _ _ _ _ _ (c .before .loop .inv .2 P f) m (omega (arith, c .before .loop .inv .1, c5 .pre .3))
 
 pub nodes-from-spec : {M : Type 1} → statement M
 nodes-from-spec =

@@ -1,7 +1,6 @@
 -- A list that reads has its nodes in the table, so rule_nodes rules on it; a fault is 3, an unknown rule 6.
 use Rattle.steps.specs.Causes.Good.{where-good}
 use Rattle.steps.specs.Causes.Code.{list-broken, list-unknown, list-read, list-in, list-nodes}
-use native.Mathlib.Omega.{arith}
 use denote.Ref.{now}
 use borrow.Author.Needs.{needs}
 use Rattle.steps.proofs.ruling.rule_steps.Statement.{statement}

@@ -44,7 +44,8 @@ loop-again c =
       omega arith,
       λ P xs h.
           let l : c3 .loop .j < length xs = omega (arith, h .count) in
-          rest-more (λ k. nodeTermsOk P) noNode xs _ l (sym (c .before .node-terms .ensures P _ (node-in h (c3 .loop .j) (c .before .before .loop-test .taken))) ∙ c
+          rest-more (λ k. nodeTermsOk P) noNode xs _ l (sym (c .before .node-terms .ensures P _
+          (node-in h (c3 .loop .j) (c .before .before .loop-test .taken))) ∙ c
           .if1 .taken) (c3 .loop .inv .1 P xs h),
     )
 
@@ -56,7 +57,8 @@ returns c =
     let c3 = c .before .before .before in
     λ P xs h.
     let l : c3 .loop .j < length xs = omega (arith, h .count) in
-    rest-bad (λ k. nodeTermsOk P) noNode xs _ l (sym (c .before .node-terms .ensures P _ (node-in h (c3 .loop .j) (c .before .before .loop-test .taken))) ∙ c .if1
+    rest-bad (λ k. nodeTermsOk P) noNode xs _ l (sym (c .before .node-terms .ensures P _ (node-in h (c3 .loop .j) (c .before .before .loop-test .taken))) ∙ c
+    .if1
     .left) (c3 .loop .inv .1 P xs h)
 
 returns-2 : tie.Need-returns-2 Inv-loop μ-loop

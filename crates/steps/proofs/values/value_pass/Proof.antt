@@ -52,7 +52,8 @@ loop-again c =
       c .before .before .node-values .kept .0 ∙ c5 .loop .inv .1,
       λ P xs h.
           let l : c5 .loop .j < length xs = omega (arith, h .count) in
-          rest-more (λ k. nodeValuesOk P) noNode xs _ l (sym (c .before .before .node-values .ensures P _ (node-in h (c5 .loop .j) (c4 .loop-test .taken))) ∙ c .if1
+          rest-more (λ k. nodeValuesOk P) noNode xs _ l (sym (c .before .before .node-values .ensures P _ (node-in h (c5 .loop .j) (c4 .loop-test .taken))) ∙ c
+          .if1
           .taken) (c5 .loop .inv .2 P xs h),
     )
 
@@ -65,7 +66,8 @@ returns c =
     let c5 = c4 .before in
     λ P xs h.
     let l : c5 .loop .j < length xs = omega (arith, h .count) in
-    rest-bad (λ k. nodeValuesOk P) noNode xs _ l (sym (c .before .before .node-values .ensures P _ (node-in h (c5 .loop .j) (c4 .loop-test .taken))) ∙ c .if1 .left)
+    rest-bad (λ k. nodeValuesOk P) noNode xs _ l (sym (c .before .before .node-values .ensures P _ (node-in h (c5 .loop .j) (c4 .loop-test .taken))) ∙ c .if1
+    .left)
     (c5 .loop .inv .2 P xs h)
 
 returns-2 : tie.Need-returns-2 Inv-loop μ-loop
