@@ -40,7 +40,7 @@ FieldsOf s edges = (m : ℕ) → m ≤ mostEdges → edgeFields * m ≤ length s
 
 -- ── a table for small files ──
 abbrev pub fewFields : ℕ
-fewFields = 2048
+fewFields = 1024
 
 -- ── what stands there ──
 abbrev pub endAt : List ℕ → ℕ → Place

@@ -22,7 +22,7 @@ pub const TARGET: usize = 2;
 pub const TABLE: usize = FIELDS * MOST_EDGES;
 
 // The numbers of a small file's edges: no more than its bytes.
-pub const FEW_FIELDS: usize = 2048;
+pub const FEW_FIELDS: usize = 1024;
 
 // Some numbers: the place behind them, or a fault.
 pub enum Numbers {
