@@ -12,7 +12,7 @@ use Rattle.rules.specs.Numbered.{ruleOf}
 use Rattle.rules.specs.declared.fit.FitVerdict.{FitVerdict}
 use Rattle.rules.specs.declared.fit.FitVerdict.the-variants as jd
 use Rattle.rules.specs.Numbered.{ruleRoom}
-use Rattle.prepared.specs.Sections.{builtinCount, fileLimit, placesAt, rulesAt, fileAt, cellAt, builtinAt, placeBase}
+use Rattle.prepared.specs.Sections.{builtinCount, fileLimit, placesAt, rulesAt, fileAt, cellAt, builtinAt, placeBytes, placeBase}
 use Rattle.prepared.specs.Prepared.{placeAt, Body}
 -- bytes that stand somewhere; lists filled up with 255
 pub mod Lists
@@ -58,9 +58,19 @@ module _ {arities places : List ℕ} {nr : ℕ} (f : Source arities places nr) (
         → Row
     missing : ruleOf (f .entries .is) n ≡ none → placeAt p n ≡ 0 → Row
 
--- entering a number changes nothing before its two bytes, and of the rules written out none before its own
+-- from rule number n on none has a place
+abbrev pub Unplaced : List ℕ → ℕ → Type 0
+Unplaced p n = (i : ℕ) → cellAt n ≤ i → i < rulesAt → getD p i 0 ≡ 0
+
+-- none has one, and the sections before the places are as they were
+pub record NoPlaces (p p′ : List ℕ) : Type 0 where
+  pub before : (i : ℕ) → i < placesAt → getD p′ i 0 ≡ getD p i 0
+  pub zeros : Unplaced p′ 0
+
+-- entering a number changes nothing before its two bytes, no place behind them, and of the rules written out none before its own
 pub record Kept (p p′ : List ℕ) (n : ℕ) : Type 0 where
   pub low : (i : ℕ) → i < cellAt n → getD p′ i 0 ≡ getD p i 0
+  pub between : (i : ℕ) → cellAt n + placeBytes ≤ i → i < rulesAt → getD p′ i 0 ≡ getD p i 0
   pub high : (i : ℕ) → rulesAt ≤ i → i < builtinAt n → getD p′ i 0 ≡ getD p i 0
 
 pub record Enters {arities places : List ℕ} {nr : ℕ} (f : Source arities places nr) (p p′ : List ℕ) (n : ℕ) : Type 0 where
@@ -73,12 +83,13 @@ pub record Rows {arities places : List ℕ} {nr : ℕ} (f : Source arities place
   pub before : (i : ℕ) → i < placesAt → getD p′ i 0 ≡ getD p i 0
 
 -- ── what is promised ──
-pub record BodyAs (file p : List ℕ) : Type 0 where
+pub record BodyAs (file : List ℕ) (nr : ℕ) (p : List ℕ) : Type 0 where
   pub its : Protocol
   pub reads : protocol file ≡ got its (length file)
   pub is : Body p its
+  pub count : length (its .rules) ≡ nr
 
 abbrev pub WhereBody : List ℕ → FitVerdict → List ℕ → Type 0
-WhereBody file (jd.Sound ns nr) p = BodyAs file p
+WhereBody file (jd.Sound ns nr) p = BodyAs file nr p
 WhereBody file (jd.Broken k) p = Unit {0}
 WhereBody file jd.Fault p = Unit {0}

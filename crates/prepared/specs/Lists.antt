@@ -1,14 +1,15 @@
 -- The places of the lists of each rule, in a table behind the body of a prepared protocol.
-use Prim.Native.Nat.{ℕ, _+_, _*_, _/_, _%_, _<_}
+use Prim.Native.Nat.{ℕ, _+_, _-_, _*_, _/_, _%_, _≤_, _<_}
 use mathlib.Core.List.{List, _++_}
-use mathlib.Core.Option.{some, none, Option·none-ne-some}
-use mathlib.Core.Path.{_≡_, ap, ap₂, sym, _∙_, subst}
+use mathlib.Core.Option.{Option, some, none, Option·none-ne-some}
+use mathlib.Core.Path.{_≡_, refl, ap, ap₂, sym, _∙_, subst}
 use native.Mathlib.Omega.{arith}
 use lib.ListN.{length, getD, take, drop, set, length-set, length-append, length-drop}
 use lib.Seq.{getD-set-same, getD-set-other, take-at}
-use Rattle.protocol.specs.Figures.{listCount}
+use Rattle.protocol.specs.Figures.{listCount, mostRules}
 use Rattle.lists.specs.Asks.{Asks}
 use Rattle.lists.specs.Choice.{by-size}
+use Rattle.lists.specs.Lists.Laws.{at-outside}
 use Rattle.octets.specs.Head.{Bytes, stands-within}
 use Rattle.octets.specs.Splice.{splice}
 use Rattle.octets.specs.Splice.Laws.{length-splice, take-splice}
@@ -18,12 +19,13 @@ use Rattle.protocol.specs.Protocol.Exact.{facts-exact}
 use Rattle.protocol.specs.Places.{listPlace, placeOf}
 use Rattle.protocol.specs.Places.Laws.{list-law, list-next, rule-layout}
 use Rattle.rules.specs.Numbered.{ruleOf}
+use Rattle.rules.specs.Numbered.Found.{of-own}
 use Rattle.rules.specs.declared.fit.FitVerdict.{FitVerdict}
 use Rattle.rules.specs.declared.fit.FitVerdict.the-variants as jd
 use Rattle.prepared.specs.declared.finding.Found.{Found}
 use Rattle.prepared.specs.declared.finding.Found.the-variants as fd
-use Rattle.prepared.specs.Sections.{ruleCount, bodyLength, preparedLength, entryCount, tableLength, placeBytes, placeBase, placeLimit}
-use Rattle.prepared.specs.Prepared.{slotsOf, aritiesOf, Body, RuleAt, entryAt, ListAt, Prepared}
+use Rattle.prepared.specs.Sections.{ruleCount, builtinCount, bodyLength, preparedLength, entryCount, tableLength, placeBytes, placeBase, placeLimit}
+use Rattle.prepared.specs.Prepared.{slotsOf, aritiesOf, placeAt, Entry, Body, RuleAt, entryAt, ListAt, Prepared}
 use Rattle.prepared.specs.Prepared.Laws.{arities-length}
 use Rattle.prepared.specs.Prepared.Longer.{bodyOf, list-some, body-longer, list-longer}
 use Rattle.prepared.specs.Finding.{RuleFound, Finds, found-here}
@@ -165,6 +167,31 @@ module _ (q t : List ℕ) (n : ℕ) (small : n < ruleCount) where
         (listing-more q t₂ (3 * n + 2) c (omega arith) n₂ l₂′ (entry-of (3 * n + 2) 2 c (omega arith) (omega arith) z)) in
         (let e : 3 * n + 2 + 1 ≡ 3 * (n + 1) = omega arith in subst (Listing q t₃) e l₃)
 
+-- the numbers behind the rules of the file have no rule
+pub record RulesIn (q : List ℕ) (nr : ℕ) (P : Protocol) : Type 0 where
+  pub body : Body q P
+  pub count : length (P .rules) ≡ nr
+
+no-place : (q : List ℕ) (m : ℕ) (u : Option Rule) → Entry q m u → placeAt q m ≡ 0 → u ≡ none
+no-place q m (some u) e z = absurd (omega (arith, e .there))
+no-place q m none e z = refl
+
+module _ (q : List ℕ) (nr : ℕ) (ready : Asks (RulesIn q nr)) where
+  pub rules-few : nr ≤ mostRules
+  rules-few = omega (arith, ready .1 .count, ready .1 .body .within .few-rules)
+
+  none-more : (m : ℕ) → builtinCount + nr ≤ m → m < ruleCount → (P : Protocol) → Body q P → ruleOf P m ≡ none
+  none-more m h l P f =
+      let (Q, g) = ready in
+      let none-there : ruleOf Q m ≡ none = of-own Q m (omega arith) ∙ at-outside (Q .rules) (m - builtinCount) (omega (arith, g .count)) in
+      no-place q m (ruleOf P m) (f .rules m l) (subst (Entry q m) none-there (g .body .rules m l))
+
+  pub listing-all : (t : List ℕ) (n : ℕ) → builtinCount + nr ≤ n → Listing q t (listCount * n) → Listing q t entryCount
+  listing-all t n all l j h P u f is =
+      by-size j (3 * n)
+      (λ b. l j b P u f is)
+      (λ b. absurd (Option·none-ne-some u (sym (none-more (j / 3) (omega arith) (omega arith) P f) ∙ is)))
+
 -- ── behind the body ──
 pub record PreparedAs (file p : List ℕ) : Type 0 where
   pub its : Protocol
@@ -177,7 +204,7 @@ WherePrepared file (jd.Broken k) p = Unit {0}
 WherePrepared file jd.Fault p = Unit {0}
 
 module _ (file p₁ p₂ q t : List ℕ) (long : length p₁ ≡ preparedLength) (front : bodyOf p₁ ≡ q) (many : length t ≡ tableLength) (table : Listing q t entryCount)
-    (h : p₂ ≡ splice p₁ bodyLength t) (w : BodyAs file q) (bytes : Bytes p₂) where
+    (h : p₂ ≡ splice p₁ bodyLength t) {nr : ℕ} (w : BodyAs file nr q) (bytes : Bytes p₂) where
   body-is : bodyOf p₂ ≡ q
   body-is = ap (take bodyLength) h ∙ take-splice p₁ bodyLength t (omega arith) bodyLength (omega arith) ∙ front
 
@@ -231,8 +258,8 @@ module _ (q p : List ℕ) (len : length q ≡ bodyLength) (long : length p ≡ p
   joined-part = sym (ap length joined ∙ len)
 
   module _ (file : List ℕ) {r : FitVerdict} {ns nr : ℕ} (e : r ≡ jd.Sound ns nr) (w : WhereBody file r q) where
-    pub joined-as : BodyAs file (bodyOf (q ++ drop bodyLength p))
-    joined-as = subst (BodyAs file) (sym joined) (subst (λ (x : FitVerdict). WhereBody file x q) e w)
+    pub joined-as : BodyAs file nr (bodyOf (q ++ drop bodyLength p))
+    joined-as = subst (BodyAs file nr) (sym joined) (subst (λ (x : FitVerdict). WhereBody file x q) e w)
 
-    pub joined-ready : Asks (Body (bodyOf (q ++ drop bodyLength p)))
-    joined-ready = (joined-as .its, joined-as .is)
+    pub joined-ready : Asks (RulesIn (bodyOf (q ++ drop bodyLength p)) nr)
+    joined-ready = (joined-as .its, record { body = joined-as .is; count = joined-as .count })

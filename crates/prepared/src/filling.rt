@@ -12,7 +12,7 @@ ghost use Rattle.protocol.specs.Figures.{symbolCount};
 ghost use Rattle.rules.specs.Numbered.{ruleRoom};
 ghost use Rattle.prepared.specs.Sections.{slotCount, ruleCount, builtinCount, fileLimit, linearsAt, builtinAt, bodyLength, placeLimit};
 ghost use Rattle.prepared.specs.Prepared.{linear, Body};
-ghost use Rattle.prepared.specs.Filling.{Source, Laid, placed, Enters, Rows, WhereBody};
+ghost use Rattle.prepared.specs.Filling.{Source, Laid, placed, NoPlaces, Enters, Rows, WhereBody};
 use crate::sections;
 use protocol::figures;
 use rules::fit::FitVerdict;
@@ -90,13 +90,23 @@ fn enter_rule(p: &mut [u8], n: usize, arities: &[u8], places: &[usize], nr: usiz
     }
 }
 
-// All rule numbers.
+// No rule number has a place.
+fn clear_places(p: &mut [u8])
+    requires { ⌜ length (now p) ≡ bodyLength ⌝ }
+    ensures { λ r. ⌜ NoPlaces (now (p .entry)) (now (p .exit)) ⌝ }
+{
+    octets::clear(&mut p[sections::PLACES..sections::RULES]);
+}
+
+// All rule numbers: none behind the file's own rules has a place.
 fn enter_rules(p: &mut [u8], arities: &[u8], places: &[usize], nr: usize)
     requires { ⌜ (length (now p) ≡ bodyLength) × (length (now arities) ≡ slotCount) × (nr ≤ length (now places)) × Source (now arities) (now places) nr ⌝ }
     ensures { λ r. ⌜ ((f : Source (now (arities .entry)) (now (places .entry)) nr) → Rows f (now (p .entry)) (now (p .exit)) ruleCount) ⌝ }
 {
+    clear_places(p);
+    let end = sections::BUILTIN_COUNT + nr;
     let mut n: usize = 0;
-    while n < sections::RULE_COUNT {
+    while n < end {
         enter_rule(p, n, arities, places, nr);
         n += 1;
     }

@@ -9,7 +9,7 @@ ghost use Rattle.rules.specs.Fit.{judged};
 ghost use Rattle.rules.specs.Fit.Laws.{verdictOf};
 ghost use Rattle.prepared.specs.Sections.{ruleCount, entryCount, fileLimit, bodyLength, tableLength, preparedLength, placeBase, placeLimit};
 ghost use Rattle.prepared.specs.Prepared.{Body, listEntry};
-ghost use Rattle.prepared.specs.Lists.{Listing, ListsOf, entered, WherePrepared};
+ghost use Rattle.prepared.specs.Lists.{Listing, ListsOf, RulesIn, entered, WherePrepared};
 use crate::filling;
 use crate::finding;
 use crate::finding::Found;
@@ -52,13 +52,14 @@ fn enter_number(q: &[u8], n: usize, table: &mut [u8])
     }
 }
 
-// The lists of all rules.
-fn list_table(q: &[u8], table: &mut [u8])
-    requires { ⌜ Asks (Body (now q)) × (length (now q) ≡ bodyLength) × (length (now table) ≡ tableLength) ⌝ }
+// The lists of all rules: nr of them are the file's own.
+fn list_table(q: &[u8], nr: usize, table: &mut [u8])
+    requires { ⌜ Asks (RulesIn (now q) nr) × (length (now q) ≡ bodyLength) × (length (now table) ≡ tableLength) ⌝ }
     ensures { λ r. ⌜ Listing (now (q .entry)) (now (table .exit)) entryCount ⌝ }
 {
+    let end = sections::BUILTIN_COUNT + nr;
     let mut n: usize = 0;
-    while n < sections::RULE_COUNT {
+    while n < end {
         enter_number(q, n, table);
         n += 1;
     }
@@ -73,7 +74,7 @@ pub fn prepare(file: &[u8], p: &mut [u8]) -> FitVerdict
     match filling::prepare_body(file, &mut p[..sections::BODY]) {
         FitVerdict::Sound(ns, nr) => {
             let mut table = [0u8; sections::LIST_BYTES];
-            list_table(&p[..sections::BODY], &mut table);
+            list_table(&p[..sections::BODY], nr, &mut table);
             octets::copy_into(p, sections::BODY, &table);
             FitVerdict::Sound(ns, nr)
         }

@@ -1,24 +1,26 @@
 -- One rule number after another.
 use Prim.Native.Nat.{ℕ, _+_, _*_, _/_, _%_, _-_, _≤_, _<_}
-use mathlib.Core.List.{List}
+use mathlib.Core.List.{List, _++_, append-assoc}
 use mathlib.Core.Option.{none}
 use mathlib.Core.Path.{_≡_, refl, ap, ap₂, sym, _∙_, subst}
 use native.Mathlib.Omega.{arith}
-use lib.ListN.{length, getD, take, set, length-set}
-use lib.Seq.{getD-set-same, getD-set-other, length-take-le}
+use lib.ListN.{length, getD, take, drop, set, replicate, length-set, length-replicate}
+use lib.Seq.{getD-set-same, getD-set-other, length-take-le, drop-drop}
+use borrow.Rule.Slice.PartMut.{putMid, midOf, mid-len, same-len-mid}
 use Rattle.lists.specs.Choice.{by-size}
 use Rattle.octets.specs.Splice.{splice}
 use Rattle.octets.specs.Splice.Laws.{length-splice, splice-before}
 use Rattle.protocol.specs.Protocol.{Protocol, encodeRule}
 use Rattle.protocol.specs.Protocol.Exact.{rule-exact, rule-inside, few-arities}
 use Rattle.rules.specs.Numbered.{ruleOf}
-use Rattle.rules.specs.Numbered.Found.{WrittenAs, PlacedAs, Finds}
+use Rattle.lists.specs.Lists.Laws.{at-outside, zeros-at}
+use Rattle.rules.specs.Numbered.Found.{WrittenAs, PlacedAs, Finds, of-own}
 use Rattle.rules.specs.declared.numbered.FoundRule.{FoundRule}
 use Rattle.rules.specs.declared.numbered.FoundRule.the-variants as fd
 use Rattle.rules.specs.Numbered.{ruleRoom}
-use Rattle.prepared.specs.Sections.{builtinCount, ruleCount, fileAt, cellAt, builtinAt, bodyLength, placeBase, placeLimit}
+use Rattle.prepared.specs.Sections.{builtinCount, ruleCount, placesAt, rulesAt, fileAt, cellAt, builtinAt, bodyLength, placeBase, placeLimit}
 use Rattle.prepared.specs.Prepared.{placeAt}
-use Rattle.prepared.specs.Filling.{Source, placed, Row, written, in-file, missing, Kept, Enters, Rows}
+use Rattle.prepared.specs.Filling.{Source, placed, Row, written, in-file, missing, Unplaced, NoPlaces, Kept, Enters, Rows}
 use Rattle.prepared.specs.Filling.Lists.{splice-lies, lies-kept}
 
 -- ── a place written ──
@@ -45,8 +47,38 @@ module _ (p : List ℕ) (n v : ℕ) where
     place-kept : Kept p (placed p n v) n
     place-kept = record {
       low = λ i h. place-other i (λ e. omega arith) (λ e. omega arith);
+      between = λ i h k. place-other i (λ e. omega arith) (λ e. omega arith);
       high = λ i h k. place-other i (λ e. omega arith) (λ e. omega arith);
     }
+
+-- ── no place ──
+module _ (p zeros : List ℕ) (long : length p ≡ bodyLength) (cleared : zeros ≡ replicate (length (midOf placesAt (rulesAt - placesAt) p)) 0) where
+  zeros-many : length zeros ≡ rulesAt - placesAt
+  zeros-many =
+      ap length cleared ∙ length-replicate {A = ℕ} (length (midOf placesAt (rulesAt - placesAt) p)) 0 ∙ mid-len placesAt rulesAt p (omega arith)
+
+  pub cleared-long : length (putMid placesAt (rulesAt - placesAt) p zeros) ≡ bodyLength
+  cleared-long = same-len-mid placesAt (rulesAt - placesAt) p zeros (zeros-many ∙ sym (mid-len placesAt rulesAt p (omega arith))) ∙ long
+
+  as-splice : putMid placesAt (rulesAt - placesAt) p zeros ≡ splice p placesAt zeros
+  unfolding splice
+  as-splice =
+      let z : placesAt + (rulesAt - placesAt) ≡ placesAt + length zeros = omega (arith, zeros-many) in
+      sym (append-assoc (take placesAt p) zeros (drop (rulesAt - placesAt) (drop placesAt p)))
+      ∙ ap (λ (l : List ℕ). (take placesAt p ++ zeros) ++ l) (drop-drop (rulesAt - placesAt) placesAt p ∙ ap (λ (k : ℕ). drop k p) z)
+
+  pub places-cleared : NoPlaces p (putMid placesAt (rulesAt - placesAt) p zeros)
+  places-cleared =
+      subst (NoPlaces p) (sym as-splice)
+      record {
+        before = λ i l. splice-before p placesAt zeros (omega (arith, zeros-many)) 0 i l;
+        zeros = λ i l m.
+            let z : placesAt + (i - placesAt) ≡ i = omega arith in
+            subst (λ (k : ℕ). getD (splice p placesAt zeros) k 0 ≡ 0) z
+            (splice-lies p placesAt zeros (omega (arith, zeros-many)) (i - placesAt) (omega (arith, zeros-many))
+            ∙ ap (λ (l : List ℕ). getD l (i - placesAt) 0) cleared
+            ∙ zeros-at (length (midOf placesAt (rulesAt - placesAt) p)) (i - placesAt));
+      }
 
 -- ── rows stay ──
 module _ {arities places : List ℕ} {nr : ℕ} (f : Source arities places nr) where
@@ -70,6 +102,24 @@ module _ {arities places : List ℕ} {nr : ℕ} (f : Source arities places nr) w
         (λ j _ k. e .kept .high (builtinAt m + j) (omega arith) (omega arith)) (r .each m l))
         (λ l. let z : n ≡ m = omega arith in subst (Row f p₂) z (e .row));
     before = λ i h. e .kept .low i (omega arith) ∙ r .before i h;
+  }
+
+  pub unplaced-more : (p₁ p₂ : List ℕ) (n : ℕ) → Unplaced p₁ n → Enters f p₁ p₂ n → Unplaced p₂ (n + 1)
+  unplaced-more p₁ p₂ n z e i h k = e .kept .between i (omega arith) k ∙ z i (omega arith) k
+
+  -- the file has no rules behind its own
+  none-behind : (m : ℕ) → builtinCount + nr ≤ m → ruleOf (f .entries .is) m ≡ none
+  none-behind m h =
+      of-own (f .entries .is) m (omega arith) ∙ at-outside (f .entries .is .rules) (m - builtinCount) (omega (arith, f .entries .placed .count))
+
+  pub rows-all : (p p₁ p₂ : List ℕ) (n : ℕ) → builtinCount + nr ≤ n → NoPlaces p p₁ → Rows f p₁ p₂ n → Unplaced p₂ n → Rows f p p₂ ruleCount
+  rows-all p p₁ p₂ n all c r z = record {
+    each = λ m h.
+        by-size m n
+        (λ l. r .each m l)
+        (λ l. missing (none-behind m (omega arith))
+        (ap₂ (λ (x y : ℕ). x * placeBase + y) (z (cellAt m) (omega arith) (omega arith)) (z (cellAt m + 1) (omega arith) (omega arith))));
+    before = λ i h. r .before i h ∙ c .before i h;
   }
 
   -- ── what was found ──
@@ -122,6 +172,7 @@ module _ {arities places : List ℕ} {nr : ℕ} (f : Source arities places nr) w
                 (splice-lies p (builtinAt n) q (omega arith)));
             kept = record {
               low = λ i m. k .low i m ∙ splice-before p (builtinAt n) q (omega arith) 0 i (omega arith);
+              between = λ i m j. k .between i m j ∙ splice-before p (builtinAt n) q (omega arith) 0 i (omega arith);
               high = λ i m j. k .high i m j ∙ splice-before p (builtinAt n) q (omega arith) 0 i j;
             };
           }

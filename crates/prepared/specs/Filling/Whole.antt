@@ -230,6 +230,6 @@ module _ (s arities ars flags places : List ℕ) (r : FitVerdict) (ns nr : ℕ) 
   }
 
   pub sound-body :
-      (p : List ℕ) → ((l : Laid s arities (take ns ars) (take ns flags) places nr) → Body p (l .source .entries .is)) → BodyAs s p
+      (p : List ℕ) → ((l : Laid s arities (take ns ars) (take ns flags) places nr) → Body p (l .source .entries .is)) → BodyAs s nr p
   unfolding entries sound-laid
-  sound-body p h = record { its = entries .is; reads = entries .reads; is = h sound-laid }
+  sound-body p h = record { its = entries .is; reads = entries .reads; is = h sound-laid; count = entries .placed .count }

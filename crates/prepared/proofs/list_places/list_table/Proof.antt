@@ -1,22 +1,24 @@
--- The invariant is that the entries of the first n rules are right; each turn adds a rule's three.
+-- The invariant is that the entries of the first n rules are right; each turn adds a rule's three, and no number behind the last has a rule.
 use borrow.Author.Needs.{needs}
-use Rattle.prepared.specs.Lists.{Listing}
-use Rattle.prepared.specs.Sections.{ruleCount, entryCount}
-use lib.ListN.{length}
+use mathlib.Core.Path.{_≡_}
+use Prim.Native.Nat.{_+_, _-_, _≤_, _*_}
 use native.Mathlib.Omega.{arith}
-use Prim.Native.Nat.{_-_, _≤_, _*_}
-use mathlib.Core.Path.{_≡_, subst}
-use denote.Ref.{now}
+use lib.ListN.{length}
+use Rattle.prepared.specs.Sections.{builtinCount}
+use Rattle.prepared.specs.Lists.{Listing, rules-few, listing-all}
 use Rattle.prepared.proofs.list_places.list_table.Statement.{statement}
 use Rattle.prepared.proofs.list_places.list_table.Tie as tie
 
 abbrev Inv-loop : tie.InvT-loop
-Inv-loop q table₀ n₀ table n =
-    (n ≤ ruleCount) × (length table ≡ length table₀) × Listing q table (3 * n)
+Inv-loop q nr table₀ end n₀ table n =
+    (n ≤ builtinCount + nr) × (length table ≡ length table₀) × Listing q table (3 * n)
 
 abbrev μ-loop : tie.MeasureT-loop
-μ-loop q table₀ n₀ table n =
-    ruleCount - n
+μ-loop q nr table₀ end n₀ table n =
+    builtinCount + nr - n
+
+add-end : tie.Need-add-end Inv-loop μ-loop
+add-end c = search needs
 
 loop-holds : tie.Need-loop-holds Inv-loop μ-loop
 loop-holds c =
@@ -25,7 +27,7 @@ loop-holds c =
 enter-number-requires : tie.Need-enter-number-requires Inv-loop μ-loop
 enter-number-requires c κs =
     let c5 = c .before .before .before .before .before in
-    (c .before .loop-test .taken, c5 .pre .1, omega (arith, c .before .before .loop .inv .1), c5 .pre .0)
+    (omega (arith, rules-few _ _ (c5 .pre .0)), c5 .pre .1, omega (arith, c .before .before .loop .inv .1), (c5 .pre .0 .0, c5 .pre .0 .1 .body))
 
 add-n : tie.Need-add-n Inv-loop μ-loop
 add-n c = search needs
@@ -43,8 +45,7 @@ same-length c = search needs
 
 returns : tie.Need-returns Inv-loop μ-loop
 returns c =
-    let e : 3 * c .before .loop .n ≡ entryCount = omega arith in subst (Listing (now (c .before .before .before .before .args .q)) (c .before .loop .table)) e
-    (c .before .loop .inv .2)
+    listing-all _ _ (c .before .before .before .before .pre .0) (c .before .loop .table) (c .before .loop .n) (omega arith) (c .before .loop .inv .2)
 
 pub list-table-spec : {M : Type 1} → statement M
 list-table-spec =
@@ -52,6 +53,7 @@ list-table-spec =
     (tie.spec
     Inv-loop
     μ-loop
+    add-end
     loop-holds
     enter-number-requires
     add-n
