@@ -1,6 +1,6 @@
 -- The free conclusions: those of the nodes so far, less the linear ones that are used. Their table has an entry for each conclusion that a node
 -- can have: 0 where none is free there, else the fact's mark and one.
-use Prim.Native.Nat.{ℕ, zero, suc, _/_, _%_, _<_}
+use Prim.Native.Nat.{ℕ, zero, suc, _*_, _/_, _%_, _≤_, _<_}
 use mathlib.Core.List.{List, [], _∷_, _++_}
 use mathlib.Core.Path.{_≡_}
 use lib.ListN.{length, getD}
@@ -14,7 +14,6 @@ use Rattle.facts.specs.declared.nodes.FactId.{FactId}
 use Rattle.facts.specs.Calls.{factAt}
 use Rattle.facts.specs.Marks.{markOf}
 use Rattle.graph.specs.Graph.{place-of}
-use Rattle.graph.specs.Uses.{countTable}
 -- the first that passes a test, one taken, one more
 pub mod Laws
 
@@ -48,9 +47,9 @@ pub record EntryIs (P : Protocol) (xs : List Node) (v m : ℕ) : Type 0 where
   pub listed : v % mostFacts < length (factsOf P conclusionList (getD xs (v / mostFacts) noNode))
   pub mark : m ≡ markOf (entryFact P xs v)
 
--- the table, filled up to an entry
+-- the table, long enough for the nodes and filled up to an entry
 pub record Marked (free : List ℕ) (top : ℕ) (P : Protocol) (xs : List Node) : Type 0 where
-  pub long : length free ≡ countTable
+  pub long : mostFacts * length xs ≤ length free
   pub each : (v m : ℕ) → getD free v 0 ≡ suc m → EntryIs P xs v m
   pub empty : (v : ℕ) → (v < top → ⊥) → getD free v 0 ≡ 0
 

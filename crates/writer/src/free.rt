@@ -19,8 +19,10 @@ use facts::nodes::FactId;
 use facts::symbols;
 use protocol::figures;
 
-// One entry for each conclusion that a node can have.
+// One entry for each conclusion that a node can have: of all nodes, or of few.
 pub const ENTRIES: usize = figures::MOST_FACTS * steps::nodes::MOST_NODES;
+
+pub const FEW_ENTRIES: usize = figures::MOST_FACTS * steps::nodes::FEW_NODES;
 
 // An entry without a free conclusion.
 const NOT_FREE: u32 = 0;

@@ -1,7 +1,7 @@
 // 14: a source for each premise, nodes in order and premises in order. The edges go into their table.
 ghost use mathlib.Core.Path.{_≡_};
-ghost use Prim.Native.Nat.{suc, _*_, _+_, _≤_, _<_};
-ghost use lib.ListN.{length};
+ghost use Prim.Native.Nat.{ℕ, suc, _*_, _+_, _≤_, _<_};
+ghost use lib.ListN.{length, getD};
 ghost use Rattle.lists.specs.Asks.{Asks₂, Promises₂};
 ghost use Rattle.protocol.specs.Figures.{mostFacts};
 ghost use Rattle.steps.specs.Nodes.{mostNodes};
@@ -117,7 +117,37 @@ fn feed_node(
     Fed::Edges(e + count)
 }
 
-// All nodes, in order.
+// All nodes, in order. The table of free conclusions is empty at first.
+fn choose_with(
+    work: &mut [u8],
+    p: &[u8],
+    s: &[u8],
+    nodes: &[usize],
+    n: usize,
+    edges: &mut [u32],
+    free: &mut [u32],
+) -> Sources
+    requires { ⌜ Asks₂ (RightNodes (now p) (now s) (now nodes) n) × Room (now work) factRoom × FieldsFor (now edges) (mostFacts * n) × (mostFacts * n ≤ length (now free)) × ((i : ℕ) → getD (now free) i 0 ≡ 0) ⌝ }
+    ensures { λ r. ⌜ Promises₂ (RightNodes (now (p .entry)) (now (s .entry)) (now (nodes .entry)) n) (AllFed (now (edges .exit)) r) ⌝ }
+{
+    let mut e: usize = 0;
+    let mut k: usize = 0;
+    while k < n {
+        match feed_node(work, p, s, nodes, k, free, edges, e) {
+            Fed::Edges(m) => {
+                free::enter_conclusions(work, p, s, nodes, k, free);
+                e = m;
+                k += 1;
+            }
+            Fed::Missing => {
+                return Sources::Missing(k + 1);
+            }
+        }
+    }
+    Sources::Edges(e)
+}
+
+// The same, with a table for few nodes or for any number.
 pub fn choose_sources(
     work: &mut [u8],
     p: &[u8],
@@ -129,20 +159,10 @@ pub fn choose_sources(
     requires { ⌜ Asks₂ (RightNodes (now p) (now s) (now nodes) n) × Room (now work) factRoom × FieldsFor (now edges) (mostFacts * n) ⌝ }
     ensures { λ r. ⌜ Promises₂ (RightNodes (now (p .entry)) (now (s .entry)) (now (nodes .entry)) n) (AllFed (now (edges .exit)) r) ⌝ }
 {
-    let mut free = [0u32; free::ENTRIES];
-    let mut e: usize = 0;
-    let mut k: usize = 0;
-    while k < n {
-        match feed_node(work, p, s, nodes, k, &mut free, edges, e) {
-            Fed::Edges(m) => {
-                free::enter_conclusions(work, p, s, nodes, k, &mut free);
-                e = m;
-                k += 1;
-            }
-            Fed::Missing => {
-                return Sources::Missing(k + 1);
-            }
-        }
+    if n <= steps::nodes::FEW_NODES {
+        let mut few = [0u32; free::FEW_ENTRIES];
+        return choose_with(work, p, s, nodes, n, edges, &mut few);
     }
-    Sources::Edges(e)
+    let mut free = [0u32; free::ENTRIES];
+    choose_with(work, p, s, nodes, n, edges, &mut free)
 }

@@ -153,7 +153,7 @@ module _ {p s nodes : List ℕ} {k : ℕ} {free : List ℕ} {P : Protocol} {xs :
       v = mostFacts * k + i
 
       inside-table : v < length free′
-      inside-table = omega (arith, e .marked .long, entry-bounds .1)
+      inside-table = omega (arith, e .marked .long, entry-bounds, h .inside)
 
       new-entry : EntryIs P xs v m
       new-entry =
@@ -165,7 +165,7 @@ module _ {p s nodes : List ℕ} {k : ℕ} {free : List ℕ} {P : Protocol} {xs :
 
       entered-marked : Marked (set free′ v (suc m)) (suc v) P xs
       entered-marked = record {
-        long = length-set free′ v (suc m) ∙ e .marked .long;
+        long = omega (arith, length-set free′ v (suc m), e .marked .long);
         each = λ w n q.
             by-order w v
             (λ a. e .marked .each w n (sym (getD-set-other free′ v w (suc m) 0 (λ z. omega arith)) ∙ q))

@@ -197,7 +197,7 @@ module _ {p s nodes free edges : List ℕ} {k i e : ℕ} {P : Protocol} {xs : Li
       source-bounds = omega (arith, first .inside, premise-bounds .0)
 
       pub source-inside : v < length free
-      source-inside = omega (arith, source-bounds, h .feeding .marked .long)
+      source-inside = omega (arith, first .inside, h .feeding .inside, h .feeding .marked .long)
 
       module _ {free′ : List ℕ} (taken : free′ ≡ pick (isLinear P fact) (set free v 0) free) where
         left : freeIn P xs free′ (mostFacts * k) ≡ takeOne (protocolFacts P) fact list
@@ -214,7 +214,7 @@ module _ {p s nodes free edges : List ℕ} {k i e : ℕ} {P : Protocol} {xs : Li
 
         less-marked : Marked (set free v 0) (mostFacts * k) P xs
         less-marked = record {
-          long = length-set free v 0 ∙ h .feeding .marked .long;
+          long = omega (arith, length-set free v 0, h .feeding .marked .long);
           each = λ w m q.
               by-order w v
               (λ a. h .feeding .marked .each w m (sym (getD-set-other free v w 0 0 (λ z. omega arith)) ∙ q))
@@ -354,12 +354,18 @@ module _ {p s nodes free edges : List ℕ} {k e : ℕ} {P : Protocol} {xs : List
       }
 
 module _ {p s nodes : List ℕ} {n : ℕ} {P : Protocol} {xs : List Node} (r : RightNodes p s nodes n P xs) where
-  pub none-chosen : {free edges : List ℕ} → length free ≡ countTable → ((i : ℕ) → getD free i 0 ≡ 0) → FieldsFor edges (mostFacts * n) → Choosing p s nodes free edges
+  pub none-chosen : {free edges : List ℕ} → mostFacts * n ≤ length free → ((i : ℕ) → getD free i 0 ≡ 0) → FieldsFor edges (mostFacts * n) → Choosing p s nodes
+      free edges
       0 0 P xs
   none-chosen long empty table = record {
     right = subst (λ (k : ℕ). RightNodes p s nodes k P xs) (sym (r .stand .count)) r;
     within = omega arith;
-    marked = record { long = long; each = λ v m q. absurd (let z : suc m ≡ 0 = sym q ∙ empty v in omega arith); empty = λ v o. empty v };
+    marked = record {
+      long = omega (arith, r .stand .count);
+      each = λ v m q. absurd (let z : suc m ≡ 0 = sym q ∙ empty v in omega arith);
+      empty = λ v o. empty
+          v;
+    };
     few = omega arith;
     reached = record {
       so-far = [];

@@ -79,6 +79,7 @@ slice-write-free c =
       arith,
       entry-bounds h _ (inside h _ (c6 .fact-count .ensures) _ (c4 .loop-test .taken)),
       h .marked .long,
+      h .inside,
       c5 .loop
           .inv .2,
     )

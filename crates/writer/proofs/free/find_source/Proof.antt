@@ -47,7 +47,7 @@ mul-if1 c =
 shared-slice-read-if1 : tie.Need-shared-slice-read-if1 Inv-loop μ-loop
 shared-slice-read-if1 c =
     let (P, xs, h) = c .before .before .before .before .before .before .before .before .before .pre .0 in omega
-    (arith, search-end h, c .before .loop-test .taken, h .marked .long)
+    (arith, h .inside, c .before .loop-test .taken, h .marked .long)
 
 conclusion-of-requires : tie.Need-conclusion-of-requires Inv-loop μ-loop
 conclusion-of-requires c κs =
