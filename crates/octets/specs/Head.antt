@@ -60,3 +60,15 @@ stands-part {s} {at} {e} {bs} h =
 -- every element is a byte
 abbrev pub Bytes : List ℕ → Type 0
 Bytes s = (i : ℕ) → getD s i 0 < 256
+
+pub bytes-none : Bytes []
+bytes-none i = omega arith
+
+pub bytes-more : (x : ℕ) (xs : List ℕ) → x < 256 → Bytes xs → Bytes (x ∷ xs)
+bytes-more x xs h b zero = h
+bytes-more x xs h b (suc i) = b i
+
+pub bytes-join : (xs ys : List ℕ) → Bytes xs → Bytes ys → Bytes (xs ++ ys)
+bytes-join [] ys b c i = c i
+bytes-join (x ∷ xs) ys b c zero = b 0
+bytes-join (x ∷ xs) ys b c (suc i) = bytes-join xs ys (λ j. b (suc j)) c i

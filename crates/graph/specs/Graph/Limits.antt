@@ -10,11 +10,11 @@ use Rattle.lists.specs.All.{All}
 use Rattle.lists.specs.All.Laws.{all-map, all-nth, nth-all}
 use Rattle.lists.specs.Lists.{nth}
 use Rattle.lists.specs.Lists.Laws.{nth-mem, map-nth, nth-bound}
-use Rattle.octets.specs.Head.{Bytes}
+use Rattle.octets.specs.Head.{Bytes, bytes-join}
 use Rattle.number.specs.Groups.{groups, numberLimit}
-use Rattle.number.specs.Groups.Laws.{groups-one, groups-more, by-groups, groups-few}
+use Rattle.number.specs.Groups.Laws.{groups-few, groups-bytes}
 use Rattle.number.specs.Layout.{flat, listed}
-use Rattle.number.specs.Layout.Laws.{flat-short}
+use Rattle.number.specs.Layout.Laws.{flat-short, flat-bytes}
 use Rattle.rewriting.specs.Graph as theory
 use Rattle.rewriting.specs.Graph.{Place, Edge, Joins, inNode}
 use Rattle.rewriting.specs.Size.{premiseCount}
@@ -120,36 +120,14 @@ module _ (p : Protocol) (fit : Within p) where
           )
 
 -- ── bytes ──
-bytes-join : (xs ys : List ℕ) → Bytes xs → Bytes ys → Bytes (xs ++ ys)
-bytes-join [] ys b c i = c i
-bytes-join (x ∷ xs) ys b c zero = b 0
-bytes-join (x ∷ xs) ys b c (suc i) = bytes-join xs ys (λ j. b (suc j)) c i
-
-bytes-more : (x : ℕ) (xs : List ℕ) → x < 256 → Bytes xs → Bytes (x ∷ xs)
-bytes-more x xs h b zero = h
-bytes-more x xs h b (suc i) = b i
-
-bytes-none : Bytes []
-bytes-none i = omega arith
-
-groups-bytes : (n : ℕ) → Bytes (groups n)
-groups-bytes =
-    by-groups (λ n. Bytes (groups n))
-    (λ n h. subst Bytes (sym (groups-one n h)) (bytes-more n [] (omega arith) bytes-none))
-    (λ n h ih. subst Bytes (sym (groups-more n h)) (bytes-more (128 + n % 128) (groups (n / 128)) (omega arith) ih))
-
 place-bytes : (a : Place) → Bytes (encodePlace a)
 place-bytes a = bytes-join (groups (a .node)) (groups (a .index)) (groups-bytes (a .node)) (groups-bytes (a .index))
 
 edge-bytes : (e : Edge) → Bytes (encodeEdge e)
 edge-bytes e = bytes-join (encodePlace (e .source)) (encodePlace (e .target)) (place-bytes (e .source)) (place-bytes (e .target))
 
-flat-bytes : (es : List Edge) → Bytes (flat encodeEdge es)
-flat-bytes [] = bytes-none
-flat-bytes (e ∷ es) = bytes-join (encodeEdge e) (flat encodeEdge es) (edge-bytes e) (flat-bytes es)
-
 -- the bytes of a graph whose nodes' bytes are bytes
 pub graph-bytes : (xs : List Node) (es : List Edge) → Bytes (encodeNodes xs) → Bytes (encodeGraph (graph-of xs es))
 graph-bytes xs es b =
     bytes-join (encodeNodes xs) (listed encodeEdge es) b
-    (bytes-join (groups (length es)) (flat encodeEdge es) (groups-bytes (length es)) (flat-bytes es))
+    (bytes-join (groups (length es)) (flat encodeEdge es) (groups-bytes (length es)) (flat-bytes encodeEdge edge-bytes es))

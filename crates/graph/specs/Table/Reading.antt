@@ -11,7 +11,7 @@ use Rattle.octets.specs.Head.{Bytes, stands-within}
 use Rattle.number.specs.Groups.{groups, numberLimit}
 use Rattle.number.specs.Groups.Laws.{groups-some}
 use Rattle.number.specs.Layout.{flat}
-use Rattle.number.specs.Layout.Laws.{number-exact, many-exact}
+use Rattle.number.specs.Layout.Laws.{flat-long, number-exact, many-exact}
 use Rattle.number.specs.Reading.{Read, got, fault, andThen, readNumber, below, many}
 use Rattle.number.specs.Reading.Laws.{then-got, then-fault, then-then, then-ext, then-same-at}
 use Rattle.number.specs.Reading.Many.{many-split, many-snoc, many-stop, many-length, counted-got, counted-fault}
@@ -163,10 +163,6 @@ module _ (s : List ℕ) (at m : ℕ) (edges : List ℕ) (r : Numbers) (told : Nu
   edges-fault q = edges-numbers s m at ∙ then-fault (many (readNumber s) (4 * m) at) _ (as-read q)
 
 -- ── each number takes a byte at least, so a file of fewer bytes has fewer ──
-numbers-many : (ns : List ℕ) → length ns ≤ length (flat groups ns)
-numbers-many [] = omega arith
-numbers-many (n ∷ ns) = omega (arith, numbers-many ns, groups-some n, length-append (groups n) (flat groups ns))
-
 pub edges-short : (s : List ℕ) → Bytes s → (at m : ℕ) → length s < edgeFields * m → many (edge s) m at ≡ fault
 edges-short s bytes at m h = edges-numbers s m at ∙ then-fault (many (readNumber s) (4 * m) at) _ (go (many (readNumber s) (4 * m) at) refl)
   where
@@ -174,8 +170,8 @@ edges-short s bytes at m h = edges-numbers s m at ∙ then-fault (many (readNumb
     go fault q = refl
     go (got ns e) q =
         let f = many-exact s (readNumber s) (λ v. v < numberLimit) groups (number-exact s bytes) (4 * m) .form ns at e q in
-        let some : 0 < length (flat groups ns) = omega (arith, f .0 .0, numbers-many ns) in
-        absurd (omega (arith, f .0 .0, numbers-many ns, f .1 .ends, stands-within (f .1) some))
+        let some : 0 < length (flat groups ns) = omega (arith, f .0 .0, flat-long groups groups-some ns) in
+        absurd (omega (arith, f .0 .0, flat-long groups groups-some ns, f .1 .ends, stands-within (f .1) some))
 
 -- the count and then the edges
 pub edges-told : (s : List ℕ) (at n e : ℕ) (edges : List ℕ) (r : Edges) → below s (suc mostEdges) at ≡ got n e → EdgesFrom s e n edges r → EdgesRead s at edges

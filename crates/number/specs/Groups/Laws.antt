@@ -2,11 +2,12 @@
 -- one, and those of one number are never a proper prefix of another's.
 use Prim.Native.Nat.{ℕ, zero, suc, _+_, _/_, _%_, _^_, _≤_, _<_}
 use mathlib.Core.List.{List, [], _∷_, _++_}
-use mathlib.Core.Path.{_≡_, refl, ap, sym, _∙_}
+use mathlib.Core.Path.{_≡_, refl, ap, sym, _∙_, subst}
 use native.Mathlib.Omega.{arith}
 use lib.ListN.{length}
 use borrow.Author.Tests.{lt-ltb, le-ltb}
 use Rattle.lists.specs.Choice.{by-size}
+use Rattle.octets.specs.Head.{Bytes, bytes-none, bytes-more}
 use Rattle.number.specs.Groups.{groupsIn, groups}
 
 -- ── the two cases ──
@@ -68,6 +69,12 @@ groups-few (suc k) n h =
     (λ l.
     let r = groups-few k (n / 128) (omega arith) in
     omega (arith, r, ap length (groups-more n l)))
+
+pub groups-bytes : (n : ℕ) → Bytes (groups n)
+groups-bytes =
+    by-groups (λ n. Bytes (groups n))
+    (λ n h. subst Bytes (sym (groups-one n h)) (bytes-more n [] (omega arith) bytes-none))
+    (λ n h ih. subst Bytes (sym (groups-more n h)) (bytes-more (128 + n % 128) (groups (n / 128)) (omega arith) ih))
 
 -- ── the groups of one number are never a proper prefix of another's ──
 abbrev Alone : ℕ → Type 0

@@ -6,7 +6,7 @@ use mathlib.Core.Path.{_≡_, refl, ap, ap₂, sym, _∙_, subst, subst₂}
 use native.Mathlib.Omega.{arith}
 use lib.ListN.{length, drop, length-append}
 use Rattle.lists.specs.Choice.{pick, cut, clash}
-use Rattle.octets.specs.Head.{Bytes, Stands, stands-join, behind}
+use Rattle.octets.specs.Head.{Bytes, bytes-none, bytes-join, Stands, stands-join, behind}
 use Rattle.number.specs.Groups.{groups, numberLimit}
 use Rattle.number.specs.Reading.{Read, got, fault, andThen, readNumber, below, many, counted}
 use Rattle.number.specs.Reading.Laws.{cut-got, then-got}
@@ -14,7 +14,7 @@ use Rattle.number.specs.Reading.Numbers.{read-back, read-form, below-bac
 use Rattle.number.specs.Layout.{flat, listed, Exact}
 use Rattle.lists.specs.All.{All}
 
--- ── one behind the other: the bytes of two lists, and how many there are at most ──
+-- ── one behind the other: the bytes of two lists, how many there are at most and at least ──
 pub flat-append : {A : Type 0} (code : A → List ℕ) (l m : List A) → flat code (l ++ m) ≡ flat code l ++ flat code m
 flat-append code [] m = refl
 flat-append code (x ∷ xs) m = ap (λ (l : List ℕ). code x ++ l) (flat-append code xs m) ∙ sym (append-assoc (code x) (flat code xs) (flat code m))
@@ -25,6 +25,15 @@ flat-short code c (x ∷ xs) a =
     let r = flat-short code c xs (a .1) in
     let e : c * suc (length xs) ≡ c + c * length xs = omega arith in
     omega (arith, r, e, a .0, length-append (code x) (flat code xs))
+
+-- each takes a byte at least
+pub flat-long : {A : Type 0} (code : A → List ℕ) → ((x : A) → 0 < length (code x)) → (xs : List A) → length xs ≤ length (flat code xs)
+flat-long code some [] = omega arith
+flat-long code some (x ∷ xs) = omega (arith, flat-long code some xs, some x, length-append (code x) (flat code xs))
+
+pub flat-bytes : {A : Type 0} (code : A → List ℕ) → ((x : A) → Bytes (code x)) → (xs : List A) → Bytes (flat code xs)
+flat-bytes code b [] = bytes-none
+flat-bytes code b (x ∷ xs) = bytes-join (code x) (flat code xs) (b x) (flat-bytes code b xs)
 
 -- a number below n
 pub below-exact : (file : List ℕ) → Bytes file → (n : ℕ) → Exact file (below file n) (λ v. (v < n) × (v < numberLimit)) groups
