@@ -1,33 +1,52 @@
 -- Chains of places by mark, and the classes that they give. Each place that is not numbered by its name gets the number of an earlier place with
 -- the same key, found in the chain of its mark, or else its own.
-use Prim.Native.Nat.{ℕ, suc, _+_, _%_, _≤_, _<_}
+use Prim.Native.Nat.{ℕ, suc, _+_, _*_, _%_, _≤_, _<_}
 use mathlib.Core.List.{List}
 use mathlib.Core.Logic.{_↔_}
 use mathlib.Core.Path.{_≡_}
-use lib.ListN.{getD}
-use Rattle.trace.specs.Tables.{base}
+use lib.ListN.{length, getD}
+use lib.Dec.{ltb}
+use Rattle.lists.specs.Choice.{pick}
+use Rattle.steps.specs.Table.{fewNodes}
+use Rattle.trace.specs.Tables.{actionsOf, stride, placeCount, base}
 -- what is in a chain
 pub mod Laws
 -- one place more
 pub mod Steps
 
--- the heads of the chains; behind them a link for each place
-abbrev pub linksAt : ℕ
-linksAt = 4096
+-- ── a link for each place, and behind the links the heads of the chains ──
+abbrev pub mostHeads : ℕ
+mostHeads = 4096
 
--- the chain of a mark
-abbrev pub chainOf : ℕ → ℕ
-chainOf mark = mark % linksAt
+abbrev pub mostChains : ℕ
+mostChains = placeCount + mostHeads
+
+abbrev pub fewHeads : ℕ
+fewHeads = 256
+
+abbrev pub fewPlaces : ℕ
+fewPlaces = stride * actionsOf fewNodes
+
+abbrev pub fewChains : ℕ
+fewChains = fewPlaces + fewHeads
+
+-- where the head of a mark's chain stands, in chains of a size
+unfoldable pub chainOf : ℕ → ℕ → ℕ
+chainOf size mark = pick (ltb size mostChains) (fewPlaces + mark % fewHeads) (placeCount + mark % mostHeads)
+
+-- the heads are behind the links of the places before m
+abbrev pub HeadsBehind : ℕ → ℕ → Type 0
+HeadsBehind size m = (mark : ℕ) → (m ≤ chainOf size mark) × (chainOf size mark < size)
 
 -- h is 0 at the end of a chain, else a place and one
 module _ (chains : List ℕ) where
   pub data InChain : ℕ → ℕ → Type 0 where
     here : {h l : ℕ} → h ≡ suc l → InChain h l
-    later : {h l : ℕ} (r : ℕ) → h ≡ suc r → InChain (getD chains (linksAt + r) 0) l → InChain h l
+    later : {h l : ℕ} (r : ℕ) → h ≡ suc r → InChain (getD chains r 0) l → InChain h l
 
   -- a link leads to an earlier place
   abbrev pub Falls : Type 0
-  Falls = (r : ℕ) → getD chains (linksAt + r) 0 ≤ r
+  Falls = (r : ℕ) → getD chains r 0 ≤ r
 
 -- ── the classes of the places before m, from their first numbers ──
 -- it has a mark and no name
@@ -47,4 +66,4 @@ module _ {K : Type 0} (key : ℕ → K) (raw : List ℕ) where
     pub sound : (i r : ℕ) → getD chains i 0 ≡ suc r → (r < m) × Marked raw r
     pub falls : Falls chains
     -- the chain of a place's mark has one with its key
-    pub found : (q : ℕ) → q < m → Marked raw q → (l : ℕ) × (key l ≡ key q) × InChain chains (getD chains (chainOf (getD raw q 0)) 0) l
+    pub found : (q : ℕ) → q < m → Marked raw q → (l : ℕ) × (key l ≡ key q) × InChain chains (getD chains (chainOf (length chains) (getD raw q 0)) 0) l

@@ -11,18 +11,31 @@ ghost use Rattle.facts.specs.Calls.{Room};
 ghost use Rattle.steps.specs.Table.{fewNodes};
 ghost use Rattle.trace.specs.Tables.{actionsOf, stride};
 ghost use Rattle.trace.specs.Entries.{ListedAll};
-ghost use Rattle.trace.specs.Chains.{linksAt, Classed};
+ghost use Rattle.trace.specs.Chains.{chainOf, HeadsBehind, Classed};
 ghost use Rattle.trace.specs.Classes.{Walkable, Earlier, keyAt, Classing, Ready, ClassesAre};
 use crate::entries;
 use crate::numbers;
 use facts::compare;
 
-// The chains of places by mark: for each the last place that begins a class, and one; behind these, for each such place the one before it.
-const LINKS: usize = 4096;
+// The chains of places by mark: for each place that begins a class the one before it, and one; behind these links, for each chain its last place, and
+// one. Few nodes have fewer of both, since all are cleared.
+const HEADS: usize = 4096;
 
-const CHAINS: usize = LINKS + numbers::PLACES;
+const CHAINS: usize = numbers::PLACES + HEADS;
 
-const FEW_CHAINS: usize = LINKS + numbers::FEW_PLACES;
+const FEW_HEADS: usize = 256;
+
+const FEW_CHAINS: usize = numbers::FEW_PLACES + FEW_HEADS;
+
+// Where the head of a mark's chain stands in chains of a size.
+fn head_place(mark: u32, size: usize) -> usize
+    ensures { λ r. ⌜ r ≡ chainOf size mark ⌝ }
+{
+    if size < CHAINS {
+        return numbers::FEW_PLACES + mark as usize % FEW_HEADS;
+    }
+    numbers::PLACES + mark as usize % HEADS
+}
 
 // A place in the chain from a head on whose argument is the same as that of place q, and one; 0 if there is none.
 fn earlier(
@@ -35,7 +48,7 @@ fn earlier(
     head: u32,
     q: usize,
 ) -> u32
-    requires { ⌜ Asks₂ (Walkable (now p) (now s) (now nodes) (now entries) (now chains) head q) × Room (now work) factRoom × (linksAt + q ≤ length (now chains)) ⌝ }
+    requires { ⌜ Asks₂ (Walkable (now p) (now s) (now nodes) (now entries) (now chains) head q) × Room (now work) factRoom × (q ≤ length (now chains)) ⌝ }
     ensures { λ r. ⌜ Promises₂ (Walkable (now (p .entry)) (now (s .entry)) (now (nodes .entry)) (now (entries .entry)) (now (chains .entry)) head q) (λ (P : Protocol) (xs : List Node). Earlier (keyAt P xs) (now (chains .entry)) head q r) ⌝ }
 {
     let x = entries::action_of(entries[q / numbers::STRIDE]);
@@ -55,7 +68,7 @@ fn earlier(
         ) {
             return h;
         }
-        h = chains[LINKS + r];
+        h = chains[r];
     }
     0
 }
@@ -71,19 +84,19 @@ fn class_place(
     chains: &mut [u32],
     q: usize,
 )
-    requires { ⌜ Asks₃ (Classing (now p) (now s) (now nodes) (now entries) (now classes) (now chains) q) × Room (now work) factRoom × (q < length (now classes)) × (linksAt + q < length (now chains)) ⌝ }
+    requires { ⌜ Asks₃ (Classing (now p) (now s) (now nodes) (now entries) (now classes) (now chains) q) × Room (now work) factRoom × (q < length (now classes)) × HeadsBehind (length (now chains)) (q + 1) ⌝ }
     ensures { λ r. ⌜ Promises₃ (Classing (now (p .entry)) (now (s .entry)) (now (nodes .entry)) (now (entries .entry)) (now (classes .entry)) (now (chains .entry)) q) (λ (raw : List ℕ) (P : Protocol) (xs : List Node). Classed (keyAt P xs) raw (now (classes .exit)) (now (chains .exit)) (q + 1)) ⌝ }
 {
     let mark = classes[q];
     if numbers::BASE <= mark {
         return;
     }
-    let chain = mark as usize % LINKS;
+    let chain = head_place(mark, chains.len());
     let head = chains[chain];
     let h = earlier(work, p, s, nodes, entries, chains, head, q);
     if h == 0 {
         classes[q] = q as u32;
-        chains[LINKS + q] = head;
+        chains[q] = head;
         chains[chain] = (q + 1) as u32;
         return;
     }
@@ -101,7 +114,7 @@ fn class_places(
     chains: &mut [u32],
     total: usize,
 )
-    requires { ⌜ Asks₂ (Ready (now p) (now s) (now nodes) (now entries) (now classes) total) × Room (now work) factRoom × (stride * total ≤ length (now classes)) × (linksAt + stride * total ≤ length (now chains)) × ((i : ℕ) → getD (now chains) i 0 ≡ 0) ⌝ }
+    requires { ⌜ Asks₂ (Ready (now p) (now s) (now nodes) (now entries) (now classes) total) × Room (now work) factRoom × (stride * total ≤ length (now classes)) × HeadsBehind (length (now chains)) (stride * total) × ((i : ℕ) → getD (now chains) i 0 ≡ 0) ⌝ }
     ensures { λ r. ⌜ Promises₂ (Ready (now (p .entry)) (now (s .entry)) (now (nodes .entry)) (now (entries .entry)) (now (classes .entry)) total) (λ (P : Protocol) (xs : List Node). Classed (keyAt P xs) (now (classes .entry)) (now (classes .exit)) (now (chains .exit)) (stride * total)) ⌝ }
 {
     let end = numbers::STRIDE * total;

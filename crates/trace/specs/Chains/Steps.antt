@@ -8,8 +8,11 @@ use lib.ListN.{length, getD, set, length-set}
 use lib.Seq.{getD-set-same, getD-set-other}
 use Rattle.lists.specs.Choice.{by-order}
 use Rattle.trace.specs.Tables.{base}
-use Rattle.trace.specs.Chains.{linksAt, chainOf, InChain, here, later, Falls, Marked, Classed}
+use Rattle.trace.specs.Chains.{chainOf, HeadsBehind, InChain, here, later, Falls, Marked, Classed}
 use Rattle.trace.specs.Chains.Laws.{chain-kept}
+
+by-test : {C : Type 0} (i j : ℕ) → (i ≡ j → C) → ((i ≡ j → ⊥) → C) → C
+by-test i j f g = by-order i j (λ a. g (λ z. omega arith)) f (λ a. g (λ z. omega arith))
 
 module _ {K : Type 0} (key : ℕ → K) (raw : List ℕ) where
   -- ── at the start ──
@@ -20,7 +23,7 @@ module _ {K : Type 0} (key : ℕ → K) (raw : List ℕ) where
     low = λ q l k. absurd (omega arith);
     same = λ q r l. absurd (omega arith);
     sound = λ i r e. absurd (omega (arith, none i, e));
-    falls = λ r. omega (arith, none (linksAt + r));
+    falls = λ r. omega (arith, none r);
     found = λ q l. absurd (omega arith);
   }
 
@@ -94,19 +97,20 @@ module _ {K : Type 0} (key : ℕ → K) (raw : List ℕ) where
           found = λ q l k. leader q l k (by q l k);
         }
           where
-            leader : (q : ℕ) → q < m + 1 → Marked raw q → By q → (l : ℕ) × (key l ≡ key q) × InChain chains (getD chains (chainOf (getD raw q 0)) 0) l
+            leader : (q : ℕ) → q < m + 1 → Marked raw q → By q → (l : ℕ) × (key l ≡ key q) × InChain chains
+                (getD chains (chainOf (length chains) (getD raw q 0)) 0) l
             leader q b k a =
                 let (l, e, i) = c .found (a .at) (a .at-less) (a .at-marked) in (
                   l,
                   e ∙ sym (a .keys),
-                  subst (λ (h : ℕ). InChain chains (getD chains (chainOf h) 0) l)
+                  subst (λ (h : ℕ). InChain chains (getD chains (chainOf (length chains) h) 0) l)
                       (marks (a .at) q (omega (arith, a .at-less)) b (a .at-marked) k (sym (a .keys))) i,
                 )
 
       -- ── none has it ──
-      module _ (new : (q : ℕ) → q < m → Marked raw q → key q ≡ key m → ⊥) (long : linksAt + m < length chains) where
+      module _ (new : (q : ℕ) → q < m → Marked raw q → key q ≡ key m → ⊥) (behind : HeadsBehind (length chains) (m + 1)) where
         abbrev chain : ℕ
-        chain = chainOf (getD raw m 0)
+        chain = chainOf (length chains) (getD raw m 0)
 
         abbrev head : ℕ
         head = getD chains chain 0
@@ -115,10 +119,19 @@ module _ {K : Type 0} (key : ℕ → K) (raw : List ℕ) where
         classes₂ = set classes m m
 
         abbrev chains₁ : List ℕ
-        chains₁ = set chains (linksAt + m) head
+        chains₁ = set chains m head
 
         abbrev chains₂ : List ℕ
         chains₂ = set chains₁ chain (m + 1)
+
+        chain-behind : m < chain
+        chain-behind = omega (arith, behind (getD raw m 0) .0)
+
+        long : m < length chains
+        long = omega (arith, behind (getD raw m 0) .1, chain-behind)
+
+        same-size : length chains ≡ length chains₂
+        same-size = sym (length-set chains₁ chain (m + 1) ∙ length-set chains m head)
 
         class-here : getD classes₂ m 0 ≡ m
         class-here = getD-set-same classes m m 0 room
@@ -127,16 +140,16 @@ module _ {K : Type 0} (key : ℕ → K) (raw : List ℕ) where
         class-old q n = getD-set-other classes m q m 0 n
 
         head-new : getD chains₂ chain 0 ≡ suc m
-        head-new = getD-set-same chains₁ chain (m + 1) 0 (omega (arith, marked, long, length-set chains (linksAt + m) head)) ∙ omega arith
+        head-new = getD-set-same chains₁ chain (m + 1) 0 (omega (arith, behind (getD raw m 0) .1, length-set chains m head)) ∙ omega arith
 
-        other : (i : ℕ) → (i ≡ chain → ⊥) → (i ≡ linksAt + m → ⊥) → getD chains₂ i 0 ≡ getD chains i 0
-        other i a b = getD-set-other chains₁ chain i (m + 1) 0 a ∙ getD-set-other chains (linksAt + m) i head 0 b
+        other : (i : ℕ) → (i ≡ chain → ⊥) → (i ≡ m → ⊥) → getD chains₂ i 0 ≡ getD chains i 0
+        other i a b = getD-set-other chains₁ chain i (m + 1) 0 a ∙ getD-set-other chains m i head 0 b
 
-        link-new : getD chains₂ (linksAt + m) 0 ≡ head
-        link-new = getD-set-other chains₁ chain (linksAt + m) (m + 1) 0 (λ z. omega arith) ∙ getD-set-same chains (linksAt + m) head 0 long
+        link-new : getD chains₂ m 0 ≡ head
+        link-new = getD-set-other chains₁ chain m (m + 1) 0 (λ z. omega (arith, z, chain-behind)) ∙ getD-set-same chains m head 0 long
 
-        link-old : (r : ℕ) → r < m → getD chains₂ (linksAt + r) 0 ≡ getD chains (linksAt + r) 0
-        link-old r l = other (linksAt + r) (λ z. omega arith) (λ z. omega arith)
+        link-old : (r : ℕ) → r < m → getD chains₂ r 0 ≡ getD chains r 0
+        link-old r l = other r (λ z. omega (arith, z, l, chain-behind)) (λ z. omega arith)
 
         kept-chain : (i l : ℕ) → InChain chains (getD chains i 0) l → InChain chains₂ (getD chains i 0) l
         kept-chain i l s = chain-kept chains₂ m (c .falls) link-old s (head-low i)
@@ -167,45 +180,41 @@ module _ {K : Type 0} (key : ℕ → K) (raw : List ℕ) where
         sound-new i r e =
             by-test i chain
             (λ a. let z : m ≡ r = omega (arith, e, ap (λ (k : ℕ). getD chains₂ k 0) a, head-new) in (omega arith, subst (Marked raw) z marked))
-            (λ a. by-test i (linksAt + m)
+            (λ a. by-test i m
             (λ b. wider r (c .sound chain r (sym link-new ∙ sym (ap (λ (k : ℕ). getD chains₂ k 0) b) ∙ e)))
             (λ b. wider r (c .sound i r (sym (other i a b) ∙ e))))
           where
             wider : (r : ℕ) → (r < m) × Marked raw r → (r < m + 1) × Marked raw r
             wider r s = (omega (arith, s .0), s .1)
 
-            by-test : {C : Type 0} (i j : ℕ) → (i ≡ j → C) → ((i ≡ j → ⊥) → C) → C
-            by-test i j f g = by-order i j (λ a. g (λ z. omega arith)) f (λ a. g (λ z. omega arith))
-
         falls-new : Falls chains₂
         falls-new r =
-            by-order r m
-            (λ a. omega (arith, link-old r a, c .falls r))
-            (λ a. omega (arith, ap (λ (k : ℕ). getD chains₂ (linksAt + k) 0) a, link-new, head-low chain, a))
-            (λ a. omega (arith, other (linksAt + r) (λ z. omega arith) (λ z. omega arith), c .falls r))
+            by-test r chain
+            (λ a. omega (arith, ap (λ (k : ℕ). getD chains₂ k 0) a, head-new, chain-behind, a))
+            (λ a. by-test r m
+            (λ b. omega (arith, ap (λ (k : ℕ). getD chains₂ k 0) b, link-new, head-low chain, b))
+            (λ b. omega (arith, other r a b, c .falls r)))
 
-        found-new : (q : ℕ) → q < m + 1 → Marked raw q → (l : ℕ) × (key l ≡ key q) × InChain chains₂ (getD chains₂ (chainOf (getD raw q 0)) 0) l
+        abbrev chainAt : ℕ → ℕ
+        chainAt q = chainOf (length chains) (getD raw q 0)
+
+        found-old : (q l : ℕ) → InChain chains (getD chains (chainAt q) 0) l → InChain chains₂ (getD chains₂ (chainAt q) 0) l
+        found-old q l i =
+            by-test (chainAt q) chain
+            (λ a.
+            later m (ap (λ (j : ℕ). getD chains₂ j 0) a ∙ head-new)
+            (subst (λ (h : ℕ). InChain chains₂ h l) (ap (λ (j : ℕ). getD chains j 0) a ∙ sym link-new) (kept-chain (chainAt q) l i)))
+            (λ n.
+            subst (λ (h : ℕ). InChain chains₂ h l) (sym (other (chainAt q) n (λ z. omega (arith, z, behind (getD raw q 0) .0)))) (kept-chain (chainAt q) l i))
+
+        found-new :
+            (q : ℕ) → q < m + 1 → Marked raw q → (l : ℕ) × (key l ≡ key q) × InChain chains₂ (getD chains₂ (chainOf (length chains₂) (getD raw q 0)) 0) l
         found-new q l k =
-            by-order q m
-            (λ a. let (x, e, i) = c .found q a k in (x, e, old q x k i))
-            (λ a. (m, sym (ap key a), here (ap (λ (i : ℕ). getD chains₂ (chainOf (getD raw i 0)) 0) a ∙ head-new)))
-            (λ a. absurd (omega arith))
-          where
-            old :
-                (q x : ℕ) → Marked raw q → InChain chains (getD chains (chainOf (getD raw q 0)) 0) x
-                → InChain chains₂ (getD chains₂ (chainOf (getD raw q 0)) 0) x
-            old q x k i =
-                by-order (chainOf (getD raw q 0)) chain
-                (λ a. same q x k i (λ z. omega arith))
-                (λ a.
-                later m (ap (λ (j : ℕ). getD chains₂ j 0) a ∙ head-new)
-                (subst (λ (h : ℕ). InChain chains₂ h x) (ap (λ (j : ℕ). getD chains j 0) a ∙ sym link-new) (kept-chain (chainOf (getD raw q 0)) x i)))
-                (λ a. same q x k i (λ z. omega arith))
-              where
-                same : (q x : ℕ) → Marked raw q → InChain chains (getD chains (chainOf (getD raw q 0)) 0) x → (chainOf (getD raw q 0) ≡ chain → ⊥)
-                    → InChain chains₂ (getD chains₂ (chainOf (getD raw q 0)) 0) x
-                same q x k i n =
-                    subst (λ (h : ℕ). InChain chains₂ h x) (sym (other (chainOf (getD raw q 0)) n (λ z. omega arith))) (kept-chain (chainOf (getD raw q 0)) x i)
+            subst (λ (n : ℕ). (l : ℕ) × (key l ≡ key q) × InChain chains₂ (getD chains₂ (chainOf n (getD raw q 0)) 0) l) same-size
+            (by-order q m
+            (λ a. let (x, e, i) = c .found q a k in (x, e, found-old q x i))
+            (λ a. (m, sym (ap key a), here (ap (λ (i : ℕ). getD chains₂ (chainAt i) 0) a ∙ head-new)))
+            (λ a. absurd (omega arith)))
 
         pub classed-new : Classed key raw classes₂ chains₂ (m + 1)
         classed-new = record {

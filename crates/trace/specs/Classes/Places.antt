@@ -14,7 +14,7 @@ use Rattle.steps.specs.Nodes.{Node}
 use Rattle.steps.specs.Values.Parts.{noTerm}
 use Rattle.trace.specs.Tables.{base, stride, placeCount, mostActions, actionsIn}
 use Rattle.trace.specs.Entries.Laws.{actions-few, total-few}
-use Rattle.trace.specs.Chains.{linksAt, chainOf, InChain, Classed, Marked}
+use Rattle.trace.specs.Chains.{chainOf, HeadsBehind, InChain, Classed, Marked}
 use Rattle.trace.specs.Chains.Laws.{chain-has}
 use Rattle.trace.specs.Chains.Steps.{head-low, classed-past, classed-same, classed-new}
 use Rattle.trace.specs.Numbers.{formNumber, argumentNumber, placeNumber, NumberedTo}
@@ -63,13 +63,13 @@ module _ {p s nodes entries classes chains : List ℕ} {m : ℕ} {raw : List ℕ
     places i r e =
         let s = g .classed .sound i r e in marked-place (g .numbered) r (omega (arith, s .0, g .less)) (s .1)
 
-    pub classing-walkable : Walkable p s nodes entries chains (getD chains (chainOf (getD classes m 0)) 0) m P xs
-    classing-walkable = record {
+    pub classing-walkable : (chain : ℕ) → Walkable p s nodes entries chains (getD chains chain 0) m P xs
+    classing-walkable chain = record {
       listed = g .listed;
       place = marked-place (g .numbered) m (g .less) is-marked;
-      first = places (chainOf (getD classes m 0));
+      first = places chain;
       links = places;
-      low = head-low (keyAt P xs) raw (g .classed) (chainOf (getD classes m 0));
+      low = head-low (keyAt P xs) raw (g .classed) chain;
       falls = g .classed .falls;
     }
 
@@ -79,10 +79,10 @@ module _ {p s nodes entries classes chains : List ℕ} {m : ℕ} {raw : List ℕ
         marked-number (g .numbered) q (omega (arith, l, g .less)) k ∙ ap formNumber e
         ∙ sym (marked-number (g .numbered) r (omega (arith, n, g .less)) j)
 
-    module _ (room : m < length classes) {h : ℕ} (a : Earlier (keyAt P xs) chains (getD chains (chainOf (getD classes m 0)) 0) m h) where
+    module _ (room : m < length classes) (chain : ℕ) {h : ℕ} (a : Earlier (keyAt P xs) chains (getD chains chain 0) m h) where
       found-before : (r : ℕ) → h ≡ suc r → (r < m) × Marked raw r
       found-before r e =
-          chain-has (λ q. (q < m) × Marked raw q) (g .classed .sound) (a .somewhere r e .0) (g .classed .sound (chainOf (getD classes m 0)))
+          chain-has (λ q. (q < m) × Marked raw q) (g .classed .sound) (a .somewhere r e .0) (g .classed .sound chain)
 
       pub found-small : (r : ℕ) → h ≡ suc r → r < length classes
       found-small r e = omega (arith, found-before r e .0, room)
@@ -92,21 +92,23 @@ module _ {p s nodes entries classes chains : List ℕ} {m : ℕ} {raw : List ℕ
           let (l, o) = found-before r e in
           classed-same (keyAt P xs) raw (g .classed) room is-marked marks r l o (a .somewhere r e .1)
 
-      -- the chain of its mark would have one with its form
-      new : h ≡ 0 → (q : ℕ) → q < m → Marked raw q → keyAt P xs q ≡ keyAt P xs m → ⊥
-      new z q l k e =
-          let (x, d, i) = g .classed .found q l k in
-          a .nowhere z x
-          (subst (λ (j : ℕ). InChain chains (getD chains (chainOf j) 0) x) (marks q m (omega arith) (omega arith) k is-marked e ∙ sym same-raw) i) (d ∙ e)
+      module _ (is : chain ≡ chainOf (length chains) (getD classes m 0)) where
+        -- the chain of its mark would have one with its form
+        new : h ≡ 0 → (q : ℕ) → q < m → Marked raw q → keyAt P xs q ≡ keyAt P xs m → ⊥
+        new z q l k e =
+            let (x, d, i) = g .classed .found q l k in
+            a .nowhere z x
+            (subst (λ (j : ℕ). InChain chains (getD chains j 0) x)
+            (ap (chainOf (length chains)) (marks q m (omega arith) (omega arith) k is-marked e ∙ sym same-raw) ∙ sym is) i) (d ∙ e)
 
-      pub class-new :
-          h ≡ 0 → linksAt + m < length chains
-          → Classed (keyAt P xs) raw (set classes m m)
-          (set (set chains (linksAt + m) (getD chains (chainOf (getD classes m 0)) 0)) (chainOf (getD classes m 0)) (m + 1)) (m + 1)
-      class-new z long =
-          subst (λ (j : ℕ). Classed (keyAt P xs) raw (set classes m m) (set (set chains (linksAt + m) (getD chains (chainOf j) 0)) (chainOf j) (m + 1))
-          (m + 1)) (sym same-raw)
-          (classed-new (keyAt P xs) raw (g .classed) room is-marked marks (new z) long)
+        pub class-new :
+            h ≡ 0 → HeadsBehind (length chains) (m + 1)
+            → Classed (keyAt P xs) raw (set classes m m)
+            (set (set chains m (getD chains chain 0)) chain (m + 1)) (m + 1)
+        class-new z behind =
+            subst (λ (j : ℕ). Classed (keyAt P xs) raw (set classes m m) (set (set chains m (getD chains j 0)) j (m + 1)) (m + 1))
+            (ap (chainOf (length chains)) (sym same-raw) ∙ sym is)
+            (classed-new (keyAt P xs) raw (g .classed) room is-marked marks (new z) behind)
 
 -- ── all places ──
 module _ {p s nodes entries raw : List ℕ} {total : ℕ} {P : Protocol} {xs : List Node} (r : Ready p s nodes entries raw total P xs) where

@@ -1,5 +1,5 @@
 -- The arguments at two places, compared; the chain of a place, walked.
-use Prim.Native.Nat.{ℕ, suc, _+_, _-_, _/_, _%_, _<_}
+use Prim.Native.Nat.{ℕ, suc, _-_, _/_, _%_, _<_}
 use mathlib.Core.List.{List}
 use mathlib.Core.Bool.{Bool, true}
 use mathlib.Core.Logic.{_↔_}
@@ -22,7 +22,7 @@ use Rattle.facts.specs.Calls.Meaning.{fact-formed}
 use Rattle.trace.specs.Tables.{ar, stride, placeCount}
 use Rattle.trace.specs.Entries.{actionId, Listed}
 use Rattle.trace.specs.Entries.Laws.{actions-few}
-use Rattle.trace.specs.Chains.{linksAt, here, later}
+use Rattle.trace.specs.Chains.{here, later}
 use Rattle.trace.specs.Chains.Laws.{chain-ends, chain-behind}
 use Rattle.trace.specs.Numbers.{ActionOf}
 use Rattle.trace.specs.Numbers.Places.{listed-action}
@@ -35,9 +35,9 @@ module _ {p s nodes entries chains : List ℕ} {head q : ℕ} {P : Protocol} {xs
 
   module _ {h : ℕ} (g : Walking P xs chains head q h) where
     pub walking-next :
-        (r : ℕ) → h ≡ suc r → (keyAt P xs r ≡ keyAt P xs q → ⊥) → Walking P xs chains head q (getD chains (linksAt + r) 0)
+        (r : ℕ) → h ≡ suc r → (keyAt P xs r ≡ keyAt P xs q → ⊥) → Walking P xs chains head q (getD chains r 0)
     walking-next r e n = record {
-      places = w .links (linksAt + r);
+      places = w .links r;
       low = omega (arith, w .falls r, e, g .low);
       back = λ l i. g .back l (later r e i);
       left = λ l i k. chain-behind (g .left l i k) r e (λ z. n (ap (keyAt P xs) (sym z) ∙ k));

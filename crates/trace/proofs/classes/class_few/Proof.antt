@@ -1,10 +1,8 @@
 -- Chains for few nodes are empty and long enough, so the classes made over them are what is promised.
 use Rattle.trace.specs.Classes.Exact.{classes-made}
-use Rattle.trace.specs.Chains.{linksAt}
-use Rattle.steps.specs.Table.{fewNodes}
-use Rattle.trace.specs.Tables.{actionsOf, stride}
+use Rattle.trace.specs.Chains.{fewChains}
+use Rattle.trace.specs.Chains.Laws.{few-behind}
 use Rattle.lists.specs.Lists.Laws.{zeros-at}
-use Prim.Native.Nat.{_+_, _*_}
 use native.Mathlib.Omega.{arith}
 use borrow.Author.Needs.{needs}
 use Rattle.trace.proofs.classes.class_few.Statement.{statement}
@@ -16,7 +14,7 @@ slice-aggregate-class-places c = search needs
 class-places-requires : tie.Need-class-places-requires
 class-places-requires c κs =
     let c9 = c .before .before .before .before .before .before .before .before .before in
-    (c9 .pre .0, c9 .pre .1, c9 .pre .2, omega (arith, c9 .pre .3), λ i. zeros-at (linksAt + stride * actionsOf fewNodes) i)
+    (c9 .pre .0, c9 .pre .1, c9 .pre .2, few-behind (omega (arith, c9 .pre .3)), λ i. zeros-at fewChains i)
 
 same-length : tie.Need-same-length
 same-length c = search needs

@@ -1,10 +1,9 @@
 -- Chains for the most nodes are empty and long enough, so the classes made over them are what is promised.
 use Rattle.trace.specs.Classes.Exact.{classes-made}
 use Rattle.trace.specs.Classes.Places.{ready-few}
-use Rattle.trace.specs.Chains.{linksAt}
-use Rattle.trace.specs.Tables.{placeCount}
+use Rattle.trace.specs.Chains.{mostChains}
+use Rattle.trace.specs.Chains.Laws.{most-behind}
 use Rattle.lists.specs.Lists.Laws.{zeros-at}
-use Prim.Native.Nat.{_+_}
 use native.Mathlib.Omega.{arith}
 use borrow.Author.Needs.{needs}
 use Rattle.trace.proofs.classes.class_many.Statement.{statement}
@@ -16,7 +15,7 @@ slice-aggregate-class-places c = search needs
 class-places-requires : tie.Need-class-places-requires
 class-places-requires c κs =
     let c9 = c .before .before .before .before .before .before .before .before .before in
-    (c9 .pre .0, c9 .pre .1, c9 .pre .2, omega (arith, ready-few (c9 .pre .0 .2)), λ i. zeros-at (linksAt + placeCount) i)
+    (c9 .pre .0, c9 .pre .1, c9 .pre .2, most-behind (omega (arith, ready-few (c9 .pre .0 .2))), λ i. zeros-at mostChains i)
 
 same-length : tie.Need-same-length
 same-length c = search needs

@@ -3,14 +3,15 @@ use borrow.Author.Needs.{needs}
 use denote.Ref.{now}
 use native.Mathlib.Omega.{arith}
 use lib.ListN.{length}
-use mathlib.Core.Path.{_≡_, subst}
+use mathlib.Core.Path.{_≡_, sym, subst}
 use mathlib.Core.List.{List}
-use Prim.Native.Nat.{ℕ, _*_, _-_, _≤_}
+use Prim.Native.Nat.{ℕ, _+_, _*_, _-_, _≤_}
 use Rattle.steps.specs.Nodes.{Node}
 use Rattle.lists.specs.Asks.{Promises₂}
 use Rattle.protocol.specs.Protocol.{Protocol}
 use Rattle.facts.specs.Owed.{room-kept}
-use Rattle.trace.specs.Chains.{Classed}
+use Rattle.trace.specs.Chains.{HeadsBehind, Classed}
+use Rattle.trace.specs.Chains.Laws.{behind-less}
 use Rattle.trace.specs.Chains.Steps.{classed-none}
 use Rattle.trace.specs.Classes.{Ready, keyAt}
 use Rattle.trace.specs.Classes.Places.{ready-few, ready-classing}
@@ -49,7 +50,7 @@ class-place-requires c κs =
       (now (c12 .args .classes), P, xs, ready-classing r _ (c3 .loop-test .taken) (c4 .loop .inv .4 P xs r)),
       room-kept _ _ _ (c4 .loop .inv .1) (c12 .pre .1),
       omega (arith, c4 .loop .inv .2, c12 .pre .2, c3 .loop-test .taken),
-      omega (arith, c4 .loop .inv .3, c12 .pre .3, c3 .loop-test .taken),
+      subst (λ (n : ℕ). HeadsBehind n (c4 .loop .q + 1)) (sym (c4 .loop .inv .3)) (behind-less (c12 .pre .3) (omega (arith, c3 .loop-test .taken))),
     )
 
 add-q : tie.Need-add-q Inv-loop μ-loop

@@ -95,15 +95,6 @@ returns c =
     (keys-test (w .listed) _ _ (w .place) i _ (c9 .action-of .ensures) _ (c5 .action-of2 .ensures) _
     (c3 .same-argument .ensures P _ _ (two-places (w .listed) _ _ (w .place) i _ (c9 .action-of .ensures) _ (c5 .action-of2 .ensures))) .0 (c .if1 .taken))
 
-add-h : tie.Need-add-h Inv-loop μ-loop
-add-h c =
-    let c7 = c .before .before .before .before .before .before .before in
-    let c8 = c7 .before in
-    let c17 = c8 .before .before .before .before .before .before .before .before .before in
-    let (P, xs, w) = c17 .pre .0 in
-    let e : c8 .loop .h ≡ suc (c8 .loop .h - 1) = omega (arith, c7 .loop-test .taken) in
-    omega (arith, place-small (w .listed) _ (c8 .loop .inv .1 P xs w .places _ e))
-
 mul-h : tie.Need-mul-h Inv-loop μ-loop
 mul-h c =
     let c7 = c .before .before .before .before .before .before .before in
@@ -172,7 +163,6 @@ earlier-spec =
     same-argument-requires
     same-length
     returns
-    add-h
     mul-h
     shared-slice-read-h
     loop-less
