@@ -38,9 +38,6 @@ abbrev pub part : Region → List ℕ → List ℕ
 part r work = take (r .to - r .from) (drop (r .from) work)
 
 module _ (work : List ℕ) (area : Area work) where
-  pub counts-length : length (take countTable work) ≡ countTable
-  counts-length = length-take-le countTable work (omega arith)
-
   pub facts-length : length (part facts work) ≡ 2 * factRoom
   facts-length = length-take-le (2 * factRoom) (drop countTable work) (omega (arith, length-drop countTable work))
 

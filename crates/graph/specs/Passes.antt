@@ -100,19 +100,21 @@ module _ {p s nodes : List ℕ} {j : ℕ} {P : Protocol} {x : Node} (h : NodeIn 
   number-is = omega arith
 
   pub premises-by :
-      (uses : List ℕ) (es : List Edge) → Into uses es → allBelow (fedAt uses j) (length (factsOf P premiseList x))
+      (uses : List ℕ) (es : List Edge) → mostFacts * (j + 1) ≤ length uses → Into uses es → allBelow (fedAt uses j) (length (factsOf P premiseList x))
       ≡ premisesOk (protocolFacts P) es (j + 1) (rewritten P x)
-  premises-by uses es counts =
+  premises-by uses es room counts =
       all-placed (oneInto (protocolFacts P) es) noFact (suc j) _ (factsOf P premiseList x) (λ i l.
-      ap (λ (c : ℕ). eqb c 1) (counts j i (h .few) (omega (arith, few premiseList))) ∙ capped-one (into (place-of (suc j) (suc i)) es))
+      ap (λ (c : ℕ). eqb c 1) (counts j i (omega (arith, few premiseList)) (omega (arith, few premiseList, room))) ∙ capped-one
+      (into (place-of (suc j) (suc i)) es))
       ∙ ap (λ (k : ℕ). premisesOk (protocolFacts P) es k (rewritten P x)) number-is
 
   pub conclusions-by :
-      (uses : List ℕ) (es : List Edge) → OutOf uses es
+      (uses : List ℕ) (es : List Edge) → mostFacts * (j + 1) ≤ length uses → OutOf uses es
       → allBelow (freeAt P x uses j) (length (factsOf P conclusionList x))
       ≡ conclusionsOk (protocolFacts P) es (j + 1) (rewritten P x)
-  conclusions-by uses es counts =
+  conclusions-by uses es room counts =
       all-placed (oneOut (protocolFacts P) es) noFact (suc j) _ (factsOf P conclusionList x) (λ i l.
       ap (λ (b : Bool). not (isLinear P (factAt P conclusionList i x)) || b)
-      (ap (λ (c : ℕ). leb c 1) (counts j i (h .few) (omega (arith, few conclusionList))) ∙ capped-few (outOf (place-of (suc j) (suc i)) es)))
+      (ap (λ (c : ℕ). leb c 1) (counts j i (omega (arith, few conclusionList)) (omega (arith, few conclusionList, room))) ∙ capped-few
+      (outOf (place-of (suc j) (suc i)) es)))
       ∙ ap (λ (k : ℕ). conclusionsOk (protocolFacts P) es k (rewritten P x)) number-is

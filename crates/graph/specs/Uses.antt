@@ -44,19 +44,21 @@ pub record EndInside (a : Place) : Type 0 where
   pub node-few : a .node ≤ mostNodes
   pub index-few : a .index ≤ mostFacts
 
-pub record EndsInside (edges : List ℕ) (m field : ℕ) : Type 0 where
+-- the ends at a field of m edges have counts in a table of a size
+pub record EndsInside (edges : List ℕ) (m field size : ℕ) : Type 0 where
   pub inside : (j : ℕ) → j < m → EndInside (endAt edges (edgeFields * j + field))
+  pub counted : (j : ℕ) → j < m → countPlace (endAt edges (edgeFields * j + field)) < size
   pub listed : (j : ℕ) → j < m → edgeFields * j + field + 1 < length edges
 
--- ── what stands there: of fact i of node k, both from 0 ──
+-- ── what stands there: of fact i of node k, both from 0, where the table has its count ──
 -- the ends at a field of m edges in their table
 abbrev pub Counted : List ℕ → ℕ → ℕ → List ℕ → Type 0
 Counted edges m field counts =
-    (k i : ℕ) → k < mostNodes → i < mostFacts
+    (k i : ℕ) → i < mostFacts → mostFacts * k + i < length counts
     → getD counts (mostFacts * k + i) 0 ≡ capped (countUp (λ j. samePlace (place-of (suc k) (suc i)) (endAt edges (edgeFields * j + field))) m)
 
 -- one end of each edge
 abbrev pub CountsOf : List ℕ → (Edge → Place) → List Edge → Type 0
 CountsOf counts end es =
-    (k i : ℕ) → k < mostNodes → i < mostFacts
+    (k i : ℕ) → i < mostFacts → mostFacts * k + i < length counts
     → getD counts (mostFacts * k + i) 0 ≡ capped (countBy (λ e. samePlace (place-of (suc k) (suc i)) (end e)) es)

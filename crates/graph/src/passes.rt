@@ -2,13 +2,14 @@
 ghost use mathlib.Core.Path.{_≡_};
 ghost use mathlib.Core.Bool.{not, _||_};
 ghost use mathlib.Core.List.{List};
-ghost use Prim.Native.Nat.{ℕ, _+_};
+ghost use Prim.Native.Nat.{ℕ, _+_, _*_, _≤_};
 ghost use lib.Dec.{leb};
 ghost use lib.ListN.{length};
 ghost use Rattle.lists.specs.Asks.{Asks₃, Promises₃};
 ghost use Rattle.lists.specs.Lists.{firstBad};
 ghost use Rattle.rewriting.specs.Graph.{Edge};
 ghost use Rattle.rewriting.specs.Checker.{premisesOk, conclusionsOk};
+ghost use Rattle.protocol.specs.Figures.{mostFacts};
 ghost use Rattle.protocol.specs.Protocol.{Protocol};
 ghost use Rattle.steps.specs.Nodes.{Node};
 ghost use Rattle.steps.specs.Facts.{isLinear};
@@ -18,7 +19,6 @@ ghost use Rattle.facts.specs.Calls.{NodeOf, ListedFact, factAt};
 ghost use Rattle.graph.specs.Graph.{Graph};
 ghost use Rattle.graph.specs.Table.{NodesOf};
 ghost use Rattle.graph.specs.Joins.{EndedOf};
-ghost use Rattle.graph.specs.Uses.{countTable};
 ghost use Rattle.graph.specs.Passes.{Into, OutOf};
 use crate::edges;
 use crate::uses;
@@ -32,7 +32,7 @@ const ONE: u8 = 1;
 
 // Whether just one edge goes into each premise of node j, from 0.
 fn premises_ok(p: &[u8], nodes: &[usize], j: usize, uses: &[u8]) -> bool
-    requires { ⌜ Asks₃ (NodeOf (now p) (now nodes) j) × (length (now uses) ≡ countTable) ⌝ }
+    requires { ⌜ Asks₃ (NodeOf (now p) (now nodes) j) × (mostFacts * (j + 1) ≤ length (now uses)) ⌝ }
     ensures { λ r. ⌜ Promises₃ (NodeOf (now (p .entry)) (now (nodes .entry)) j) (λ (s : List ℕ) (P : Protocol) (x : Node). (es : List Edge) → Into (now (uses .entry)) es → r ≡ premisesOk (protocolFacts P) es (j + 1) (rewritten P x)) ⌝ }
 {
     let count = counts::fact_count(p, nodes, j, figures::PREMISES);
@@ -50,7 +50,7 @@ fn premises_ok(p: &[u8], nodes: &[usize], j: usize, uses: &[u8]) -> bool
 
 // The least node that has a premise without exactly one edge, by the counts; 0 where there is none.
 fn least_unfed(p: &[u8], nodes: &[usize], n: usize, uses: &[u8]) -> usize
-    requires { ⌜ Asks₃ (NodesOf (now p) (now nodes) n) × (length (now uses) ≡ countTable) ⌝ }
+    requires { ⌜ Asks₃ (NodesOf (now p) (now nodes) n) × (mostFacts * n ≤ length (now uses)) ⌝ }
     ensures { λ r. ⌜ Promises₃ (NodesOf (now (p .entry)) (now (nodes .entry)) n) (λ (s : List ℕ) (P : Protocol) (xs : List Node). (es : List Edge) → Into (now (uses .entry)) es → asFound r ≡ firstBad (premisesOk (protocolFacts P) es) 1 (rewrittens P xs)) ⌝ }
 {
     let mut j: usize = 0;
@@ -80,7 +80,7 @@ fn one_out(p: &[u8], nodes: &[usize], x: FactId, count: u8) -> bool
 
 // Whether at most one edge goes out of each linear conclusion of node j, from 0.
 fn conclusions_ok(p: &[u8], nodes: &[usize], j: usize, uses: &[u8]) -> bool
-    requires { ⌜ Asks₃ (NodeOf (now p) (now nodes) j) × (length (now uses) ≡ countTable) ⌝ }
+    requires { ⌜ Asks₃ (NodeOf (now p) (now nodes) j) × (mostFacts * (j + 1) ≤ length (now uses)) ⌝ }
     ensures { λ r. ⌜ Promises₃ (NodeOf (now (p .entry)) (now (nodes .entry)) j) (λ (s : List ℕ) (P : Protocol) (x : Node). (es : List Edge) → OutOf (now (uses .entry)) es → r ≡ conclusionsOk (protocolFacts P) es (j + 1) (rewritten P x)) ⌝ }
 {
     let count = counts::fact_count(p, nodes, j, figures::CONCLUSIONS);
@@ -103,7 +103,7 @@ fn conclusions_ok(p: &[u8], nodes: &[usize], j: usize, uses: &[u8]) -> bool
 
 // The least node that has a linear conclusion used twice, by the counts; 0 where there is none.
 fn least_spent(p: &[u8], nodes: &[usize], n: usize, uses: &[u8]) -> usize
-    requires { ⌜ Asks₃ (NodesOf (now p) (now nodes) n) × (length (now uses) ≡ countTable) ⌝ }
+    requires { ⌜ Asks₃ (NodesOf (now p) (now nodes) n) × (mostFacts * n ≤ length (now uses)) ⌝ }
     ensures { λ r. ⌜ Promises₃ (NodesOf (now (p .entry)) (now (nodes .entry)) n) (λ (s : List ℕ) (P : Protocol) (xs : List Node). (es : List Edge) → OutOf (now (uses .entry)) es → asFound r ≡ firstBad (conclusionsOk (protocolFacts P) es) 1 (rewrittens P xs)) ⌝ }
 {
     let mut j: usize = 0;
@@ -126,7 +126,7 @@ pub fn premise_pass(
     m: usize,
     uses: &mut [u8],
 ) -> usize
-    requires { ⌜ Asks₃ (EndedOf (now p) (now nodes) n (now edges) m) × (length (now uses) ≡ countTable) ⌝ }
+    requires { ⌜ Asks₃ (EndedOf (now p) (now nodes) n (now edges) m) × (mostFacts * n ≤ length (now uses)) ⌝ }
     ensures { λ r. ⌜ Promises₃ (EndedOf (now (p .entry)) (now (nodes .entry)) n (now (edges .entry)) m) (λ (s : List ℕ) (P : Protocol) (g : Graph). asFound r ≡ firstBad (premisesOk (protocolFacts P) (g .edges)) 1 (rewrittens P (g .nodes))) ⌝ }
 {
     uses::count_ends(edges, m, edges::TARGET, uses);
@@ -142,7 +142,7 @@ pub fn conclusion_pass(
     m: usize,
     uses: &mut [u8],
 ) -> usize
-    requires { ⌜ Asks₃ (EndedOf (now p) (now nodes) n (now edges) m) × (length (now uses) ≡ countTable) ⌝ }
+    requires { ⌜ Asks₃ (EndedOf (now p) (now nodes) n (now edges) m) × (mostFacts * n ≤ length (now uses)) ⌝ }
     ensures { λ r. ⌜ Promises₃ (EndedOf (now (p .entry)) (now (nodes .entry)) n (now (edges .entry)) m) (λ (s : List ℕ) (P : Protocol) (g : Graph). asFound r ≡ firstBad (conclusionsOk (protocolFacts P) (g .edges)) 1 (rewrittens P (g .nodes))) ⌝ }
 {
     uses::count_ends(edges, m, edges::SOURCE, uses);

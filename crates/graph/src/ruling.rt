@@ -1,17 +1,16 @@
 // The ruling of a graph file: "front to back for 3 and 6, then 7 to 13".
-ghost use mathlib.Core.Path.{_≡_};
 ghost use mathlib.Core.List.{List};
-ghost use Prim.Native.Nat.{ℕ, _≤_};
+ghost use Prim.Native.Nat.{ℕ, _*_, _≤_};
 ghost use lib.ListN.{length};
 ghost use Rattle.lists.specs.Asks.{Asks, Promises, Asks₂, Promises₂, Asks₃, Promises₃};
 ghost use Rattle.octets.specs.Limits.{longest};
+ghost use Rattle.protocol.specs.Figures.{mostFacts};
 ghost use Rattle.protocol.specs.Protocol.{Protocol};
 ghost use Rattle.prepared.specs.Prepared.{Prepared};
 ghost use Rattle.steps.specs.Table.{RowsOf};
 ghost use Rattle.graph.specs.Graph.{Graph};
 ghost use Rattle.graph.specs.Table.{FieldsOf, GraphIn, ReadIn};
 ghost use Rattle.graph.specs.Joins.{EndedOf};
-ghost use Rattle.graph.specs.Uses.{countTable};
 ghost use Rattle.graph.specs.Area.{Area};
 ghost use Rattle.graph.specs.Ruling.{usesRuling, edgesRuling, Decided, ReadDecided, Answered};
 use crate::area;
@@ -20,6 +19,7 @@ use crate::joins;
 use crate::passes;
 use crate::reading;
 use crate::reading::GraphEnd;
+use protocol::figures;
 use steps::ruling;
 use steps::ruling::NodesRuling;
 
@@ -29,7 +29,7 @@ pub enum GraphRuling {
     Refused(usize, usize),
 }
 
-// 12 and 13 of a graph of which 10 is absent.
+// 12 and 13 of a graph of which 10 is absent. As many counts are cleared as its nodes can need.
 fn rule_uses(
     p: &[u8],
     nodes: &[usize],
@@ -38,7 +38,7 @@ fn rule_uses(
     m: usize,
     uses: &mut [u8],
 ) -> GraphRuling
-    requires { ⌜ Asks₃ (EndedOf (now p) (now nodes) n (now edges) m) × (length (now uses) ≡ countTable) ⌝ }
+    requires { ⌜ Asks₃ (EndedOf (now p) (now nodes) n (now edges) m) × (mostFacts * n ≤ length (now uses)) ⌝ }
     ensures { λ r. ⌜ Promises₃ (EndedOf (now (p .entry)) (now (nodes .entry)) n (now (edges .entry)) m) (λ (s : List ℕ) (P : Protocol) (g : Graph). Decided (usesRuling P g) g n m r) ⌝ }
 {
     let unfed = passes::premise_pass(p, nodes, n, edges, m, uses);
@@ -87,7 +87,7 @@ fn rule_edges(
         n,
         edges,
         m,
-        &mut work[area::COUNTS..area::COUNTS_END],
+        &mut work[area::COUNTS..area::COUNTS + figures::MOST_FACTS * n],
     )
 }
 

@@ -3,7 +3,7 @@ ghost use mathlib.Core.Path.{_≡_};
 ghost use Prim.Native.Nat.{_<_, _+_};
 ghost use lib.ListN.{length};
 ghost use Rattle.graph.specs.Table.{endAt};
-ghost use Rattle.graph.specs.Uses.{oneMore, countTable, countPlace, EndInside, EndsInside, Counted};
+ghost use Rattle.graph.specs.Uses.{oneMore, countPlace, EndInside, EndsInside, Counted};
 use crate::edges;
 use protocol::figures;
 
@@ -30,9 +30,9 @@ fn count_place(edges: &[u32], i: usize) -> usize
     figures::MOST_FACTS * (edges::number_at(edges, i) - 1) + (edges::number_at(edges, i + 1) - 1)
 }
 
-// Counts the ends of m edges that begin at a field of them.
+// Counts the ends of m edges that begin at a field of them, in a part that has a count for each.
 pub fn count_ends(edges: &[u32], m: usize, field: usize, counts: &mut [u8])
-    requires { ⌜ EndsInside (now edges) m field × (length (now counts) ≡ countTable) ⌝ }
+    requires { ⌜ EndsInside (now edges) m field (length (now counts)) ⌝ }
     ensures { λ r. ⌜ Counted (now (edges .entry)) m field (now (counts .exit)) ⌝ }
 {
     octets::clear(counts);

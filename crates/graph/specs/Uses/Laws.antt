@@ -4,17 +4,17 @@ use mathlib.Core.List.{List, [], _∷_}
 use mathlib.Core.Bool.{Bool, true}
 use mathlib.Core.Path.{_≡_, refl, ap, ap₂, sym, _∙_}
 use native.Mathlib.Omega.{arith}
-use lib.ListN.{length, getD, set, replicate, getD-replicate}
+use lib.ListN.{length, getD, set, replicate, length-set}
 use lib.Seq.{getD-set-same, getD-set-other}
 use Rattle.lists.specs.Tests.{by-bool, true-false}
 use Rattle.lists.specs.Lists.{bit, countBy}
+use Rattle.lists.specs.Lists.Laws.{zeros-at}
 use Rattle.rewriting.specs.Graph.{Place, Edge, samePlace}
 use Rattle.rewriting.specs.Places.Laws.{place-eq, place-self}
 use Rattle.protocol.specs.Figures.{mostFacts}
-use Rattle.steps.specs.Nodes.{mostNodes}
 use Rattle.graph.specs.Graph.{place-of}
 use Rattle.graph.specs.Table.{edgeFields, endAt, noEdge, EdgesIn}
-use Rattle.graph.specs.Uses.{capped, oneMore, countUp, countTable, countPlace, EndInside, Counted, CountsOf}
+use Rattle.graph.specs.Uses.{capped, oneMore, countUp, countPlace, EndInside, Counted, CountsOf}
 
 -- ── counts ──
 capped-more : (n : ℕ) → oneMore (capped n) ≡ capped (suc n)
@@ -36,7 +36,7 @@ up-list q r d (x ∷ xs) h =
 
 -- ── one end more ──
 -- the count of a fact after that of an end
-module _ (counts : List ℕ) (end : Place) (inside : EndInside end) (long : length counts ≡ countTable) (k i : ℕ) (l : k < mostNodes) (h : i < mostFacts) where
+module _ (counts : List ℕ) (end : Place) (inside : EndInside end) (k i : ℕ) (h : i < mostFacts) (l : mostFacts * k + i < length counts) where
   abbrev at : ℕ
   at = countPlace end
 
@@ -73,31 +73,28 @@ module _ (counts : List ℕ) (end : Place) (inside : EndInside end) (long : leng
       ∙ c ∙ ap capped m ∙ ap (λ (b : Bool). capped (n + bit b)) (sym f))
 
 module _ (edges : List ℕ) (field : ℕ) where
-  pub counted-none : (n : ℕ) → n ≡ countTable → Counted edges 0 field (replicate n 0)
-  counted-none n e k i l h = getD-replicate n (mostFacts * k + i) 0 0 (omega arith)
+  pub counted-none : (n : ℕ) → Counted edges 0 field (replicate n 0)
+  counted-none n k i h l = zeros-at n (mostFacts * k + i)
 
   pub counted-more :
-      (m : ℕ) (counts : List ℕ) → EndInside (endAt edges (edgeFields * m + field)) → length counts ≡ countTable → Counted edges m field counts
+      (m : ℕ) (counts : List ℕ) → EndInside (endAt edges (edgeFields * m + field)) → Counted edges m field counts
       → (at v : ℕ) → at ≡ countPlace (endAt edges (edgeFields * m + field)) → v ≡ oneMore (getD counts at 0)
       → Counted edges (m + 1) field (set counts at v)
-  counted-more m counts inside long came at v is more k i l h =
+  counted-more m counts inside came at v is more k i h l =
       let e : suc m ≡ m + 1 = omega arith in
+      let r : mostFacts * k + i < length counts = omega (arith, l, length-set counts at v) in
       ap (λ (n : ℕ). getD (set counts at n) (mostFacts * k + i) 0) more
       ∙ ap (λ (j : ℕ). getD (set counts j (oneMore (getD counts j 0))) (mostFacts * k + i) 0) is
-      ∙ more-at counts (endAt edges (edgeFields * m + field)) inside long k i l h _ (came k i l h)
+      ∙ more-at counts (endAt edges (edgeFields * m + field)) inside k i h r _ (came k i h r)
       ∙ ap (λ (n : ℕ). capped (countUp (λ j. samePlace (place-of (suc k) (suc i)) (endAt edges (edgeFields * j + field))) n)) e
-
-  -- the place of a count lies within the table
-  pub place-inside : (a : Place) → EndInside a → countPlace a < countTable
-  place-inside a inside = omega (arith, inside .from-one, inside .node-few, inside .index-few)
 
 -- ── of the edges that stand in the table ──
 pub counts-of :
     {edges : List ℕ} {m : ℕ} {es : List Edge} → EdgesIn edges m es → (end : Edge → Place) (field : ℕ)
     → ((j : ℕ) → j < m → end (getD es j noEdge) ≡ endAt edges (edgeFields * j + field)) → (counts : List ℕ) → Counted edges m field counts
     → CountsOf counts end es
-counts-of {edges} {m} {es} stand end field same counts came k i l h =
-    came k i l h
+counts-of {edges} {m} {es} stand end field same counts came k i h l =
+    came k i h l
     ∙ ap (λ (n : ℕ). capped (countUp (λ j. samePlace (place-of (suc k) (suc i)) (endAt edges (edgeFields * j + field))) n)) (sym (stand .count))
     ∙ ap capped (up-list _ (λ e. samePlace (place-of (suc k) (suc i)) (end e)) noEdge es
     (λ j b. ap (samePlace (place-of (suc k) (suc i))) (same j (omega (arith, stand .count)))))

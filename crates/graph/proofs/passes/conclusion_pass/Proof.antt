@@ -8,7 +8,7 @@ use Rattle.graph.proofs.passes.conclusion_pass.Tie as tie
 count-ends-requires : tie.Need-count-ends-requires
 count-ends-requires c κs =
     let c5 = c .before .before .before .before .before in
-    let (s, P, g, h) = c5 .pre .0 in (sources-inside h, c5 .pre .1)
+    let (s, P, g, h) = c5 .pre .0 in sources-inside h (c5 .pre .1)
 
 least-spent-requires : tie.Need-least-spent-requires
 least-spent-requires c κs =

@@ -83,7 +83,7 @@ returns c =
     let c9 = c5 .before .before .before .before in
     λ s P x h es counts.
     let l : c4 .loop .i < length (factsOf P conclusionList x) = omega (arith, c5 .fact-count .ensures s P x h, c3 .loop-test .taken) in
-    loop-false (freeAt P x (now (c9 .args .uses)) (c9 .args .j)) (conclusions-by h (now (c9 .args .uses)) es counts) (c4 .loop .i)
+    loop-false (freeAt P x (now (c9 .args .uses)) (c9 .args .j)) (conclusions-by h (now (c9 .args .uses)) es (c9 .pre .1) counts) (c4 .loop .i)
     (sym (c .before .one-out .ensures s P x (record { node = h; listed = l })) ∙ c .if1 .left) l
 
 returns-2 : tie.Need-returns-2 Inv-loop μ-loop
@@ -97,7 +97,7 @@ returns-2 c =
       c
           .before .loop .inv .0,
     ) in
-    loop-true (freeAt P x (now (c6 .args .uses)) (c6 .args .j)) (conclusions-by h (now (c6 .args .uses)) es counts) (c .before .loop .i)
+    loop-true (freeAt P x (now (c6 .args .uses)) (c6 .args .j)) (conclusions-by h (now (c6 .args .uses)) es (c6 .pre .1) counts) (c .before .loop .i)
     (c .before .loop .inv .1 s P x h) e
 
 pub conclusions-ok-spec : {M : Type 1} → statement M

@@ -35,7 +35,7 @@ premises-ok-requires : tie.Need-premises-ok-requires Inv-loop μ-loop
 premises-ok-requires c κs =
     let c5 = c .before .before .before .before .before in
     let (s, P, xs, h) = c5 .pre .0 in
-    ((s, P, getD xs (c .before .loop .j) noNode, node-in h (c .before .loop .j) (c .loop-test .taken)), c5 .pre .1)
+    ((s, P, getD xs (c .before .loop .j) noNode, node-in h (c .before .loop .j) (c .loop-test .taken)), omega (arith, c5 .pre .1, c .loop-test .taken))
 
 add-j : tie.Need-add-j Inv-loop μ-loop
 add-j c = search needs

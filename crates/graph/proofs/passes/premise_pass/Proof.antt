@@ -8,7 +8,7 @@ use Rattle.graph.proofs.passes.premise_pass.Tie as tie
 count-ends-requires : tie.Need-count-ends-requires
 count-ends-requires c κs =
     let c5 = c .before .before .before .before .before in
-    let (s, P, g, h) = c5 .pre .0 in (targets-inside h, c5 .pre .1)
+    let (s, P, g, h) = c5 .pre .0 in targets-inside h (c5 .pre .1)
 
 least-unfed-requires : tie.Need-least-unfed-requires
 least-unfed-requires c κs =

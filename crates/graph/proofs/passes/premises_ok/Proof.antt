@@ -64,7 +64,8 @@ returns c =
     let c8 = c4 .before .before .before .before in
     λ s P x h es counts.
     let l : c3 .loop .i < length (factsOf P premiseList x) = omega (arith, c4 .fact-count .ensures s P x h, c .before .before .loop-test .taken) in
-    loop-false (fedAt (now (c8 .args .uses)) (c8 .args .j)) (premises-by h (now (c8 .args .uses)) es counts) (c3 .loop .i) (ne-eqb _ 1 (c .if1 .left)) l
+    loop-false (fedAt (now (c8 .args .uses)) (c8 .args .j)) (premises-by h (now (c8 .args .uses)) es (c8 .pre .1) counts) (c3 .loop .i)
+    (ne-eqb _ 1 (c .if1 .left)) l
 
 returns-2 : tie.Need-returns-2 Inv-loop μ-loop
 returns-2 c =
@@ -77,7 +78,8 @@ returns-2 c =
       c .before
           .loop .inv .0,
     ) in
-    loop-true (fedAt (now (c6 .args .uses)) (c6 .args .j)) (premises-by h (now (c6 .args .uses)) es counts) (c .before .loop .i) (c .before .loop .inv .1) e
+    loop-true (fedAt (now (c6 .args .uses)) (c6 .args .j)) (premises-by h (now (c6 .args .uses)) es (c6 .pre .1) counts) (c .before .loop .i)
+    (c .before .loop .inv .1) e
 
 pub premises-ok-spec : {M : Type 1} → statement M
 premises-ok-spec =

@@ -1,14 +1,9 @@
 -- 10, then 11, then 12 and 13: the first pass that finds an item is the ruling; 11 and later may use that all ends are there.
-use Rattle.graph.specs.Area.{facts-room, counts-length}
+use Rattle.graph.specs.Area.{facts-room}
 use Rattle.graph.specs.Ruling.{usesRuling, decided-as, ended-in}
 use Rattle.steps.specs.Values.Scan.{asFound, found-refused, found-passed}
 use mathlib.Core.Path.{ap, sym, _∙_}
-use lib.ListN.{length}
-use borrow.Rule.Slice.PartMut.{take-put}
 use denote.Ref.{now}
-use Prim.Native.Nat.{_*_}
-use Rattle.facts.specs.Writing.{factRoom}
-use Rattle.graph.specs.Uses.{countTable}
 use native.Mathlib.Omega.{arith}
 use borrow.Author.Needs.{needs}
 use Rattle.graph.proofs.ruling.rule_edges.Statement.{statement}
@@ -55,6 +50,16 @@ returns-2 c =
     (ended-in h (ap asFound (sym (c5 .if1 .left)) ∙ c6 .end-pass .ensures (now (c12 .args .s)) P g h))) (c .if2 .taken) ∙ found-passed 10
     (c6 .end-pass .result) _ _ (c6 .end-pass .ensures (now (c12 .args .s)) P g h) (c5 .if1 .left))
 
+mul-rule-uses : tie.Need-mul-rule-uses
+mul-rule-uses c =
+    let c12 = c .before .before .before .before .before .before .before .before .before .before .before .before in
+    let (P, g, h) = c12 .pre .0 in omega (arith, h .nodes-in .stand .few)
+
+add-rule-uses : tie.Need-add-rule-uses
+add-rule-uses c =
+    let c12 = c .before .before .before .before .before .before .before .before .before .before .before .before in
+    let (P, g, h) = c12 .pre .0 in omega (arith, h .nodes-in .stand .few)
+
 sub-rule-uses : tie.Need-sub-rule-uses
 sub-rule-uses c = search needs
 
@@ -62,7 +67,9 @@ part-rule-uses-start : tie.Need-part-rule-uses-start
 part-rule-uses-start c = search needs
 
 part-rule-uses-end : tie.Need-part-rule-uses-end
-part-rule-uses-end c = search needs
+part-rule-uses-end c =
+    let c12 = c .before .before .before .before .before .before .before .before .before .before .before .before in
+    let (P, g, h) = c12 .pre .0 in omega (arith, h .nodes-in .stand .few, c .before .before .work .given .1, c12 .pre .1)
 
 rule-uses-requires : tie.Need-rule-uses-requires
 rule-uses-requires c κs =
@@ -72,8 +79,7 @@ rule-uses-requires c κs =
     let c13 = c7 .before .before .before .before .before .before in
     let (P, g, h) = c13 .pre .0 in (
       (now (c13 .args .s), P, g, ended-in h (ap asFound (sym (c6 .if1 .left)) ∙ c7 .end-pass .ensures (now (c13 .args .s)) P g h)),
-      ap length (take-put countTable (2 * factRoom) (now (c13 .args .work)) (c4 .fact-pass .last .0) (omega (arith, c13 .pre .1))) ∙ counts-length
-          (now (c13 .args .work)) (c13 .pre .1),
+      omega (arith, c .rule-uses-arg .given),
     )
 
 same-length-2 : tie.Need-same-length-2
@@ -105,6 +111,8 @@ rule-edges-spec =
     fact-pass-requires
     same-length
     returns-2
+    mul-rule-uses
+    add-rule-uses
     sub-rule-uses
     part-rule-uses-start
     part-rule-uses-end

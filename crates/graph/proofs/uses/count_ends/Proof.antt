@@ -5,14 +5,14 @@ use lib.ListN.{length, length-set}
 use denote.Ref.{now}
 use mathlib.Core.Path.{_≡_, sym, subst}
 use Prim.Native.Nat.{_-_, _≤_}
-use Rattle.graph.specs.Uses.Laws.{counted-none, counted-more, place-inside}
-use Rattle.graph.specs.Uses.{countTable, Counted}
+use Rattle.graph.specs.Uses.Laws.{counted-none, counted-more}
+use Rattle.graph.specs.Uses.{Counted}
 use Rattle.graph.proofs.uses.count_ends.Statement.{statement}
 use Rattle.graph.proofs.uses.count_ends.Tie as tie
 
 abbrev Inv-loop : tie.InvT-loop
 Inv-loop edges m field counts₀ j₀ counts j =
-    (j ≤ m) × (length counts ≡ countTable) × Counted edges j field counts
+    (j ≤ m) × (length counts ≡ length counts₀) × Counted edges j field counts
 
 abbrev μ-loop : tie.MeasureT-loop
 μ-loop edges m field counts₀ j₀ counts j =
@@ -25,23 +25,23 @@ loop-holds : tie.Need-loop-holds Inv-loop μ-loop
 loop-holds c =
     let c6 = c .before .before .before .before .before .before in (
       omega arith,
-      omega (arith, c .before .before .clear .kept .0, c6 .pre .1),
+      omega (arith, c .before .before .clear .kept .0),
       subst (Counted (now (c6 .args .edges)) 0 (c6 .args .field))
-          (sym (c .before .before .clear .ensures)) (counted-none (now (c6 .args .edges)) (c6 .args .field) _ (c6 .pre .1)),
+          (sym (c .before .before .clear .ensures)) (counted-none (now (c6 .args .edges)) (c6 .args .field) (length (now (c6 .args .counts)))),
     )
 
 mul-count-place : tie.Need-mul-count-place Inv-loop μ-loop
 mul-count-place c =
-    omega (arith, c .before .before .before .before .before .before .before .before .pre .0 .listed (c .before .loop .j) (c .loop-test .taken))
+    omega (arith, c .before .before .before .before .before .before .before .before .pre .listed (c .before .loop .j) (c .loop-test .taken))
 
 add-count-place : tie.Need-add-count-place Inv-loop μ-loop
 add-count-place c =
-    omega (arith, c .before .before .before .before .before .before .before .before .pre .0 .listed (c .before .loop .j) (c .loop-test .taken))
+    omega (arith, c .before .before .before .before .before .before .before .before .pre .listed (c .before .loop .j) (c .loop-test .taken))
 
 count-place-requires : tie.Need-count-place-requires Inv-loop μ-loop
 count-place-requires c κs =
     let c8 = c .before .before .before .before .before .before .before .before in
-    (c8 .pre .0 .listed (c .before .loop .j) (c .loop-test .taken), c8 .pre .0 .inside (c .before .loop .j) (c .loop-test .taken))
+    (c8 .pre .listed (c .before .loop .j) (c .loop-test .taken), c8 .pre .inside (c .before .loop .j) (c .loop-test .taken))
 
 slice-read-one-more : tie.Need-slice-read-one-more Inv-loop μ-loop
 slice-read-one-more c =
@@ -51,8 +51,7 @@ slice-read-one-more c =
       arith,
       c3 .loop .inv .1,
       c .before .count-place .ensures,
-      place-inside (now (c10 .args .edges)) (c10 .args .field) _
-          (c10 .pre .0 .inside (c3 .loop .j) (c .before .before .loop-test .taken)),
+      c10 .pre .counted (c3 .loop .j) (c .before .before .loop-test .taken),
     )
 
 one-more-requires : tie.Need-one-more-requires Inv-loop μ-loop
@@ -67,8 +66,7 @@ slice-write-counts c =
       arith,
       c4 .loop .inv .1,
       c .before .before .count-place .ensures,
-      place-inside (now (c11 .args .edges)) (c11 .args .field) _
-          (c11 .pre .0 .inside (c4 .loop .j) (c3 .loop-test .taken)),
+      c11 .pre .counted (c4 .loop .j) (c3 .loop-test .taken),
     )
 
 add-j : tie.Need-add-j Inv-loop μ-loop
@@ -85,13 +83,13 @@ loop-again c =
       omega arith,
       simp length-set (c4 .loop .inv .1),
       counted-more (now (c11 .args .edges)) (c11 .args .field) (c4 .loop .j) (c4 .loop .counts)
-          (c11 .pre .0 .inside (c4 .loop .j) (c3 .loop-test .taken)) (c4 .loop .inv .1) (c4 .loop .inv .2) _ _ (c .before .before .count-place .ensures)
+          (c11 .pre .inside (c4 .loop .j) (c3 .loop-test .taken)) (c4 .loop .inv .2) _ _ (c .before .before .count-place .ensures)
           (c .one-more .ensures),
     )
 
 same-length : tie.Need-same-length Inv-loop μ-loop
 same-length c =
-    omega (arith, c .before .loop .inv .1, c .before .before .before .before .before .before .before .before .pre .1)
+    omega (arith, c .before .loop .inv .1, c .before .before .before .before .clear .kept .0)
 
 returns : tie.Need-returns Inv-loop μ-loop
 returns c =
