@@ -12,6 +12,8 @@ pub mod Rules
 pub mod Making
 -- a function in it
 pub mod Functions
+-- a run of terms filled in as they stand
+pub mod Plain
 -- a function of made arguments, by its tag
 pub mod Closing
 -- a lent part of the output

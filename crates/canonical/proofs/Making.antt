@@ -24,7 +24,7 @@ use Rattle.canonical.specs.Contract.{Job, Out}
 use Rattle.canonical.specs.Inner.{LeafJob, Here}
 
 -- ── a job of one term and more ──
-each-small : (θ : ℕ → Term) (ts : Terms) → symbolss (subs θ ts) ≤ mostSymbols → Each (λ t. symbols (sub θ t) ≤ mostSymbols) ts
+pub each-small : (θ : ℕ → Term) (ts : Terms) → symbolss (subs θ ts) ≤ mostSymbols → Each (λ t. symbols (sub θ t) ≤ mostSymbols) ts
 each-small θ nil h = tt
 each-small θ (t & ts) h = (omega arith, each-small θ ts (omega arith))
 
@@ -140,7 +140,7 @@ leaf-made around θ variable m = refl
 leaf-made around θ public m = refl
 leaf-made around θ fresh m = refl
 
-leaf-job :
+pub leaf-job :
     (arities vals starts src : List ℕ) (at k n o tag number : ℕ) (θ : ℕ → Term) (kd : Kind) (us : Terms) → tag ≡ tagOf kd
     → Job arities vals starts src at k n o θ (leaf kd number & us) → LeafJob vals starts n o tag number θ kd
 leaf-job arities vals starts src at k n o tag number θ kd us t J = record {
@@ -161,7 +161,7 @@ module _ (arities vals starts src : List ℕ) (at k : ℕ) (out : List ℕ) (o :
 
   module _ (out₁ : List ℕ) (p : ℕ) (same : length out₁ ≡ length out) (D : Promises₂ (LeafJob vals starts (length out) o tag number)
       (λ (θ : ℕ → Term) (k : Kind). Wrote p out o out₁ p (encode (sub θ (leaf k number))))) where
-    rest-job :
+    pub rest-job :
         (θ : ℕ → Term) (kd : Kind) (us : Terms) → tag ≡ tagOf kd → next ≡ at + length (encode (leaf kd number))
         → Job arities vals starts src at k (length out) o θ (leaf kd number & us)
         → Job arities vals starts src next (k - 1) (length out₁) p θ us

@@ -23,7 +23,7 @@ ghost use Rattle.message.specs.Table.{rules};
 ghost use Rattle.message.specs.Canon.{apply, canon};
 ghost use Rattle.canonical.specs.Loose.{isProduct, beside, closed, mades};
 ghost use Rattle.canonical.specs.Contract.{Job, Out, MessageAt, MessageIn, formRoom};
-ghost use Rattle.canonical.specs.Inner.{LeafJob, Here, Built};
+ghost use Rattle.canonical.specs.Inner.{LeafJob, Here, Built, Going};
 use term::Part;
 use term::Symbol;
 
@@ -37,6 +37,13 @@ const OUTSIDE: usize = term::VARIABLE;
 pub struct Next {
     pub at: usize,
     pub o: usize,
+}
+
+// The same behind one symbol, and how many terms are left there.
+struct Onward {
+    at: usize,
+    o: usize,
+    left: usize,
 }
 
 // The first symbol of a term: a leaf with its tag and number, or a function with its tag and arity; and the place behind it.
@@ -296,6 +303,65 @@ pub fn canonical_into(
         at: n.at,
         o: o + n.o,
     }
+}
+
+// Writes the first symbol of the k terms at a place: a leaf filled in, or the tag of a function, whose arguments are left.
+fn put_symbol(
+    out: &mut [u8],
+    o: usize,
+    src: &[u8],
+    at: usize,
+    k: usize,
+    arities: &[u8],
+    vals: &[u8],
+    starts: &[usize],
+) -> Onward
+    requires { ⌜ (0 < k) × Asks₂ (Job (now arities) (now vals) (now starts) (now src) at k (length (now out)) o) ⌝ }
+    ensures { λ r. ⌜ (at < r .at) × (at < length (now (src .entry))) × Promises₂ (Job (now (arities .entry)) (now (vals .entry)) (now (starts .entry)) (now (src .entry)) at k (length (now (out .entry))) o) (Going (now (arities .entry)) (now (vals .entry)) (now (starts .entry)) (now (src .entry)) at (now (out .entry)) o (r .at) (r .left) (now (out .exit)) (r .o)) ⌝ }
+{
+    let h = first(src, arities, at);
+    let leaf = h.leaf;
+    if leaf {
+        let r = put_leaf(out, o, h.tag, h.number, vals, starts);
+        return Onward {
+            at: h.next,
+            o: r,
+            left: k - 1,
+        };
+    }
+    let r = put_number(out, o, h.tag);
+    let left = k - 1 + h.number;
+    Onward {
+        at: h.next,
+        o: r,
+        left: left,
+    }
+}
+
+// Reads k terms at a place of src as `canonical_into` does and writes them filled in, but as they stand: no canonical form is made.
+pub fn filled_into(
+    out: &mut [u8],
+    o: usize,
+    src: &[u8],
+    at: usize,
+    k: usize,
+    arities: &[u8],
+    vals: &[u8],
+    starts: &[usize],
+) -> Next
+    requires { ⌜ Asks₂ (Job (now arities) (now vals) (now starts) (now src) at k (length (now out)) o) ⌝ }
+    ensures { λ r. ⌜ Promises₂ (Job (now (arities .entry)) (now (vals .entry)) (now (starts .entry)) (now (src .entry)) at k (length (now (out .entry))) o) (λ (θ : ℕ → Term) (ts : Terms). Out (r .o) at (now (out .entry)) o (now (out .exit)) (r .at) (r .o) (encodes ts) (encodes (subs θ ts))) ⌝ }
+{
+    let mut i = at;
+    let mut e = o;
+    let mut left = k;
+    while 0 < left {
+        let p = put_symbol(out, e, src, i, left, arities, vals, starts);
+        i = p.at;
+        e = p.o;
+        left = p.left;
+    }
+    Next { at: i, o: e }
 }
 
 // Writes the canonical form of the message at a place to the start of an output.
