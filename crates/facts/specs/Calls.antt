@@ -21,7 +21,7 @@ use Rattle.facts.specs.declared.compare.Both.{Both}
 use Rattle.facts.specs.Writing.{factRoom, Has, wantedBytes, Put}
 -- a node's fact can be written
 pub mod Laws
--- facts are the same just where their symbols and canonical bytes are
+-- facts are the same just where their symbols and canonical bytes are; facts that are equal as they stand are
 pub mod Bytes
 -- what the answers mean by the ten equations
 pub mod Meaning
@@ -52,7 +52,7 @@ pub record ListedFact (p nodes : List ℕ) (a : FactId) (s : List ℕ) (P : Prot
   pub node : NodeIn p s nodes (a .node) P x
   pub listed : a .number < length (factsOf P (a .list) x)
 
--- the node stands in the table, 7 and 8 are absent from it, and it has the fact and the arguments that are wanted
+-- the node stands in the table, 7 and 8 are absent from it, and it has the fact and the argument that is wanted
 pub record FactIn (p s nodes : List ℕ) (a : FactId) (q : Wanted) (P : Protocol) (x : Node) : Type 0 where
   pub node : NodeIn p s nodes (a .node) P x
   pub right : NodeRight P x
@@ -71,7 +71,7 @@ pub record FactsIn (p s nodes : List ℕ) (a : FactId) (q : Wanted) (b : FactId)
   pub first : FactIn p s nodes a q P x
   pub second : FactIn p s nodes b r P y
 
--- ── what is promised: the fact's symbol, and the canonical bytes of the arguments that are wanted ──
+-- ── what is promised: the fact's symbol, and the bytes that are wanted ──
 pub record FactWritten (q : Wanted) (out : List ℕ) (o : ℕ) (out′ : List ℕ) (r : WrittenFact) (f : Fact) : Type 0 where
   pub symbols : r .symbol ≡ f .symbol
   pub put : Put out o out′ (r .end) (wantedBytes q f)

@@ -1,6 +1,6 @@
 -- The facts of nodes in bytes: what is written of a fact, and when two facts are the same.
 
--- the canonical bytes of a fact or of one argument: what is asked, what is promised
+-- the canonical bytes of a fact or of one argument, the bytes of a fact as it stands: what is asked, what is promised
 pub mod Writing
 -- the facts of a rule: how many a list has, their places and symbols
 pub mod Rules

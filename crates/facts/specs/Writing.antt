@@ -1,4 +1,5 @@
--- The canonical bytes of a fact, or of one argument of it: what the code is asked that writes them, and what it promises.
+-- The bytes of a fact, of the canonical forms of its arguments or of one of them, or as it stands: what the code is asked that writes them,
+-- and what it promises.
 use Prim.Native.Nat.{ℕ, _+_, _≤_, _<_, _*_}
 use mathlib.Core.List.{List, [], _∷_}
 use lib.ListN.{length, getD}
@@ -32,23 +33,22 @@ pub mod Places
 pub mod Asked
 pub mod Nodes
 
--- ── the arguments that are wanted ──
--- all, or one
-abbrev pub wantedTerms : Wanted → List Term → List Term
-wantedTerms want.All ts = ts
-wantedTerms (want.One x) ts = getD ts x noTerm ∷ []
-
--- the fact has them
+-- ── what is wanted of a fact ──
+-- it has the argument
 abbrev pub Has : Wanted → Fact → Type 0
 Has want.All f = Unit {0}
 Has (want.One x) f = x < length (f .terms)
+Has want.Plain f = Unit {0}
 
--- the bytes of all arguments as they are; of the canonical forms of those that are wanted
+-- the bytes of all arguments as they stand
 abbrev pub plainBytes : Fact → List ℕ
 plainBytes f = flat encode (f .terms)
 
+-- the bytes that are wanted
 abbrev pub wantedBytes : Wanted → Fact → List ℕ
-wantedBytes q f = canonBytes (wantedTerms q (f .terms))
+wantedBytes want.All f = canonBytes (f .terms)
+wantedBytes (want.One x) f = canonBytes (getD (f .terms) x noTerm ∷ [])
+wantedBytes want.Plain f = plainBytes f
 
 -- ── what is asked and what is promised ──
 -- as many terms as a fact can have, each with its room, and behind them room for a product
@@ -73,7 +73,7 @@ pub record Put (out : List ℕ) (o : ℕ) (out′ : List ℕ) (o′ : ℕ) (q : 
   pub wrote : Wrote (o + factRoom) out o out′ o′ q
   pub few : length q ≤ factRoom
 
--- and the fact has the arguments that are wanted
+-- and the fact has the argument that is wanted
 pub record WantedJob (p s starts : List ℕ) (place n o : ℕ) (q : Wanted) (vs : List Term) (f : Fact) : Type 0 where
   pub job : FactJob p s starts place n o vs f
   pub has : Has q f

@@ -18,7 +18,7 @@ use term::Public;
 // The tag of a public name.
 const PUBLIC: u32 = term::PUBLIC as u32;
 
-// Whether the symbols of two facts are equal, and whether the canonical bytes of the arguments that are wanted are.
+// Whether the symbols of two facts are equal, and whether the bytes that are wanted are.
 pub struct Both {
     pub symbols: bool,
     pub bytes: bool,
@@ -55,11 +55,16 @@ fn compare(
     }
 }
 
-// Whether two facts of nodes are the same. Their canonical bytes go into the output.
+// Whether two facts of nodes are the same. Facts that are equal as they stand are, so canonical forms are made of others only. The bytes go
+// into the output.
 pub fn same_fact(out: &mut [u8], p: &[u8], s: &[u8], nodes: &[usize], x: FactId, y: FactId) -> bool
     requires { ⌜ Asks₃ (FactsIn (now p) (now s) (now nodes) x Wanted.All y Wanted.All) × Room (now out) factRoom ⌝ }
     ensures { λ r. ⌜ Promises₃ (FactsIn (now (p .entry)) (now (s .entry)) (now (nodes .entry)) x Wanted.All y Wanted.All) (λ (P : Protocol) (m n : Node). r ≡ sameFact (factAt P (x .list) (x .number) m) (factAt P (y .list) (y .number) n)) ⌝ }
 {
+    let a = compare(out, p, s, nodes, x, Wanted::Plain, y, Wanted::Plain);
+    if a.symbols & a.bytes {
+        return true;
+    }
     let b = compare(out, p, s, nodes, x, Wanted::All, y, Wanted::All);
     b.symbols & b.bytes
 }

@@ -1,6 +1,6 @@
-// The facts of nodes: their canonical bytes, and when two are the same.
+// The facts of nodes: their bytes, and when two are the same.
 
-pub mod writing; // the canonical bytes of a fact, or of one argument of it
+pub mod writing; // the canonical bytes of a fact, or of one argument of it; its bytes as it stands
 pub mod nodes; // of a node's fact
 pub mod counts; // how many facts a node has
 pub mod symbols; // and their symbols

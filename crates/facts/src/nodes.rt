@@ -1,4 +1,4 @@
-// The canonical bytes of a node's fact, or of one argument of it.
+// The bytes of a node's fact: of canonical forms, or as it stands.
 ghost use mathlib.Core.Path.{_≡_};
 ghost use Rattle.lists.specs.Asks.{Asks₂, Promises₂, Asks₃};
 ghost use Rattle.protocol.specs.Protocol.{Protocol};
@@ -32,7 +32,7 @@ pub fn fact_place(p: &[u8], nodes: &[usize], x: FactId) -> usize
     finding::fact_at(p, start, x.number)
 }
 
-// The fact of a node: the canonical bytes of the arguments that are wanted go into the output from o on.
+// The fact of a node: the bytes that are wanted go into the output from o on.
 pub fn node_fact(
     out: &mut [u8],
     o: usize,

@@ -1,4 +1,4 @@
-// The canonical bytes of a fact at a place of a prepared protocol, with the values of a node filled in.
+// The bytes of a fact at a place of a prepared protocol, with the values of a node filled in: of canonical forms, or as it stands.
 ghost use mathlib.Core.List.{List};
 ghost use lib.ListN.{length};
 ghost use Rattle.steps.specs.Facts.{filledFact};
@@ -12,10 +12,11 @@ use prepared::sections;
 // The bytes that are kept free for a fact: as many terms as it can have, and behind them a product.
 pub const FACT_ROOM: usize = (protocol::figures::MOST_FACT_ARITY + 1) * term::TERM_ROOM;
 
-// The arguments of a fact that are written: all of them, or the one of a number, from 0.
+// What is written of a fact: the canonical forms of all arguments, or of the one of a number, from 0; or all arguments as they stand.
 pub enum Wanted {
     All,
     One(usize),
+    Plain,
 }
 
 // Writes the canonical bytes of the fact at a place of p, filled in with the values, into the part of the output that starts at o; the
@@ -38,6 +39,25 @@ pub fn fact_into(
     n.o
 }
 
+// Writes the bytes of that fact as it stands.
+pub fn plain_into(
+    out: &mut [u8],
+    o: usize,
+    p: &[u8],
+    place: usize,
+    s: &[u8],
+    starts: &[usize],
+) -> usize
+    requires { ⌜ Asks₂ (WantedJob (now p) (now s) (now starts) place (length (now out)) o Wanted.Plain) ⌝ }
+    ensures { λ r. ⌜ Promises₂ (WantedJob (now (p .entry)) (now (s .entry)) (now (starts .entry)) place (length (now (out .entry))) o Wanted.Plain) (λ (vs : List Term) (f : Fact). Put (now (out .entry)) o (now (out .exit)) r (wantedBytes Wanted.Plain (filledFact vs f))) ⌝ }
+{
+    let y = finding::symbol_of(p, place);
+    let k = finding::arity_of(p, y);
+    let at = finding::term_at(p, place, 0);
+    let n = canonical::filled_into(out, o, p, at, k, &p[..sections::ARITIES], s, starts);
+    n.o
+}
+
 // Writes the canonical bytes of argument j of that fact.
 pub fn argument_into(
     out: &mut [u8],
@@ -56,7 +76,7 @@ pub fn argument_into(
     n.o
 }
 
-// Writes the canonical bytes of the arguments that are wanted.
+// Writes the bytes that are wanted.
 pub fn wanted_into(
     out: &mut [u8],
     o: usize,
@@ -72,5 +92,6 @@ pub fn wanted_into(
     match wanted {
         Wanted::All => fact_into(out, o, p, place, s, starts),
         Wanted::One(j) => argument_into(out, o, p, place, j, s, starts),
+        Wanted::Plain => plain_into(out, o, p, place, s, starts),
     }
 }

@@ -28,10 +28,19 @@ use Rattle.facts.specs.declared.nodes.FactId.{FactId}
 use Rattle.facts.specs.Rules.{factStart, fact-filled, fact-here}
 use Rattle.facts.specs.Writing.{Has, FactJob, Put, WantedJob, wantedBytes}
 use Rattle.facts.specs.Writing.Nodes.{placesOf, node-job}
-use Rattle.facts.specs.Calls.{factAt, Room, ListedFact, FactIn}
+use Rattle.facts.specs.Calls.{factAt, Room, ListedFact, FactIn, FactsIn}
 
 pub fact-listed : {p s nodes : List ℕ} {a : FactId} {q : Wanted} {P : Protocol} {x : Node} → FactIn p s nodes a q P x → ListedFact p nodes a s P x
 fact-listed f = record { node = f .node; listed = f .listed }
+
+-- facts that can be asked about can be written as they stand
+pub plains-in :
+    {p s nodes : List ℕ} {a b : FactId} {P : Protocol} {x y : Node} → FactsIn p s nodes a want.All b want.All P x y
+    → FactsIn p s nodes a want.Plain b want.Plain P x y
+plains-in {p} {s} {nodes} f = record { first = plain (f .first); second = plain (f .second) }
+  where
+    plain : {a : FactId} {P : Protocol} {x : Node} → FactIn p s nodes a want.All P x → FactIn p s nodes a want.Plain P x
+    plain g = record { node = g .node; right = g .right; listed = g .listed; has = tt }
 
 -- ── a fact of a node in the table ──
 module _ {p nodes : List ℕ} {a : FactId} {s : List ℕ} {P : Protocol} {x : Node} (f : ListedFact p nodes a s P x) where
@@ -73,6 +82,7 @@ module _ {p nodes : List ℕ} {a : FactId} {s : List ℕ} {P : Protocol} {x : No
 has-filled : (q : Wanted) (vs : List Term) (f : Fact) → Has q (filledFact vs f) → Has q f
 has-filled want.All vs f h = tt
 has-filled (want.One x) vs f h = omega (arith, length-map (f .terms) (sub (valueAt vs)))
+has-filled want.Plain vs f h = tt
 
 module _ {p s nodes : List ℕ} {a : FactId} {q : Wanted} {P : Protocol} {x : Node} (f : FactIn p s nodes a q P x) where
   abbrev plain : Fact

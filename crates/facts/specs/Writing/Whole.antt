@@ -125,8 +125,8 @@ module _ (p s starts : List ℕ) (place n o : ℕ) (bytes : Bytes p) (vs : List 
 
 module _ (p s starts : List ℕ) (place : ℕ) (bytes : Bytes p) (y at k : ℕ) (hy : y ≡ valueOf (below p (length (aritiesOf p)) place))
     (hk : k ≡ getD (aritiesOf p) y 0) (ha : at ≡ termPlace p (slotsOf p) (aritiesOf p) place 0) where
-  pub fact-ready : (n o : ℕ) → Asks₂ (WantedJob p s starts place n o want.All) → Asks₂ (Job (slotsOf p) s starts p at k n o)
-  fact-ready n o r = (valueAt (r .0), terms (r .1 .terms), fact-job p s starts place n o bytes (r .0) (r .1) (r .2 .job) y at k hy hk ha)
+  pub fact-ready : (q : Wanted) (n o : ℕ) → Asks₂ (WantedJob p s starts place n o q) → Asks₂ (Job (slotsOf p) s starts p at k n o)
+  fact-ready q n o r = (valueAt (r .0), terms (r .1 .terms), fact-job p s starts place n o bytes (r .0) (r .1) (r .2 .job) y at k hy hk ha)
 
   pub fact-done :
       (out out′ : List ℕ) (o at′ o′ : ℕ) → Promises₂ (Job (slotsOf p) s starts p at k (length out) o)
@@ -144,6 +144,18 @@ module _ (p s starts : List ℕ) (place : ℕ) (bytes : Bytes p) (y at k : ℕ) 
             (done (valueAt vs) (terms (f .terms)) j .wrote));
         few = fact-few p s starts place (length out) o bytes vs f J;
       }
+
+  -- as it stands
+  pub plain-done :
+      (out out′ : List ℕ) (o at′ o′ : ℕ) → Promises₂ (Job (slotsOf p) s starts p at k (length out) o)
+      (λ (θ : ℕ → Term) (ts : Terms). Out o′ at out o out′ at′ o′ (encodes ts) (encodes (subs θ ts)))
+      → Promises₂ (WantedJob p s starts place (length out) o want.Plain)
+      (λ (vs : List Term) (f : Fact). Put out o out′ o′ (wantedBytes want.Plain (filledFact vs f)))
+  plain-done out out′ o at′ o′ done vs f w =
+      let J = w .job in
+      let d = subst (λ (q : List ℕ). Wrote o′ out o out′ o′ q) (filled-bytes (valueAt vs) (f .terms))
+      (done (valueAt vs) (terms (f .terms)) (fact-job p s starts place (length out) o bytes vs f J y at k hy hk ha) .wrote) in
+      record { wrote = widen (o + factRoom) (omega (arith, J .few, d .ends)) d; few = omega (arith, J .few) }
 
 -- ── by what is wanted ──
 module _ (p s starts : List ℕ) (place : ℕ) (v w : Wanted) (same : v ≡ w) where

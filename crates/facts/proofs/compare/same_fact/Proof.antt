@@ -1,19 +1,36 @@
--- The test of two facts is equal symbols and equal bytes, since facts of one symbol have as many arguments.
-use Rattle.facts.specs.Calls.Bytes.{same-by-bytes}
+-- The test of two facts is equal symbols and equal bytes, since facts of one symbol have as many arguments; facts that are equal as they stand pass it.
 use Rattle.facts.specs.Calls.Meaning.{fact-formed}
+use Rattle.facts.specs.Calls.Laws.{plains-in}
+use Rattle.facts.specs.Calls.Bytes.{same-by-bytes, same-by-plain}
 use borrow.Author.Needs.{needs}
 use Rattle.facts.proofs.compare.same_fact.Statement.{statement}
 use Rattle.facts.proofs.compare.same_fact.Tie as tie
 
 compare-requires : tie.Need-compare-requires
-compare-requires c κs = search needs
+compare-requires c κs =
+    let c5 = c .before .before .before .before .before in
+    let (P, m, n, f) = c5 .pre .0 in
+    ((P, m, n, plains-in f), c5 .pre .1)
 
 same-length : tie.Need-same-length
 same-length c = search needs
 
 returns : tie.Need-returns
 returns c =
-    λ P m n f. same-by-bytes P _ _ (fact-formed (f .first)) (fact-formed (f .second)) _ (c .before .before .before .compare .ensures P m n f)
+    λ P m n f. same-by-plain P _ _ (fact-formed (f .first)) (fact-formed (f .second)) _
+    (c .before .before .before .before .compare .ensures P m n (plains-in f)) (c .if1 .taken)
+
+compare-requires-2 : tie.Need-compare-requires-2
+compare-requires-2 c κs = search needs
+
+same-length-2 : tie.Need-same-length-2
+same-length-2 c = search needs
+
+returns-2 : tie.Need-returns-2
+returns-2 c =
+    λ P m n f. same-by-bytes P _ _ (fact-formed (f .first)) (fact-formed (f .second)) _ (c .before .before .before .compare2 .ensures P m n f)
 
 pub same-fact-spec : {M : Type 1} → statement M
-same-fact-spec = tie.close (tie.spec compare-requires same-length returns)
+same-fact-spec =
+    tie.close
+    (tie.spec compare-requires same-length returns compare-requires-2 same-length-2 returns-2)

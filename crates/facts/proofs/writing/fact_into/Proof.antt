@@ -38,7 +38,7 @@ canonical-into-requires c κs =
     let c7 = c4 .before .before .before in
     let c9 = c7 .before .before in
     fact-ready _ _ _ _ (λ k. c7 .shared-slice-known .given k .fits) _ _ _ (c4 .symbol-of .ensures) (c3 .arity-of .ensures)
-    (c .before .before .term-at .ensures) _ _ (c9 .pre)
+    (c .before .before .term-at .ensures) _ _ _ (c9 .pre)
 
 same-length : tie.Need-same-length
 same-length c = search needs

@@ -1,4 +1,4 @@
--- The two cases of `Wanted`.
+-- The three cases of `Wanted`.
 use Rattle.facts.specs.Writing.Whole.{ready-as, done-as}
 use borrow.Author.Needs.{needs}
 use Rattle.facts.proofs.writing.wanted_into.Statement.{statement}
@@ -18,6 +18,13 @@ argument-into-requires : tie.Need-argument-into-requires
 argument-into-requires c κs =
     ready-as _ _ _ _ _ _ (c .before .before .wanted .given .1) _ _ (c .before .before .before .before .before .before .before .before .pre)
 
+enum-told-2 : tie.Need-enum-told-2
+enum-told-2 c = search needs
+
+plain-into-requires : tie.Need-plain-into-requires
+plain-into-requires c κs =
+    ready-as _ _ _ _ _ _ (c .before .enum-told2 .given .1) _ _ (c .before .before .before .before .before .before .before .pre)
+
 same-length : tie.Need-same-length
 same-length c = search needs
 
@@ -32,6 +39,13 @@ returns-2 : tie.Need-returns-2
 returns-2 c =
     done-as _ _ _ _ _ _ (c .before .before .before .before .before .wanted .given .1) _ _ _ _ (c .before .before .argument-into .ensures)
 
+same-length-3 : tie.Need-same-length-3
+same-length-3 c = search needs
+
+returns-3 : tie.Need-returns-3
+returns-3 c =
+    done-as _ _ _ _ _ _ (c .before .before .before .before .enum-told2 .given .1) _ _ _ _ (c .before .before .plain-into .ensures)
+
 pub wanted-into-spec : {M : Type 1} → statement M
 wanted-into-spec =
     tie.close
@@ -40,7 +54,11 @@ wanted-into-spec =
     fact-into-requires
     enum-known-wanted
     argument-into-requires
+    enum-told-2
+    plain-into-requires
     same-length
     returns
     same-length-2
-    returns-2)
+    returns-2
+    same-length-3
+    returns-3)
