@@ -10,10 +10,23 @@ ghost use Rattle.octets.specs.Compare.{compareBytes};
 ghost use Rattle.term.specs.Reader.{symbolAt};
 ghost use Rattle.message.specs.Gather.{sign, enter, pours};
 ghost use Rattle.factors.specs.Rows.{Moved, Bounds, FoundAt, Rising, Table};
+ghost use Rattle.factors.specs.Laid.{OneAt};
 ghost use Rattle.factors.specs.Way.{wayOf};
 ghost use Rattle.factors.specs.Contracts.{Enter, Collect, Collected, OneTerm, Entered, Gone};
 use octets::Order;
 use term::Symbol;
+
+// The tags that are told by their byte: mul, and those of leaves, which are below.
+const MUL: u8 = term::MUL as u8;
+
+const FIRST_FUNCTION: u8 = term::FIRST_FUNCTION as u8;
+
+// "groups of seven bits": a byte below it is a whole number, and a leaf with such a number takes so many bytes.
+const BITS: usize = 7;
+
+const TOP_BIT: u8 = 1 << BITS;
+
+const SHORT_LEAF: usize = 2;
 
 // An entry's places in the table: the factor's start, and behind it its end.
 pub const SPAN: usize = 2;
@@ -197,6 +210,25 @@ pub fn way_at(src: &[u8], arities: &[u8], at: usize) -> Way
     }
 }
 
+// The same where a term stands: the most frequent symbols, mul and leaves of small numbers, are told by their bytes.
+fn way_there(src: &[u8], arities: &[u8], at: usize) -> Way
+    requires { ⌜ Asks₂ (OneAt (now arities) (now src) at) ⌝ }
+    ensures { λ r. ⌜ r ≡ wayOf (symbolAt (now (src .entry)) (now (arities .entry)) at) ⌝ }
+{
+    let b = src[at];
+    if b == MUL {
+        let k = arities[term::MUL];
+        return Way::On(k as usize, at + 1);
+    }
+    if b < FIRST_FUNCTION {
+        let c = src[at + 1];
+        if c < TOP_BIT {
+            return Way::Leaf(at + SHORT_LEAF);
+        }
+    }
+    way_at(src, arities, at)
+}
+
 // The term at a place is entered as a factor.
 fn enter_at(
     spans: &mut [u32],
@@ -235,7 +267,7 @@ fn one_term(
     requires { ⌜ Asks₂ (OneTerm (now arities) (now src) (now spans) (now powers) n at) ⌝ }
     ensures { λ r. ⌜ Promises₂ (OneTerm (now (arities .entry)) (now (src .entry)) (now (spans .entry)) (now (powers .entry)) n at) (λ (l : Exps) (t : Term). Gone (now (arities .entry)) (now (src .entry)) (now (spans .exit)) (now (powers .exit)) at minus r l t) ⌝ }
 {
-    match way_at(src, arities, at) {
+    match way_there(src, arities, at) {
         Way::On(c, next) => Onward {
             at: next,
             n: n,

@@ -18,7 +18,7 @@ use Rattle.factors.proofs.one_term.Kinds as one-term-kinds
 use Rattle.factors.proofs.+collect+one_term.Lts-one_term as one-term-lts
 use Rattle.factors.proofs.enter.Reads as enter-reads
 use Rattle.factors.proofs.enter_at.Reads as enter-at-reads
-use Rattle.factors.proofs.way_at.Reads as way-at-reads
+use Rattle.factors.proofs.way_there.Reads as way-there-reads
 use Rattle.factors.proofs.+collect+one_term.{statement}
 use Rattle.factors.proofs.+collect+one_term.Tie.{close}
 
@@ -167,9 +167,9 @@ collect-returns t c =
     (r .minus) _ _ _ _ _
     (c .before .loop .inv) (c .loop-test .left) _ refl refl
 
-one-term-way-at-requires : (t : ℕ) → one-term-lts.Need-way-at-requires (
-  way-at-reads.Asked,
-  way-at-reads.Learnt,
+one-term-way-there-requires : (t : ℕ) → one-term-lts.Need-way-there-requires (
+  way-there-reads.Asked,
+  way-there-reads.Learnt,
   collect-below t,
   collect.Post,
   enter-reads.Asked,
@@ -177,11 +177,12 @@ one-term-way-at-requires : (t : ℕ) → one-term-lts.Need-way-at-requires (
   enter-at-reads.Asked,
   enter-at-reads.Learnt,
 ) (one-term-at t) one-term.Post
-one-term-way-at-requires t c κs = search needs
+one-term-way-there-requires t c κs =
+    let J = c .before .before .before .pre .1 in (_, J .1, J .2 .one)
 
 one-term-enum-known-c : (t : ℕ) → one-term-lts.Need-enum-known-c (
-  way-at-reads.Asked,
-  way-at-reads.Learnt,
+  way-there-reads.Asked,
+  way-there-reads.Learnt,
   collect-below t,
   collect.Post,
   enter-reads.Asked,
@@ -192,8 +193,8 @@ one-term-enum-known-c : (t : ℕ) → one-term-lts.Need-enum-known-c (
 one-term-enum-known-c t c = search needs
 
 one-term-enum-known-c-2 : (t : ℕ) → one-term-lts.Need-enum-known-c-2 (
-  way-at-reads.Asked,
-  way-at-reads.Learnt,
+  way-there-reads.Asked,
+  way-there-reads.Learnt,
   collect-below t,
   collect.Post,
   enter-reads.Asked,
@@ -204,8 +205,8 @@ one-term-enum-known-c-2 : (t : ℕ) → one-term-lts.Need-enum-known-c-2 (
 one-term-enum-known-c-2 t c = search needs
 
 one-term-collect-requires : (t : ℕ) → one-term-lts.Need-collect-requires (
-  way-at-reads.Asked,
-  way-at-reads.Learnt,
+  way-there-reads.Asked,
+  way-there-reads.Learnt,
   collect-below t,
   collect.Post,
   enter-reads.Asked,
@@ -218,11 +219,11 @@ one-term-collect-requires t c κs =
     let c5 = c3 .before .before in
     let c9 = c5 .before .before .before .before in
     let r = c9 .args in turn-asks (r .arities .now) (r .src .now) (r .spans .now) (r .powers .now) (r .n) (r .at) (r .minus)
-    (c3 .c2 .given .0 .0) (c3 .c2 .given .0 .1 .0) (sym (c5 .way-at .ensures) ∙ c3 .c2 .given .1) t (c9 .pre .0) (c9 .pre .1)
+    (c3 .c2 .given .0 .0) (c3 .c2 .given .0 .1 .0) (sym (c5 .way-there .ensures) ∙ c3 .c2 .given .1) t (c9 .pre .0) (c9 .pre .1)
 
 one-term-enum-known-e : (t : ℕ) → one-term-lts.Need-enum-known-e (
-  way-at-reads.Asked,
-  way-at-reads.Learnt,
+  way-there-reads.Asked,
+  way-there-reads.Learnt,
   collect-below t,
   collect.Post,
   enter-reads.Asked,
@@ -233,8 +234,8 @@ one-term-enum-known-e : (t : ℕ) → one-term-lts.Need-enum-known-e (
 one-term-enum-known-e t c = search needs
 
 one-term-sub-enter : (t : ℕ) → one-term-lts.Need-sub-enter (
-  way-at-reads.Asked,
-  way-at-reads.Learnt,
+  way-there-reads.Asked,
+  way-there-reads.Learnt,
   collect-below t,
   collect.Post,
   enter-reads.Asked,
@@ -247,11 +248,11 @@ one-term-sub-enter t c =
     let c5 = c3 .before .before in
     let c9 = c5 .before .before .before .before in
     let r = c9 .args in let w = leaf-within (r .arities .now) (r .src .now) (r .spans .now) (r .powers .now) (r .n) (r .at)
-    (c3 .e .given .0 .0) (sym (c5 .way-at .ensures) ∙ c3 .e .given .1) (c9 .pre .1) in omega arith
+    (c3 .e .given .0 .0) (sym (c5 .way-there .ensures) ∙ c3 .e .given .1) (c9 .pre .1) in omega arith
 
 one-term-part-enter-start : (t : ℕ) → one-term-lts.Need-part-enter-start (
-  way-at-reads.Asked,
-  way-at-reads.Learnt,
+  way-there-reads.Asked,
+  way-there-reads.Learnt,
   collect-below t,
   collect.Post,
   enter-reads.Asked,
@@ -264,11 +265,11 @@ one-term-part-enter-start t c =
     let c5 = c3 .before .before in
     let c9 = c5 .before .before .before .before in
     let r = c9 .args in let w = leaf-within (r .arities .now) (r .src .now) (r .spans .now) (r .powers .now) (r .n) (r .at)
-    (c3 .e .given .0 .0) (sym (c5 .way-at .ensures) ∙ c3 .e .given .1) (c9 .pre .1) in omega arith
+    (c3 .e .given .0 .0) (sym (c5 .way-there .ensures) ∙ c3 .e .given .1) (c9 .pre .1) in omega arith
 
 one-term-part-enter-end : (t : ℕ) → one-term-lts.Need-part-enter-end (
-  way-at-reads.Asked,
-  way-at-reads.Learnt,
+  way-there-reads.Asked,
+  way-there-reads.Learnt,
   collect-below t,
   collect.Post,
   enter-reads.Asked,
@@ -281,11 +282,11 @@ one-term-part-enter-end t c =
     let c5 = c3 .before .before in
     let c9 = c5 .before .before .before .before in
     let r = c9 .args in let w = leaf-within (r .arities .now) (r .src .now) (r .spans .now) (r .powers .now) (r .n) (r .at)
-    (c3 .e .given .0 .0) (sym (c5 .way-at .ensures) ∙ c3 .e .given .1) (c9 .pre .1) in omega arith
+    (c3 .e .given .0 .0) (sym (c5 .way-there .ensures) ∙ c3 .e .given .1) (c9 .pre .1) in omega arith
 
 one-term-enter-requires : (t : ℕ) → one-term-lts.Need-enter-requires (
-  way-at-reads.Asked,
-  way-at-reads.Learnt,
+  way-there-reads.Asked,
+  way-there-reads.Learnt,
   collect-below t,
   collect.Post,
   enter-reads.Asked,
@@ -299,11 +300,11 @@ one-term-enter-requires t c κs =
     let c10 = c6 .before .before .before .before in
     let r = c10 .args in one-asks (r .arities .now) (r .src .now) (r .spans .now) (r .powers .now) (r .n) (r .at) _
     (leaf-key (r .arities .now) (r .src .now) (r .spans .now) (r .powers .now) (r .n) (r .at) (c4 .e .given .0 .0)
-    (sym (c6 .way-at .ensures) ∙ c4 .e .given .1)) (c10 .pre .1)
+    (sym (c6 .way-there .ensures) ∙ c4 .e .given .1)) (c10 .pre .1)
 
 one-term-enum-told : (t : ℕ) → one-term-lts.Need-enum-told (
-  way-at-reads.Asked,
-  way-at-reads.Learnt,
+  way-there-reads.Asked,
+  way-there-reads.Learnt,
   collect-below t,
   collect.Post,
   enter-reads.Asked,
@@ -314,8 +315,8 @@ one-term-enum-told : (t : ℕ) → one-term-lts.Need-enum-told (
 one-term-enum-told t c = search needs
 
 one-term-enter-at-requires : (t : ℕ) → one-term-lts.Need-enter-at-requires (
-  way-at-reads.Asked,
-  way-at-reads.Learnt,
+  way-there-reads.Asked,
+  way-there-reads.Learnt,
   collect-below t,
   collect.Post,
   enter-reads.Asked,
@@ -327,8 +328,8 @@ one-term-enter-at-requires t c κs =
     c .before .before .before .before .before .before .before .before .pre .1
 
 one-term-returns : (t : ℕ) → one-term-lts.Need-returns (
-  way-at-reads.Asked,
-  way-at-reads.Learnt,
+  way-there-reads.Asked,
+  way-there-reads.Learnt,
   collect-below t,
   collect.Post,
   enter-reads.Asked,
@@ -340,11 +341,11 @@ one-term-returns t c =
     let c3 = c .before .before .before in
     let c7 = c3 .before .before .before .before in
     let r = c7 .args in on-gone (r .arities .now) (r .src .now) (r .spans .now) (r .powers .now) (r .n) (r .at) (r .minus)
-    (c .before .c .given .0 .0) (c .before .c .given .0 .1 .0) (sym (c3 .way-at .ensures) ∙ c .before .c .given .1) _ refl refl refl
+    (c .before .c .given .0 .0) (c .before .c .given .0 .1 .0) (sym (c3 .way-there .ensures) ∙ c .before .c .given .1) _ refl refl refl
 
 one-term-same-length : (t : ℕ) → one-term-lts.Need-same-length (
-  way-at-reads.Asked,
-  way-at-reads.Learnt,
+  way-there-reads.Asked,
+  way-there-reads.Learnt,
   collect-below t,
   collect.Post,
   enter-reads.Asked,
@@ -355,8 +356,8 @@ one-term-same-length : (t : ℕ) → one-term-lts.Need-same-length (
 one-term-same-length t c = search needs
 
 one-term-same-length-2 : (t : ℕ) → one-term-lts.Need-same-length-2 (
-  way-at-reads.Asked,
-  way-at-reads.Learnt,
+  way-there-reads.Asked,
+  way-there-reads.Learnt,
   collect-below t,
   collect.Post,
   enter-reads.Asked,
@@ -367,8 +368,8 @@ one-term-same-length-2 : (t : ℕ) → one-term-lts.Need-same-length-2 (
 one-term-same-length-2 t c = search needs
 
 one-term-returns-2 : (t : ℕ) → one-term-lts.Need-returns-2 (
-  way-at-reads.Asked,
-  way-at-reads.Learnt,
+  way-there-reads.Asked,
+  way-there-reads.Learnt,
   collect-below t,
   collect.Post,
   enter-reads.Asked,
@@ -382,11 +383,11 @@ one-term-returns-2 t c =
     let c9 = c7 .before .before in
     let c13 = c9 .before .before .before .before in
     let r = c13 .args in turn-gone (r .arities .now) (r .src .now) (r .spans .now) (r .powers .now) (r .n) (r .at) (r .minus)
-    (c7 .c2 .given .0 .0) (c7 .c2 .given .0 .1 .0) (sym (c9 .way-at .ensures) ∙ c7 .c2 .given .1) _ _ _ (c3 .collect .ensures) _ refl refl refl
+    (c7 .c2 .given .0 .0) (c7 .c2 .given .0 .1 .0) (sym (c9 .way-there .ensures) ∙ c7 .c2 .given .1) _ _ _ (c3 .collect .ensures) _ refl refl refl
 
 one-term-same-length-3 : (t : ℕ) → one-term-lts.Need-same-length-3 (
-  way-at-reads.Asked,
-  way-at-reads.Learnt,
+  way-there-reads.Asked,
+  way-there-reads.Learnt,
   collect-below t,
   collect.Post,
   enter-reads.Asked,
@@ -397,8 +398,8 @@ one-term-same-length-3 : (t : ℕ) → one-term-lts.Need-same-length-3 (
 one-term-same-length-3 t c = search needs
 
 one-term-same-length-4 : (t : ℕ) → one-term-lts.Need-same-length-4 (
-  way-at-reads.Asked,
-  way-at-reads.Learnt,
+  way-there-reads.Asked,
+  way-there-reads.Learnt,
   collect-below t,
   collect.Post,
   enter-reads.Asked,
@@ -409,8 +410,8 @@ one-term-same-length-4 : (t : ℕ) → one-term-lts.Need-same-length-4 (
 one-term-same-length-4 t c = search needs
 
 one-term-returns-3 : (t : ℕ) → one-term-lts.Need-returns-3 (
-  way-at-reads.Asked,
-  way-at-reads.Learnt,
+  way-there-reads.Asked,
+  way-there-reads.Learnt,
   collect-below t,
   collect.Post,
   enter-reads.Asked,
@@ -426,15 +427,15 @@ one-term-returns-3 t c =
     let r = c14 .args in leaf-gone (r .arities .now) (r .src .now) (r .spans .now) (r .powers .now) (r .n) (r .at) (r .minus) _ _ _
     (one-entered (r .arities .now) (r .src .now) (r .spans .now) (r .powers .now) (r .n) (r .at) _
     (leaf-key (r .arities .now) (r .src .now) (r .spans .now) (r .powers .now) (r .n) (r .at) (c8 .e .given .0 .0)
-    (sym (c10 .way-at .ensures) ∙ c8 .e .given .1))
+    (sym (c10 .way-there .ensures) ∙ c8 .e .given .1))
     (r .minus) _ _ _ (c3 .enter .ensures) _
     (leaf-end (r .arities .now) (r .src .now) (r .spans .now) (r .powers .now) (r .n) (r .at) (c8 .e .given .0 .0)
-    (sym (c10 .way-at .ensures) ∙ c8 .e .given .1))
-    refl refl) (c8 .e .given .0 .0) (sym (c10 .way-at .ensures) ∙ c8 .e .given .1)
+    (sym (c10 .way-there .ensures) ∙ c8 .e .given .1))
+    refl refl) (c8 .e .given .0 .0) (sym (c10 .way-there .ensures) ∙ c8 .e .given .1)
 
 one-term-same-length-5 : (t : ℕ) → one-term-lts.Need-same-length-5 (
-  way-at-reads.Asked,
-  way-at-reads.Learnt,
+  way-there-reads.Asked,
+  way-there-reads.Learnt,
   collect-below t,
   collect.Post,
   enter-reads.Asked,
@@ -445,8 +446,8 @@ one-term-same-length-5 : (t : ℕ) → one-term-lts.Need-same-length-5 (
 one-term-same-length-5 t c = search needs
 
 one-term-same-length-6 : (t : ℕ) → one-term-lts.Need-same-length-6 (
-  way-at-reads.Asked,
-  way-at-reads.Learnt,
+  way-there-reads.Asked,
+  way-there-reads.Learnt,
   collect-below t,
   collect.Post,
   enter-reads.Asked,
@@ -457,8 +458,8 @@ one-term-same-length-6 : (t : ℕ) → one-term-lts.Need-same-length-6 (
 one-term-same-length-6 t c = search needs
 
 one-term-returns-4 : (t : ℕ) → one-term-lts.Need-returns-4 (
-  way-at-reads.Asked,
-  way-at-reads.Learnt,
+  way-there-reads.Asked,
+  way-there-reads.Learnt,
   collect-below t,
   collect.Post,
   enter-reads.Asked,
@@ -472,7 +473,7 @@ one-term-returns-4 t c =
     let c8 = c6 .before .before in
     let c12 = c8 .before .before .before .before in
     let r = c12 .args in factor-gone (r .arities .now) (r .src .now) (r .spans .now) (r .powers .now) (r .n) (r .at) (r .minus) _ _ _
-    (c3 .enter-at .ensures) (sym (c8 .way-at .ensures) ∙ c6 .enum-told .given .1)
+    (c3 .enter-at .ensures) (sym (c8 .way-there .ensures) ∙ c6 .enum-told .given .1)
 
 pub +collect+one-term-spec : {M : Type 1} → statement M
 +collect+one-term-spec = close μ-collect μ-one-term (λ t. collect-lts.spec (
@@ -493,8 +494,8 @@ pub +collect+one-term-spec : {M : Type 1} → statement M
     (collect-same-length-2 t)
     (collect-returns t))
     λ t. one-term-lts.spec (
-      way-at-reads.Asked,
-      way-at-reads.Learnt,
+      way-there-reads.Asked,
+      way-there-reads.Learnt,
       collect-below t,
       collect.Post,
       enter-reads.Asked,
@@ -504,7 +505,7 @@ pub +collect+one-term-spec : {M : Type 1} → statement M
     )
     (one-term-at t)
     one-term.Post
-    (one-term-way-at-requires t)
+    (one-term-way-there-requires t)
     (one-term-enum-known-c t)
     (one-term-enum-known-c-2 t)
     (one-term-collect-requires t)
