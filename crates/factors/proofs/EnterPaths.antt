@@ -1,8 +1,8 @@
 -- What `open_row`, `open_power`, `find_place`, `enter` and `enter_at` ask and promise.
 use Prim.Native.Nat.{ℕ, _+_, _-_, _*_, _≤_, _<_}
-use mathlib.Core.Path.{_≡_, refl, sym, ap, _∙_, subst}
+use mathlib.Core.Path.{_≡_, refl, sym, ap, ap₂, _∙_, subst}
 use mathlib.Core.Bool.{Bool, true, false}
-use mathlib.Core.List.{List}
+use mathlib.Core.List.{List, [], _∷_}
 use native.Mathlib.Decide.{decLt}
 use native.Mathlib.Omega.{arith}
 use lib.ListN.{length, take, drop, getD, set, length-set}
@@ -14,9 +14,9 @@ use Rattle.term.specs.Sizes.{mostSymbols}
 use Rattle.lists.specs.Asks.{Asks₂, Promises₂}
 use Rattle.lists.specs.Choice.{clash}
 use Rattle.octets.specs.Compare.{compareBytes, flipped}
-use Rattle.octets.specs.Compare.Laws.{compare-flip, compare-same, compare-trans}
+use Rattle.octets.specs.Compare.Laws.{compare-flip, compare-refl, compare-same, compare-trans}
 use Rattle.octets.specs.Limits.{longest}
-use Rattle.octets.specs.Head.{Bytes, Stands, stands-within, stands-part}
+use Rattle.octets.specs.Head.{Bytes, Stands, head-of, stands-within, stands-part}
 use Rattle.octets.specs.declared.Order.{Order}
 use Rattle.octets.specs.declared.Order.the-variants.{Less, Equal, Greater}
 use Rattle.term.specs.Term.{Term, encode}
@@ -30,7 +30,7 @@ use Rattle.factors.specs.declared.Way.the-variants as way
 use Rattle.factors.specs.Whole.{add-abs, small-fits, back}
 use Rattle.factors.specs.Mass.{size, mass}
 use Rattle.factors.specs.Mass.Laws.{size-mass, sign-abs}
-use Rattle.factors.specs.Rows.{Table, Bounds, Rising, bytesAt, orderAt, meeting, Found, Moved}
+use Rattle.factors.specs.Rows.{Table, startOf, endOf, Bounds, Rising, bytesAt, orderAt, meeting, Found, Moved}
 use Rattle.factors.specs.Rows.Laws.{rows-bounds, rows-rising, rows-abs, start-opened, end-opened, power-opened, rows-in, size-in, rows-same, size-same}
 use Rattle.factors.specs.Laid.Laws.{one-bytes, one-within, some-symbol}
 use Rattle.factors.specs.Way.{wayOf}
@@ -119,6 +119,28 @@ module _ (key src Q : List ℕ) (n : ℕ) where
         });
         fewer = omega arith;
       }
+
+-- ── the hinted entry ──
+two-bytes : (s : List ℕ) (a k : ℕ) → k ≡ 2 → a + 1 < length s → take k (drop a s) ≡ getD s a 0 ∷ getD s (a + 1) 0 ∷ []
+two-bytes s a k q h =
+    rw q (ap (take 2) (head-of s a (omega arith) ∙ ap (λ (r : List ℕ). getD s a 0 ∷ r) (head-of s (a + 1) h)))
+
+-- two parts of two bytes each
+module _ (s : List ℕ) (a e x y : ℕ) (k : e - a ≡ 2) (j : y - x ≡ 2) (h : e ≤ length s) (g : y ≤ length s) where
+  two-same :
+      getD s x 0 ≡ getD s a 0 → getD s (x + 1) 0 ≡ getD s (a + 1) 0 → compareBytes (take (e - a) (drop a s)) (take (y - x) (drop x s)) ≡ Equal
+  two-same p q =
+      let z : take (e - a) (drop a s) ≡ take (y - x) (drop x s) =
+      two-bytes s a (e - a) k (omega arith) ∙ ap₂ (λ (u v : ℕ). u ∷ v ∷ []) (sym p) (sym q) ∙ sym (two-bytes s x (y - x) j (omega arith)) in
+      ap (compareBytes (take (e - a) (drop a s))) (sym z) ∙ compare-refl (take (e - a) (drop a s))
+
+pub same-leaf :
+    (src Q : List ℕ) (n a e h : ℕ) → Bounds src Q n → Rising src Q n → e ≤ length src → h < n → endOf Q h - startOf Q h ≡ 2 → e - a ≡ 2
+    → getD src (startOf Q h) 0 ≡ getD src a 0 → getD src (startOf Q h + 1) 0 ≡ getD src (a + 1) 0
+    → Found (take (e - a) (drop a src)) src Q n h true
+same-leaf src Q n a e h B R i l j k p q =
+    found-same (take (e - a) (drop a src)) src Q n R h l Equal
+    (sym (two-same src a e (startOf Q h) (endOf Q h) k j i (B h l .1) p q)) refl
 
 -- ── entering ──
 module _ (key src Q : List ℕ) (P : List ℤ) (n a : ℕ) where
@@ -242,14 +264,26 @@ module _ (arities src Q : List ℕ) (P : List ℤ) (n at : ℕ) where
 
   -- its bytes where it is a leaf
   module _ (e : ℕ) (w : wayOf (symbolAt src arities at) ≡ way.Leaf e) where
-    pub leaf-end : (l : Exps) (t : Term) → OneTerm arities src Q P n at l t → e ≡ at + length (encode t)
+    leaf-end : (l : Exps) (t : Term) → OneTerm arities src Q P n at l t → e ≡ at + length (encode t)
     leaf-end l t X = way-end e t (X .one) w
 
-    pub leaf-key : (l : Exps) (t : Term) → OneTerm arities src Q P n at l t → take (e - at) (drop at src) ≡ encode t
+    leaf-key : (l : Exps) (t : Term) → OneTerm arities src Q P n at l t → take (e - at) (drop at src) ≡ encode t
     leaf-key l t X = stands-part (subst (λ (z : ℕ). Stands src at (encode t) z) (sym (leaf-end l t X)) (X .one .there))
 
-    pub leaf-within : Asks₂ (OneTerm arities src Q P n at) → (at ≤ e) × (e ≤ length src)
+    leaf-within : Asks₂ (OneTerm arities src Q P n at) → (at ≤ e) × (e ≤ length src)
     leaf-within J =
         let X = J .2 in
         let z = leaf-end (J .0) (J .1) X in
         (omega arith, omega (arith, one-within (X .one)))
+
+    pub leaf-asks :
+        Asks₂ (OneTerm arities src Q P n at) → (at ≤ e) × (e ≤ length src) × Asks₂ (Enter (take (e - at) (drop at src)) src Q P n at)
+    leaf-asks J = let w = leaf-within J in (w .0, w .1, one-asks _ leaf-key J)
+
+    pub leaf-entered :
+        (minus : Bool) (Q′ : List ℕ) (P′ : List ℤ) (m : ℕ) → Promises₂ (Enter (take (e - at) (drop at src)) src Q P n at)
+        (λ (l : Exps) (t : Term). Table src Q′ P′ m (enter t (sign minus) l))
+        → (r : Onward) → r .at ≡ e → r .n ≡ m → r .more ≡ 0
+        → Promises₂ (OneTerm arities src Q P n at)
+        (λ (l : Exps) (t : Term). Entered src Q′ P′ (at + length (encode t)) r (enter t (sign minus) l))
+    leaf-entered minus Q′ P′ m D r e₁ e₂ e₃ = one-entered _ leaf-key minus Q′ P′ m D r (λ l t X. e₁ ∙ leaf-end l t X) e₂ e₃

@@ -1,5 +1,6 @@
 // The factors of some terms in a table: for each its place in the caller's slice and its exponent, ascending by encoded bytes.
 ghost use mathlib.Core.Path.{_≡_};
+ghost use mathlib.Core.Bool.{true};
 ghost use Prim.Native.Nat.{_+_, _-_, _*_, _≤_, _<_};
 ghost use lib.ListN.{length, take, drop};
 ghost use lib.IntN.{pos};
@@ -9,7 +10,7 @@ ghost use Rattle.lists.specs.Asks.{Asks₂, Promises₂};
 ghost use Rattle.octets.specs.Compare.{compareBytes};
 ghost use Rattle.term.specs.Reader.{symbolAt};
 ghost use Rattle.message.specs.Gather.{sign, enter, pours};
-ghost use Rattle.factors.specs.Rows.{Moved, Bounds, FoundAt, Rising, Table};
+ghost use Rattle.factors.specs.Rows.{Moved, Bounds, Found, FoundAt, Rising, Table};
 ghost use Rattle.factors.specs.Laid.{OneAt};
 ghost use Rattle.factors.specs.Way.{wayOf};
 ghost use Rattle.factors.specs.Contracts.{Enter, Collect, Collected, OneTerm, Entered, Gone};
@@ -188,6 +189,65 @@ fn enter(
     }
 }
 
+// The entry to try for a leaf: the hinted one, and the first one behind the last, as the same product often stands several times.
+fn next_look(n: usize, hint: usize) -> usize {
+    if hint < n {
+        return hint;
+    }
+    0
+}
+
+// The entry that is tried, if it is the leaf from a up to e, by two bytes; otherwise n, also for a longer leaf.
+fn hinted(src: &[u8], a: usize, e: usize, spans: &[u32], n: usize, hint: usize) -> usize
+    requires { ⌜ (2 * n ≤ length (now spans)) × Bounds (now src) (now spans) n × Rising (now src) (now spans) n × (a ≤ e) × (e ≤ length (now src)) ⌝ }
+    ensures { λ r. ⌜ (r < n → Found (take (e - a) (drop a (now (src .entry)))) (now (src .entry)) (now (spans .entry)) n r true) ⌝ }
+{
+    let h = next_look(n, hint);
+    if n <= h {
+        return n;
+    }
+    let x = spans[SPAN * h] as usize;
+    let y = spans[SPAN * h + 1] as usize;
+    if y - x != SHORT_LEAF {
+        return n;
+    }
+    if e - a != SHORT_LEAF {
+        return n;
+    }
+    if src[x] != src[a] {
+        return n;
+    }
+    if src[x + 1] != src[a + 1] {
+        return n;
+    }
+    h
+}
+
+// The leaf from a up to e goes into the table likewise: factors mostly come in order, so that it mostly is the entry that is tried.
+fn enter_leaf(
+    spans: &mut [u32],
+    powers: &mut [i32],
+    n: usize,
+    hint: usize,
+    src: &[u8],
+    a: usize,
+    e: usize,
+    minus: bool,
+) -> Put
+    requires { ⌜ (a ≤ e) × (e ≤ length (now src)) × Asks₂ (Enter (take (e - a) (drop a (now src))) (now src) (now spans) (now powers) n a) ⌝ }
+    ensures { λ r. ⌜ Promises₂ (Enter (take (e - a) (drop a (now (src .entry)))) (now (src .entry)) (now (spans .entry)) (now (powers .entry)) n a) (λ (l : Exps) (t : Term). Table (now (src .entry)) (now (spans .exit)) (now (powers .exit)) (r .n) (enter t (sign minus) l)) ⌝ }
+{
+    let h = hinted(src, a, e, spans, n, hint);
+    if h < n {
+        let u = unit(minus);
+        let k = powers[h];
+        let v = k + u;
+        powers[h] = v;
+        return Put { n: n, hint: h + 1 };
+    }
+    enter(spans, powers, n, hint, src, &src[a..e], a, minus)
+}
+
 // The way of the term at a place.
 pub fn way_at(src: &[u8], arities: &[u8], at: usize) -> Way
     ensures { λ r. ⌜ r ≡ wayOf (symbolAt (now (src .entry)) (now (arities .entry)) at) ⌝ }
@@ -284,7 +344,7 @@ fn one_term(
             }
         }
         Way::Leaf(e) => {
-            let p = enter(spans, powers, n, hint, src, &src[at..e], at, minus);
+            let p = enter_leaf(spans, powers, n, hint, src, at, e, minus);
             Onward {
                 at: e,
                 n: p.n,

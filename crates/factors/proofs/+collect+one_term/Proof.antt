@@ -3,7 +3,7 @@ use Prim.Native.Nat.{_-_, _+_, _*_, ℕ, _<_}
 use native.Mathlib.Omega.{arith}
 use mathlib.Core.Path.{refl, sym, _∙_}
 use lib.ListN.{length}
-use Rattle.factors.proofs.EnterPaths.{one-asks, one-entered, leaf-end, leaf-key, leaf-within}
+use Rattle.factors.proofs.EnterPaths.{leaf-asks, leaf-entered}
 use Rattle.factors.proofs.CollectPaths.{walk-first, walk-done, term-asks, walk-more, walk-next}
 use Rattle.factors.proofs.CollectPaths.{on-gone, turn-asks, turn-gone, leaf-gone, factor-gone, Walk}
 use borrow.Author.Needs.{needs}
@@ -16,7 +16,7 @@ use Rattle.factors.proofs.+collect+one_term.Lts-collect as collect-lts
 use Rattle.factors.proofs.one_term.Reads as one-term
 use Rattle.factors.proofs.one_term.Kinds as one-term-kinds
 use Rattle.factors.proofs.+collect+one_term.Lts-one_term as one-term-lts
-use Rattle.factors.proofs.enter.Reads as enter-reads
+use Rattle.factors.proofs.enter_leaf.Reads as enter-leaf-reads
 use Rattle.factors.proofs.enter_at.Reads as enter-at-reads
 use Rattle.factors.proofs.way_there.Reads as way-there-reads
 use Rattle.factors.proofs.+collect+one_term.{statement}
@@ -172,8 +172,8 @@ one-term-way-there-requires : (t : ℕ) → one-term-lts.Need-way-there-requires
   way-there-reads.Learnt,
   collect-below t,
   collect.Post,
-  enter-reads.Asked,
-  enter-reads.Learnt,
+  enter-leaf-reads.Asked,
+  enter-leaf-reads.Learnt,
   enter-at-reads.Asked,
   enter-at-reads.Learnt,
 ) (one-term-at t) one-term.Post
@@ -185,8 +185,8 @@ one-term-enum-known-c : (t : ℕ) → one-term-lts.Need-enum-known-c (
   way-there-reads.Learnt,
   collect-below t,
   collect.Post,
-  enter-reads.Asked,
-  enter-reads.Learnt,
+  enter-leaf-reads.Asked,
+  enter-leaf-reads.Learnt,
   enter-at-reads.Asked,
   enter-at-reads.Learnt,
 ) (one-term-at t) one-term.Post
@@ -197,8 +197,8 @@ one-term-enum-known-c-2 : (t : ℕ) → one-term-lts.Need-enum-known-c-2 (
   way-there-reads.Learnt,
   collect-below t,
   collect.Post,
-  enter-reads.Asked,
-  enter-reads.Learnt,
+  enter-leaf-reads.Asked,
+  enter-leaf-reads.Learnt,
   enter-at-reads.Asked,
   enter-at-reads.Learnt,
 ) (one-term-at t) one-term.Post
@@ -209,8 +209,8 @@ one-term-collect-requires : (t : ℕ) → one-term-lts.Need-collect-requires (
   way-there-reads.Learnt,
   collect-below t,
   collect.Post,
-  enter-reads.Asked,
-  enter-reads.Learnt,
+  enter-leaf-reads.Asked,
+  enter-leaf-reads.Learnt,
   enter-at-reads.Asked,
   enter-at-reads.Learnt,
 ) (one-term-at t) one-term.Post
@@ -226,89 +226,37 @@ one-term-enum-known-e : (t : ℕ) → one-term-lts.Need-enum-known-e (
   way-there-reads.Learnt,
   collect-below t,
   collect.Post,
-  enter-reads.Asked,
-  enter-reads.Learnt,
+  enter-leaf-reads.Asked,
+  enter-leaf-reads.Learnt,
   enter-at-reads.Asked,
   enter-at-reads.Learnt,
 ) (one-term-at t) one-term.Post
 one-term-enum-known-e t c = search needs
 
-one-term-sub-enter : (t : ℕ) → one-term-lts.Need-sub-enter (
+one-term-enter-leaf-requires : (t : ℕ) → one-term-lts.Need-enter-leaf-requires (
   way-there-reads.Asked,
   way-there-reads.Learnt,
   collect-below t,
   collect.Post,
-  enter-reads.Asked,
-  enter-reads.Learnt,
+  enter-leaf-reads.Asked,
+  enter-leaf-reads.Learnt,
   enter-at-reads.Asked,
   enter-at-reads.Learnt,
 ) (one-term-at t) one-term.Post
-one-term-sub-enter t c =
+one-term-enter-leaf-requires t c κs =
     let c3 = c .before .before .before in
     let c5 = c3 .before .before in
     let c9 = c5 .before .before .before .before in
-    let r = c9 .args in let w = leaf-within (r .arities .now) (r .src .now) (r .spans .now) (r .powers .now) (r .n) (r .at)
-    (c3 .e .given .0 .0) (sym (c5 .way-there .ensures) ∙ c3 .e .given .1) (c9 .pre .1) in omega arith
-
-one-term-part-enter-start : (t : ℕ) → one-term-lts.Need-part-enter-start (
-  way-there-reads.Asked,
-  way-there-reads.Learnt,
-  collect-below t,
-  collect.Post,
-  enter-reads.Asked,
-  enter-reads.Learnt,
-  enter-at-reads.Asked,
-  enter-at-reads.Learnt,
-) (one-term-at t) one-term.Post
-one-term-part-enter-start t c =
-    let c3 = c .before .before .before in
-    let c5 = c3 .before .before in
-    let c9 = c5 .before .before .before .before in
-    let r = c9 .args in let w = leaf-within (r .arities .now) (r .src .now) (r .spans .now) (r .powers .now) (r .n) (r .at)
-    (c3 .e .given .0 .0) (sym (c5 .way-there .ensures) ∙ c3 .e .given .1) (c9 .pre .1) in omega arith
-
-one-term-part-enter-end : (t : ℕ) → one-term-lts.Need-part-enter-end (
-  way-there-reads.Asked,
-  way-there-reads.Learnt,
-  collect-below t,
-  collect.Post,
-  enter-reads.Asked,
-  enter-reads.Learnt,
-  enter-at-reads.Asked,
-  enter-at-reads.Learnt,
-) (one-term-at t) one-term.Post
-one-term-part-enter-end t c =
-    let c3 = c .before .before .before in
-    let c5 = c3 .before .before in
-    let c9 = c5 .before .before .before .before in
-    let r = c9 .args in let w = leaf-within (r .arities .now) (r .src .now) (r .spans .now) (r .powers .now) (r .n) (r .at)
-    (c3 .e .given .0 .0) (sym (c5 .way-there .ensures) ∙ c3 .e .given .1) (c9 .pre .1) in omega arith
-
-one-term-enter-requires : (t : ℕ) → one-term-lts.Need-enter-requires (
-  way-there-reads.Asked,
-  way-there-reads.Learnt,
-  collect-below t,
-  collect.Post,
-  enter-reads.Asked,
-  enter-reads.Learnt,
-  enter-at-reads.Asked,
-  enter-at-reads.Learnt,
-) (one-term-at t) one-term.Post
-one-term-enter-requires t c κs =
-    let c4 = c .before .before .before .before in
-    let c6 = c4 .before .before in
-    let c10 = c6 .before .before .before .before in
-    let r = c10 .args in one-asks (r .arities .now) (r .src .now) (r .spans .now) (r .powers .now) (r .n) (r .at) _
-    (leaf-key (r .arities .now) (r .src .now) (r .spans .now) (r .powers .now) (r .n) (r .at) (c4 .e .given .0 .0)
-    (sym (c6 .way-there .ensures) ∙ c4 .e .given .1)) (c10 .pre .1)
+    let r = c9 .args in leaf-asks (r .arities .now) (r .src .now) (r .spans .now) (r .powers .now) (r .n) (r .at)
+    (c3 .e .given .0 .0) (sym (c5 .way-there .ensures) ∙ c3 .e .given .1) (c9 .pre .1)
 
 one-term-enum-told : (t : ℕ) → one-term-lts.Need-enum-told (
   way-there-reads.Asked,
   way-there-reads.Learnt,
   collect-below t,
   collect.Post,
-  enter-reads.Asked,
-  enter-reads.Learnt,
+  enter-leaf-reads.Asked,
+  enter-leaf-reads.Learnt,
   enter-at-reads.Asked,
   enter-at-reads.Learnt,
 ) (one-term-at t) one-term.Post
@@ -319,8 +267,8 @@ one-term-enter-at-requires : (t : ℕ) → one-term-lts.Need-enter-at-requires (
   way-there-reads.Learnt,
   collect-below t,
   collect.Post,
-  enter-reads.Asked,
-  enter-reads.Learnt,
+  enter-leaf-reads.Asked,
+  enter-leaf-reads.Learnt,
   enter-at-reads.Asked,
   enter-at-reads.Learnt,
 ) (one-term-at t) one-term.Post
@@ -332,8 +280,8 @@ one-term-returns : (t : ℕ) → one-term-lts.Need-returns (
   way-there-reads.Learnt,
   collect-below t,
   collect.Post,
-  enter-reads.Asked,
-  enter-reads.Learnt,
+  enter-leaf-reads.Asked,
+  enter-leaf-reads.Learnt,
   enter-at-reads.Asked,
   enter-at-reads.Learnt,
 ) (one-term-at t) one-term.Post
@@ -348,8 +296,8 @@ one-term-same-length : (t : ℕ) → one-term-lts.Need-same-length (
   way-there-reads.Learnt,
   collect-below t,
   collect.Post,
-  enter-reads.Asked,
-  enter-reads.Learnt,
+  enter-leaf-reads.Asked,
+  enter-leaf-reads.Learnt,
   enter-at-reads.Asked,
   enter-at-reads.Learnt,
 ) (one-term-at t) one-term.Post
@@ -360,8 +308,8 @@ one-term-same-length-2 : (t : ℕ) → one-term-lts.Need-same-length-2 (
   way-there-reads.Learnt,
   collect-below t,
   collect.Post,
-  enter-reads.Asked,
-  enter-reads.Learnt,
+  enter-leaf-reads.Asked,
+  enter-leaf-reads.Learnt,
   enter-at-reads.Asked,
   enter-at-reads.Learnt,
 ) (one-term-at t) one-term.Post
@@ -372,8 +320,8 @@ one-term-returns-2 : (t : ℕ) → one-term-lts.Need-returns-2 (
   way-there-reads.Learnt,
   collect-below t,
   collect.Post,
-  enter-reads.Asked,
-  enter-reads.Learnt,
+  enter-leaf-reads.Asked,
+  enter-leaf-reads.Learnt,
   enter-at-reads.Asked,
   enter-at-reads.Learnt,
 ) (one-term-at t) one-term.Post
@@ -390,8 +338,8 @@ one-term-same-length-3 : (t : ℕ) → one-term-lts.Need-same-length-3 (
   way-there-reads.Learnt,
   collect-below t,
   collect.Post,
-  enter-reads.Asked,
-  enter-reads.Learnt,
+  enter-leaf-reads.Asked,
+  enter-leaf-reads.Learnt,
   enter-at-reads.Asked,
   enter-at-reads.Learnt,
 ) (one-term-at t) one-term.Post
@@ -402,8 +350,8 @@ one-term-same-length-4 : (t : ℕ) → one-term-lts.Need-same-length-4 (
   way-there-reads.Learnt,
   collect-below t,
   collect.Post,
-  enter-reads.Asked,
-  enter-reads.Learnt,
+  enter-leaf-reads.Asked,
+  enter-leaf-reads.Learnt,
   enter-at-reads.Asked,
   enter-at-reads.Learnt,
 ) (one-term-at t) one-term.Post
@@ -414,32 +362,28 @@ one-term-returns-3 : (t : ℕ) → one-term-lts.Need-returns-3 (
   way-there-reads.Learnt,
   collect-below t,
   collect.Post,
-  enter-reads.Asked,
-  enter-reads.Learnt,
+  enter-leaf-reads.Asked,
+  enter-leaf-reads.Learnt,
   enter-at-reads.Asked,
   enter-at-reads.Learnt,
 ) (one-term-at t) one-term.Post
 one-term-returns-3 t c =
     let c3 = c .before .before .before in
-    let c8 = c3 .before .before .before .before .before in
-    let c10 = c8 .before .before in
-    let c14 = c10 .before .before .before .before in
-    let r = c14 .args in leaf-gone (r .arities .now) (r .src .now) (r .spans .now) (r .powers .now) (r .n) (r .at) (r .minus) _ _ _
-    (one-entered (r .arities .now) (r .src .now) (r .spans .now) (r .powers .now) (r .n) (r .at) _
-    (leaf-key (r .arities .now) (r .src .now) (r .spans .now) (r .powers .now) (r .n) (r .at) (c8 .e .given .0 .0)
-    (sym (c10 .way-there .ensures) ∙ c8 .e .given .1))
-    (r .minus) _ _ _ (c3 .enter .ensures) _
-    (leaf-end (r .arities .now) (r .src .now) (r .spans .now) (r .powers .now) (r .n) (r .at) (c8 .e .given .0 .0)
-    (sym (c10 .way-there .ensures) ∙ c8 .e .given .1))
-    refl refl) (c8 .e .given .0 .0) (sym (c10 .way-there .ensures) ∙ c8 .e .given .1)
+    let c7 = c3 .before .before .before .before in
+    let c9 = c7 .before .before in
+    let c13 = c9 .before .before .before .before in
+    let r = c13 .args in leaf-gone (r .arities .now) (r .src .now) (r .spans .now) (r .powers .now) (r .n) (r .at) (r .minus) _ _ _
+    (leaf-entered (r .arities .now) (r .src .now) (r .spans .now) (r .powers .now) (r .n) (r .at) (c7 .e .given .0 .0)
+    (sym (c9 .way-there .ensures) ∙ c7 .e .given .1) (r .minus) _ _ _ (c3 .enter-leaf .ensures) _ refl refl refl)
+    (c7 .e .given .0 .0) (sym (c9 .way-there .ensures) ∙ c7 .e .given .1)
 
 one-term-same-length-5 : (t : ℕ) → one-term-lts.Need-same-length-5 (
   way-there-reads.Asked,
   way-there-reads.Learnt,
   collect-below t,
   collect.Post,
-  enter-reads.Asked,
-  enter-reads.Learnt,
+  enter-leaf-reads.Asked,
+  enter-leaf-reads.Learnt,
   enter-at-reads.Asked,
   enter-at-reads.Learnt,
 ) (one-term-at t) one-term.Post
@@ -450,8 +394,8 @@ one-term-same-length-6 : (t : ℕ) → one-term-lts.Need-same-length-6 (
   way-there-reads.Learnt,
   collect-below t,
   collect.Post,
-  enter-reads.Asked,
-  enter-reads.Learnt,
+  enter-leaf-reads.Asked,
+  enter-leaf-reads.Learnt,
   enter-at-reads.Asked,
   enter-at-reads.Learnt,
 ) (one-term-at t) one-term.Post
@@ -462,8 +406,8 @@ one-term-returns-4 : (t : ℕ) → one-term-lts.Need-returns-4 (
   way-there-reads.Learnt,
   collect-below t,
   collect.Post,
-  enter-reads.Asked,
-  enter-reads.Learnt,
+  enter-leaf-reads.Asked,
+  enter-leaf-reads.Learnt,
   enter-at-reads.Asked,
   enter-at-reads.Learnt,
 ) (one-term-at t) one-term.Post
@@ -498,8 +442,8 @@ pub +collect+one-term-spec : {M : Type 1} → statement M
       way-there-reads.Learnt,
       collect-below t,
       collect.Post,
-      enter-reads.Asked,
-      enter-reads.Learnt,
+      enter-leaf-reads.Asked,
+      enter-leaf-reads.Learnt,
       enter-at-reads.Asked,
       enter-at-reads.Learnt,
     )
@@ -510,10 +454,7 @@ pub +collect+one-term-spec : {M : Type 1} → statement M
     (one-term-enum-known-c-2 t)
     (one-term-collect-requires t)
     (one-term-enum-known-e t)
-    (one-term-sub-enter t)
-    (one-term-part-enter-start t)
-    (one-term-part-enter-end t)
-    (one-term-enter-requires t)
+    (one-term-enter-leaf-requires t)
     (one-term-enum-told t)
     (one-term-enter-at-requires t)
     (one-term-returns t)
