@@ -7,7 +7,7 @@ ghost use Rattle.protocol.specs.Protocol.{Protocol};
 ghost use Rattle.lists.specs.Asks.{Asks₂, Promises₂, Promises};
 ghost use Rattle.rewriting.specs.Writer.{firstNameTwice};
 ghost use Rattle.steps.specs.Nodes.{Node, noNode, mostNodes};
-ghost use Rattle.steps.specs.Table.{NodeIn, NodesIn};
+ghost use Rattle.steps.specs.Table.{NodeIn, NodesIn, fewNodes};
 ghost use Rattle.steps.specs.Facts.{madeName};
 ghost use Rattle.steps.specs.Runs.{rewrittens};
 ghost use Rattle.steps.specs.Values.Scan.{asFound};
@@ -121,12 +121,40 @@ fn least_again(names: &[usize], n: usize) -> usize
     0
 }
 
-// 9: the names are read once, then compared.
-pub fn name_pass(p: &[u8], s: &[u8], nodes: &[usize], n: usize) -> usize
+// 9 with an entry for each node: the names are read once, then compared.
+fn pass_over(p: &[u8], s: &[u8], nodes: &[usize], n: usize, names: &mut [usize]) -> usize
+    requires { ⌜ Asks₂ (NodesIn (now p) (now s) (now nodes) n) × (n ≤ length (now names)) ⌝ }
+    ensures { λ r. ⌜ Promises₂ (NodesIn (now (p .entry)) (now (s .entry)) (now (nodes .entry)) n) (λ (P : Protocol) (xs : List Node). asFound r ≡ firstNameTwice (rewrittens P xs)) ⌝ }
+{
+    enter_names(p, s, nodes, n, names);
+    least_again(names, n)
+}
+
+// The same with entries for few nodes.
+fn pass_few(p: &[u8], s: &[u8], nodes: &[usize], n: usize) -> usize
+    requires { ⌜ Asks₂ (NodesIn (now p) (now s) (now nodes) n) × (n ≤ fewNodes) ⌝ }
+    ensures { λ r. ⌜ Promises₂ (NodesIn (now (p .entry)) (now (s .entry)) (now (nodes .entry)) n) (λ (P : Protocol) (xs : List Node). asFound r ≡ firstNameTwice (rewrittens P xs)) ⌝ }
+{
+    let mut names = [0usize; nodes::FEW_NODES];
+    pass_over(p, s, nodes, n, &mut names)
+}
+
+// The same with entries for as many nodes as there may be.
+fn pass_many(p: &[u8], s: &[u8], nodes: &[usize], n: usize) -> usize
     requires { ⌜ Asks₂ (NodesIn (now p) (now s) (now nodes) n) ⌝ }
     ensures { λ r. ⌜ Promises₂ (NodesIn (now (p .entry)) (now (s .entry)) (now (nodes .entry)) n) (λ (P : Protocol) (xs : List Node). asFound r ≡ firstNameTwice (rewrittens P xs)) ⌝ }
 {
     let mut names = [0usize; nodes::MOST_NODES];
-    enter_names(p, s, nodes, n, &mut names);
-    least_again(&names, n)
+    pass_over(p, s, nodes, n, &mut names)
+}
+
+// 9: the least node that makes a name that an earlier one makes; 0 where there is none.
+pub fn name_pass(p: &[u8], s: &[u8], nodes: &[usize], n: usize) -> usize
+    requires { ⌜ Asks₂ (NodesIn (now p) (now s) (now nodes) n) ⌝ }
+    ensures { λ r. ⌜ Promises₂ (NodesIn (now (p .entry)) (now (s .entry)) (now (nodes .entry)) n) (λ (P : Protocol) (xs : List Node). asFound r ≡ firstNameTwice (rewrittens P xs)) ⌝ }
+{
+    if n <= nodes::FEW_NODES {
+        return pass_few(p, s, nodes, n);
+    }
+    pass_many(p, s, nodes, n)
 }
