@@ -16,8 +16,10 @@ use Rattle.steps.specs.Table.{NodeIn}
 use Rattle.facts.specs.declared.writing.Wanted.{Wanted}
 use Rattle.facts.specs.declared.writing.Wanted.the-variants as want
 use Rattle.facts.specs.declared.nodes.FactId.{FactId}
+use Rattle.facts.specs.declared.nodes.PlacedFact.{PlacedFact}
 use Rattle.facts.specs.declared.nodes.WrittenFact.{WrittenFact}
 use Rattle.facts.specs.declared.compare.Both.{Both}
+use Rattle.facts.specs.Rules.{factStart}
 use Rattle.facts.specs.Writing.{factRoom, Has, wantedBytes, Put}
 -- a node's fact can be written
 pub mod Laws
@@ -58,6 +60,10 @@ pub record FactIn (p s nodes : List ℕ) (a : FactId) (q : Wanted) (P : Protocol
   pub right : NodeRight P x
   pub listed : a .number < length (factsOf P (a .list) x)
   pub has : Has q (factAt P (a .list) (a .number) x)
+
+-- it stands at that place
+abbrev pub AtPlace : List ℕ → List ℕ → PlacedFact → Type 0
+AtPlace p nodes a = a .place ≡ factStart p nodes (a .id .node) (a .id .list) (a .id .number)
 
 -- the whole fact; one argument of it
 abbrev pub WholeFact : List ℕ → List ℕ → List ℕ → FactId → Protocol → Node → Type 0

@@ -9,9 +9,10 @@ ghost use Rattle.protocol.specs.Protocol.{Protocol};
 ghost use Rattle.steps.specs.Nodes.{Node};
 ghost use Rattle.steps.specs.Facts.{sameFact, sameTerm};
 ghost use Rattle.facts.specs.Writing.{factRoom, Put};
-ghost use Rattle.facts.specs.Calls.{Room, FactsIn, OneOf, factAt, argumentAt, Compared};
+ghost use Rattle.facts.specs.Calls.{Room, FactsIn, AtPlace, OneOf, factAt, argumentAt, Compared};
 use crate::nodes;
 use crate::nodes::FactId;
+use crate::nodes::PlacedFact;
 use crate::writing::Wanted;
 use term::Public;
 
@@ -32,22 +33,22 @@ fn same_parts(file: &[u8], m: usize, n: usize) -> bool
     octets::same_bytes(&file[..m], &file[m..n])
 }
 
-// Two facts of nodes, written one behind the other.
+// Two facts of nodes at their places, written one behind the other.
 fn compare(
     out: &mut [u8],
     p: &[u8],
     s: &[u8],
     nodes: &[usize],
-    x: FactId,
+    x: PlacedFact,
     wx: Wanted,
-    y: FactId,
+    y: PlacedFact,
     wy: Wanted,
 ) -> Both
-    requires { ⌜ Asks₃ (FactsIn (now p) (now s) (now nodes) x wx y wy) × Room (now out) factRoom ⌝ }
-    ensures { λ r. ⌜ Promises₃ (FactsIn (now (p .entry)) (now (s .entry)) (now (nodes .entry)) x wx y wy) (λ (P : Protocol) (m n : Node). Compared wx (factAt P (x .list) (x .number) m) wy (factAt P (y .list) (y .number) n) r) ⌝ }
+    requires { ⌜ AtPlace (now p) (now nodes) x × AtPlace (now p) (now nodes) y × Asks₃ (FactsIn (now p) (now s) (now nodes) (x .id) wx (y .id) wy) × Room (now out) factRoom ⌝ }
+    ensures { λ r. ⌜ Promises₃ (FactsIn (now (p .entry)) (now (s .entry)) (now (nodes .entry)) (x .id) wx (y .id) wy) (λ (P : Protocol) (m n : Node). Compared wx (factAt P (x .id .list) (x .id .number) m) wy (factAt P (y .id .list) (y .id .number) n) r) ⌝ }
 {
-    let a = nodes::node_fact(out, 0, p, s, nodes, x, wx);
-    let b = nodes::node_fact(out, a.end, p, s, nodes, y, wy);
+    let a = nodes::write_fact(out, 0, p, s, nodes, x, wx);
+    let b = nodes::write_fact(out, a.end, p, s, nodes, y, wy);
     let same = same_parts(out, a.end, b.end);
     Both {
         symbols: a.symbol == b.symbol,
@@ -61,11 +62,15 @@ pub fn same_fact(out: &mut [u8], p: &[u8], s: &[u8], nodes: &[usize], x: FactId,
     requires { ⌜ Asks₃ (FactsIn (now p) (now s) (now nodes) x Wanted.All y Wanted.All) × Room (now out) factRoom ⌝ }
     ensures { λ r. ⌜ Promises₃ (FactsIn (now (p .entry)) (now (s .entry)) (now (nodes .entry)) x Wanted.All y Wanted.All) (λ (P : Protocol) (m n : Node). r ≡ sameFact (factAt P (x .list) (x .number) m) (factAt P (y .list) (y .number) n)) ⌝ }
 {
-    let a = compare(out, p, s, nodes, x, Wanted::Plain, y, Wanted::Plain);
+    let i = nodes::fact_place(p, nodes, x);
+    let j = nodes::fact_place(p, nodes, y);
+    let f = PlacedFact { id: x, place: i };
+    let g = PlacedFact { id: y, place: j };
+    let a = compare(out, p, s, nodes, f, Wanted::Plain, g, Wanted::Plain);
     if a.symbols & a.bytes {
         return true;
     }
-    let b = compare(out, p, s, nodes, x, Wanted::All, y, Wanted::All);
+    let b = compare(out, p, s, nodes, f, Wanted::All, g, Wanted::All);
     b.symbols & b.bytes
 }
 
@@ -83,7 +88,11 @@ pub fn same_argument(
     requires { ⌜ Asks₃ (FactsIn (now p) (now s) (now nodes) x (Wanted.One i) y (Wanted.One j)) × Room (now out) factRoom ⌝ }
     ensures { λ r. ⌜ Promises₃ (FactsIn (now (p .entry)) (now (s .entry)) (now (nodes .entry)) x (Wanted.One i) y (Wanted.One j)) (λ (P : Protocol) (m n : Node). r ≡ sameTerm (argumentAt P (x .list) (x .number) i m) (argumentAt P (y .list) (y .number) j n)) ⌝ }
 {
-    let b = compare(out, p, s, nodes, x, Wanted::One(i), y, Wanted::One(j));
+    let k = nodes::fact_place(p, nodes, x);
+    let l = nodes::fact_place(p, nodes, y);
+    let f = PlacedFact { id: x, place: k };
+    let g = PlacedFact { id: y, place: l };
+    let b = compare(out, p, s, nodes, f, Wanted::One(i), g, Wanted::One(j));
     b.bytes
 }
 

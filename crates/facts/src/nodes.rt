@@ -4,7 +4,7 @@ ghost use Rattle.lists.specs.Asks.{Asks₂, Promises₂, Asks₃};
 ghost use Rattle.protocol.specs.Protocol.{Protocol};
 ghost use Rattle.steps.specs.Nodes.{Node};
 ghost use Rattle.facts.specs.Rules.{factStart};
-ghost use Rattle.facts.specs.Calls.{Room, ListedFact, FactIn, FactWritten, factAt};
+ghost use Rattle.facts.specs.Calls.{Room, ListedFact, FactIn, AtPlace, FactWritten, factAt};
 use crate::counts;
 use crate::writing;
 use crate::writing::Wanted;
@@ -15,6 +15,12 @@ pub struct FactId {
     pub node: usize,
     pub list: usize,
     pub number: usize,
+}
+
+// A fact of a node and its place in the prepared protocol.
+pub struct PlacedFact {
+    pub id: FactId,
+    pub place: usize,
 }
 
 // The fact's symbol, and the place behind the bytes that were written.
@@ -32,7 +38,30 @@ pub fn fact_place(p: &[u8], nodes: &[usize], x: FactId) -> usize
     finding::fact_at(p, start, x.number)
 }
 
-// The fact of a node: the bytes that are wanted go into the output from o on.
+// The fact of a node at its place: the bytes that are wanted go into the output from o on.
+pub fn write_fact(
+    out: &mut [u8],
+    o: usize,
+    p: &[u8],
+    s: &[u8],
+    nodes: &[usize],
+    x: PlacedFact,
+    wanted: Wanted,
+) -> WrittenFact
+    requires { ⌜ AtPlace (now p) (now nodes) x × Asks₂ (FactIn (now p) (now s) (now nodes) (x .id) wanted) × Room (now out) o ⌝ }
+    ensures { λ r. ⌜ Promises₂ (FactIn (now (p .entry)) (now (s .entry)) (now (nodes .entry)) (x .id) wanted) (λ (P : Protocol) (m : Node). FactWritten wanted (now (out .entry)) o (now (out .exit)) r (factAt P (x .id .list) (x .id .number) m)) ⌝ }
+{
+    let symbol = finding::symbol_of(p, x.place);
+    let first = steps::nodes::ROW * x.id.node + steps::nodes::FIRST_PLACE;
+    let starts = &nodes[first..first + steps::nodes::PLACES];
+    let end = writing::wanted_into(out, o, p, x.place, wanted, s, starts);
+    WrittenFact {
+        symbol: symbol,
+        end: end,
+    }
+}
+
+// The same, the place to be found.
 pub fn node_fact(
     out: &mut [u8],
     o: usize,
@@ -46,12 +75,9 @@ pub fn node_fact(
     ensures { λ r. ⌜ Promises₂ (FactIn (now (p .entry)) (now (s .entry)) (now (nodes .entry)) x wanted) (λ (P : Protocol) (m : Node). FactWritten wanted (now (out .entry)) o (now (out .exit)) r (factAt P (x .list) (x .number) m)) ⌝ }
 {
     let place = fact_place(p, nodes, x);
-    let symbol = finding::symbol_of(p, place);
-    let first = steps::nodes::ROW * x.node + steps::nodes::FIRST_PLACE;
-    let starts = &nodes[first..first + steps::nodes::PLACES];
-    let end = writing::wanted_into(out, o, p, place, wanted, s, starts);
-    WrittenFact {
-        symbol: symbol,
-        end: end,
-    }
+    let f = PlacedFact {
+        id: x,
+        place: place,
+    };
+    write_fact(out, o, p, s, nodes, f, wanted)
 }

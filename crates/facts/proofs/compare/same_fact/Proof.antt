@@ -1,16 +1,29 @@
 -- The test of two facts is equal symbols and equal bytes, since facts of one symbol have as many arguments; facts that are equal as they stand pass it.
 use Rattle.facts.specs.Calls.Meaning.{fact-formed}
-use Rattle.facts.specs.Calls.Laws.{plains-in}
+use Rattle.facts.specs.Calls.Laws.{fact-listed, plains-in}
 use Rattle.facts.specs.Calls.Bytes.{same-by-bytes, same-by-plain}
+use denote.Ref.{now}
 use borrow.Author.Needs.{needs}
 use Rattle.facts.proofs.compare.same_fact.Statement.{statement}
 use Rattle.facts.proofs.compare.same_fact.Tie as tie
 
-compare-requires : tie.Need-compare-requires
-compare-requires c κs =
+fact-place-requires : tie.Need-fact-place-requires
+fact-place-requires c κs =
+    let c4 = c .before .before .before .before in
+    let (P, m, n, f) = c4 .pre .0 in
+    (now (c4 .args .s), P, m, fact-listed (f .first))
+
+fact-place-requires-2 : tie.Need-fact-place-requires-2
+fact-place-requires-2 c κs =
     let c5 = c .before .before .before .before .before in
     let (P, m, n, f) = c5 .pre .0 in
-    ((P, m, n, plains-in f), c5 .pre .1)
+    (now (c5 .args .s), P, n, fact-listed (f .second))
+
+compare-requires : tie.Need-compare-requires
+compare-requires c κs =
+    let c7 = c .before .before .before .before .before .before .before in
+    let (P, m, n, f) = c7 .pre .0 in
+    (c .before .before .fact-place .ensures, c .before .fact-place2 .ensures, (P, m, n, plains-in f), c7 .pre .1)
 
 same-length : tie.Need-same-length
 same-length c = search needs
@@ -33,4 +46,12 @@ returns-2 c =
 pub same-fact-spec : {M : Type 1} → statement M
 same-fact-spec =
     tie.close
-    (tie.spec compare-requires same-length returns compare-requires-2 same-length-2 returns-2)
+    (tie.spec
+    fact-place-requires
+    fact-place-requires-2
+    compare-requires
+    same-length
+    returns
+    compare-requires-2
+    same-length-2
+    returns-2)
