@@ -4,7 +4,7 @@ use mathlib.Core.Path.{_≡_, refl, sym, ap, _∙_}
 use mathlib.Core.Bool.{Bool, not}
 use mathlib.Core.List.{List, []}
 use native.Mathlib.Omega.{arith}
-use lib.ListN.{length, drop, length-append}
+use lib.ListN.{length, drop, getD, length-append}
 use lib.IntN.{ℤ}
 use Rattle.term.specs.Sizes.{mostSymbols}
 use Rattle.lists.specs.Asks.{Asks₂, Promises₂}
@@ -22,7 +22,7 @@ use Rattle.factors.specs.Mass.Laws.{mass-pour}
 use Rattle.factors.specs.Laid.{Laid, also}
 use Rattle.factors.specs.Laid.Laws.{first-of, others-of, one-after, one-within, laid-also, also-count, also-symbols, also-bytes, count-symbols}
 use Rattle.factors.specs.Way.{wayOf}
-use Rattle.factors.specs.Way.Laws.{GoneInto, way-on, way-turn, way-name, way-factor, also-pours}
+use Rattle.factors.specs.Way.Laws.{GoneInto, way-on, way-turn, way-name, way-factor, also-pours, there-inside, there-mul}
 use Rattle.factors.specs.Contracts.{Room, Collect, Collected, OneTerm, Entered, Gone}
 
 -- ── one_term ──
@@ -63,6 +63,13 @@ module _ (arities src Q : List ℕ) (P : List ℤ) (n at : ℕ) (minus : Bool) w
         fewer = omega (arith, I .fewer);
         same = sym (I .same l);
       }
+
+  -- of mul, told by its byte
+  pub mul-gone :
+      (c : ℕ) → c ≡ getD arities 12 0 → getD src at 0 ≡ 12 → (r : Onward) → r .at ≡ at + 1 → r .n ≡ n → r .more ≡ c
+      → Promises₂ (OneTerm arities src Q P n at) (λ (l : Exps) (t : Term). Gone arities src Q P at minus r l t)
+  mul-gone c q m r e₁ e₂ e₃ l t X =
+      on-gone c (at + 1) (sym (there-mul arities src at (_, t, X .one) m) ∙ ap (λ (k : ℕ). way.On k (at + 1)) (sym q)) r e₁ e₂ e₃ l t X
 
   -- ── its arguments have the other sign ──
   module _ (c next : ℕ) (w : wayOf (symbolAt src arities at) ≡ way.Turn c next) where
@@ -180,6 +187,11 @@ module _ (arities src Q₀ : List ℕ) (P₀ : List ℤ) (n₀ at₀ k₀ : ℕ)
           (OneTerm arities src Q P n at)
       term-asks t μ J = let X = head (J .0) (J .1) (W .going (J .0) (J .1) (J .2)) in (omega (arith, W .from), (_, _, X .one))
 
+      pub walk-inside : Asks₂ (Collect arities src Q₀ P₀ n₀ at₀ k₀) → at < length src
+      walk-inside J =
+          let X = head (J .0) (J .1) (W .going (J .0) (J .1) (J .2)) in
+          there-inside arities src at (_, X .t, X .one .one)
+
       module _ (Q₁ : List ℕ) (P₁ : List ℤ) (o : Onward) (lQ : length Q₁ ≡ length Q) (lP : length P₁ ≡ length P)
           (D : Promises₂ (OneTerm arities src Q P n at) (λ (l : Exps) (t : Term). Gone arities src Q₁ P₁ at minus o l t)) where
         module _ (l : Exps) (ts : Terms) (C : Collect arities src Q₀ P₀ n₀ at₀ k₀ l ts) where
@@ -229,3 +241,16 @@ module _ (arities src Q₀ : List ℕ) (P₀ : List ℤ) (n₀ at₀ k₀ : ℕ)
 
         pub walk-next : at < o .at → Walk Q₁ P₁ (o .n) (o .at) (k - 1 + o .more)
         walk-next f = record { spans = lQ ∙ W .spans; powers = lP ∙ W .powers; from = omega (arith, W .from); going = gone }
+
+      -- a mul is passed
+      module _ (c : ℕ) (q : c ≡ getD arities 12 0) (m : getD src at 0 ≡ 12) where
+        abbrev passed : Onward
+        passed = record { at = at + 1; n = n; hint = 0; more = c }
+
+        pub mul-more : Asks₂ (Collect arities src Q₀ P₀ n₀ at₀ k₀) → (k - 1 + c ≤ mostSymbols) × (at + 1 ≤ length src)
+        mul-more J =
+            let w = walk-more Q P passed refl refl (mul-gone arities src Q P n at minus c q m passed refl refl refl) J in
+            (w .0, w .2)
+
+        pub mul-next : Walk Q P n (at + 1) (k - 1 + c)
+        mul-next = walk-next Q P passed refl refl (mul-gone arities src Q P n at minus c q m passed refl refl refl) (omega arith)

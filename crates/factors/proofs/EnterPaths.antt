@@ -5,8 +5,9 @@ use mathlib.Core.Bool.{Bool, true, false}
 use mathlib.Core.List.{List, [], _∷_}
 use native.Mathlib.Decide.{decLt}
 use native.Mathlib.Omega.{arith}
-use lib.ListN.{length, take, drop, getD, set, length-set}
-use lib.Seq.{getD-set-same, getD-set-other}
+use lib.ListN.{length, take, drop, getD, set, length-set, length-drop}
+use lib.Seq.{getD-set-same, getD-set-other, length-take-le}
+use borrow.Author.Tests.{lt-ltb, le-ltb}
 use lib.IntN.{ℤ, pos, _+ℤ_, natAbs}
 use mir.Syntax.{w32}
 use mir.Val.{SFits, toZ, ofZ}
@@ -16,7 +17,7 @@ use Rattle.lists.specs.Choice.{clash}
 use Rattle.octets.specs.Compare.{compareBytes, flipped}
 use Rattle.octets.specs.Compare.Laws.{compare-flip, compare-refl, compare-same, compare-trans}
 use Rattle.octets.specs.Limits.{longest}
-use Rattle.octets.specs.Head.{Bytes, Stands, head-of, stands-within, stands-part}
+use Rattle.octets.specs.Head.{Bytes, Stands, stands-within, stands-part}
 use Rattle.octets.specs.declared.Order.{Order}
 use Rattle.octets.specs.declared.Order.the-variants.{Less, Equal, Greater}
 use Rattle.term.specs.Term.{Term, encode}
@@ -31,7 +32,8 @@ use Rattle.factors.specs.Whole.{add-abs, small-fits, back}
 use Rattle.factors.specs.Mass.{size, mass}
 use Rattle.factors.specs.Mass.Laws.{size-mass, sign-abs}
 use Rattle.factors.specs.Rows.{Table, startOf, endOf, Bounds, Rising, bytesAt, orderAt, meeting, Found, Moved}
-use Rattle.factors.specs.Rows.Laws.{rows-bounds, rows-rising, rows-abs, start-opened, end-opened, power-opened, rows-in, size-in, rows-same, size-same}
+use Rattle.factors.specs.Rows.Laws.{part-two, rows-bounds, rows-rising, rows-abs, start-opened, end-opened}
+use Rattle.factors.specs.Rows.Laws.{power-opened, rows-in, size-in, rows-same, size-same}
 use Rattle.factors.specs.Laid.Laws.{one-bytes, one-within, some-symbol}
 use Rattle.factors.specs.Way.{wayOf}
 use Rattle.factors.specs.Way.Laws.{way-end}
@@ -121,17 +123,13 @@ module _ (key src Q : List ℕ) (n : ℕ) where
       }
 
 -- ── the hinted entry ──
-two-bytes : (s : List ℕ) (a k : ℕ) → k ≡ 2 → a + 1 < length s → take k (drop a s) ≡ getD s a 0 ∷ getD s (a + 1) 0 ∷ []
-two-bytes s a k q h =
-    rw q (ap (take 2) (head-of s a (omega arith) ∙ ap (λ (r : List ℕ). getD s a 0 ∷ r) (head-of s (a + 1) h)))
-
 -- two parts of two bytes each
 module _ (s : List ℕ) (a e x y : ℕ) (k : e - a ≡ 2) (j : y - x ≡ 2) (h : e ≤ length s) (g : y ≤ length s) where
   two-same :
       getD s x 0 ≡ getD s a 0 → getD s (x + 1) 0 ≡ getD s (a + 1) 0 → compareBytes (take (e - a) (drop a s)) (take (y - x) (drop x s)) ≡ Equal
   two-same p q =
       let z : take (e - a) (drop a s) ≡ take (y - x) (drop x s) =
-      two-bytes s a (e - a) k (omega arith) ∙ ap₂ (λ (u v : ℕ). u ∷ v ∷ []) (sym p) (sym q) ∙ sym (two-bytes s x (y - x) j (omega arith)) in
+      part-two s a e k (omega arith) ∙ ap₂ (λ (u v : ℕ). u ∷ v ∷ []) (sym p) (sym q) ∙ sym (part-two s x y j (omega arith)) in
       ap (compareBytes (take (e - a) (drop a s))) (sym z) ∙ compare-refl (take (e - a) (drop a s))
 
 pub same-leaf :
@@ -141,6 +139,58 @@ pub same-leaf :
 same-leaf src Q n a e h B R i l j k p q =
     found-same (take (e - a) (drop a src)) src Q n R h l Equal
     (sym (two-same src a e (startOf Q h) (endOf Q h) k j i (B h l .1) p q)) refl
+
+-- ── behind the last entry ──
+-- two parts of two bytes each
+module _ (s : List ℕ) (a e x y : ℕ) (k : e - a ≡ 2) (j : y - x ≡ 2) (h : e ≤ length s) (g : y ≤ length s) where
+  two-parts :
+      (o : Order) → compareBytes (getD s a 0 ∷ getD s (a + 1) 0 ∷ []) (getD s x 0 ∷ getD s (x + 1) 0 ∷ []) ≡ o
+      → compareBytes (take (e - a) (drop a s)) (take (y - x) (drop x s)) ≡ o
+  two-parts o z = ap₂ compareBytes (part-two s a e k (omega arith)) (part-two s x y j (omega arith)) ∙ z
+
+  first-greater : getD s x 0 < getD s a 0 → compareBytes (take (e - a) (drop a s)) (take (y - x) (drop x s)) ≡ Greater
+  first-greater l =
+      two-parts Greater (simp (le-ltb (getD s a 0) (getD s x 0) (omega arith), lt-ltb (getD s x 0) (getD s a 0) l))
+
+  second-greater :
+      getD s x 0 ≡ getD s a 0 → getD s (x + 1) 0 < getD s (a + 1) 0
+      → compareBytes (take (e - a) (drop a s)) (take (y - x) (drop x s)) ≡ Greater
+  second-greater q l =
+      two-parts Greater
+      (simp (
+        le-ltb (getD s a 0) (getD s x 0) (omega arith),
+        le-ltb (getD s x 0) (getD s a 0) (omega arith),
+        le-ltb (getD s (a + 1) 0) (getD s (x + 1) 0) (omega arith),
+        lt-ltb (getD s (x + 1) 0) (getD s (a + 1) 0) l,
+      ))
+
+module _ (src Q : List ℕ) (n a e : ℕ) where
+  abbrev leaf-bytes : List ℕ
+  leaf-bytes = take (e - a) (drop a src)
+
+  pub behind-none : n ≡ 0 → Found leaf-bytes src Q n n false
+  behind-none z =
+      record { within = omega arith; before = λ k h. absurd (omega arith); here = λ h. absurd (omega arith); end = λ q. clash (cc) }
+
+  module _ (B : Bounds src Q n) (R : Rising src Q n) (i : e ≤ length src) (some : n ≡ 0 → ⊥) (j : endOf Q (n - 1) - startOf Q (n - 1) ≡ 2)
+      (k : e - a ≡ 2) where
+    behind-last : orderAt leaf-bytes src Q (n - 1) ≡ Greater → Found leaf-bytes src Q n n false
+    behind-last g =
+        let l : n - 1 < n = omega arith in
+        found-between leaf-bytes src Q n n n (omega arith)
+        (narrowed-greater leaf-bytes src Q n R (n - 1) l Greater (sym g) 0 n (between-all leaf-bytes src Q n) (omega arith) l refl n n (omega arith) refl
+        .between)
+
+    abbrev last : ℕ
+    last = startOf Q (n - 1)
+
+    pub behind-first : getD src last 0 < getD src a 0 → Found leaf-bytes src Q n n false
+    behind-first l =
+        behind-last (first-greater src a e last (endOf Q (n - 1)) k j i (B (n - 1) (omega arith) .1) l)
+
+    pub behind-second : getD src last 0 ≡ getD src a 0 → getD src (last + 1) 0 < getD src (a + 1) 0 → Found leaf-bytes src Q n n false
+    behind-second q l =
+        behind-last (second-greater src a e last (endOf Q (n - 1)) k j i (B (n - 1) (omega arith) .1) q l)
 
 -- ── entering ──
 module _ (key src Q : List ℕ) (P : List ℤ) (n a : ℕ) where
@@ -223,6 +273,20 @@ module _ (key src Q : List ℕ) (P : List ℤ) (n a : ℕ) where
             many = size-in src Q P key n i (sign minus) t (X .bytes) (F .before) here 0 l (omega arith) (F .within) q (X .table .rows) ∙ ap (λ j. j + 1)
                 (X .table .many);
           }
+
+-- ── a new last entry ──
+moved-none : {A : Type 0} (d : A) (s : ℕ) (l : List A) (i : ℕ) → Moved d s l l i i
+moved-none d s l i = record { below = λ j h. refl; above = λ j h k. absurd (omega arith) }
+
+pub appended :
+    (src Q : List ℕ) (P : List ℤ) (n a e : ℕ) (minus : Bool) (u : ℤ) → u ≡ sign minus → a ≤ e → e ≤ length src
+    → Found (take (e - a) (drop a src)) src Q n n false → (l : Exps) (t : Term) → Enter (take (e - a) (drop a src)) src Q P n a l t
+    → Table src (set (set Q (2 * n) a) (2 * n + 1) e) (set P n (toZ w32 (ofZ w32 u))) (n + 1) (enter t (sign minus) l)
+appended src Q P n a e minus u eu h g F l t X =
+    let q : a + length (take (e - a) (drop a src)) ≡ e =
+    omega (arith, length-take-le (e - a) (drop a src) (rw length-drop (omega arith))) in
+    subst (λ (z : ℕ). Table src (set (set Q (2 * n) a) (2 * n + 1) z) (set P n (toZ w32 (ofZ w32 u))) (n + 1) (enter t (sign minus) l)) q
+    (entered-new (take (e - a) (drop a src)) src Q P n a minus n false F u eu refl Q P (moved-none 0 2 Q (2 * n)) (moved-none (pos 0) 1 P n) refl refl l t X)
 
 -- ── the term at a place ──
 module _ (arities src Q : List ℕ) (P : List ℤ) (n at : ℕ) where

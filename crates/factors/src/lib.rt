@@ -1,13 +1,14 @@
 // The factors of some terms in a table: for each its place in the caller's slice and its exponent, ascending by encoded bytes.
 ghost use mathlib.Core.Path.{_≡_};
-ghost use mathlib.Core.Bool.{true};
+ghost use mathlib.Core.Bool.{true, false};
 ghost use Prim.Native.Nat.{_+_, _-_, _*_, _≤_, _<_};
-ghost use lib.ListN.{length, take, drop};
+ghost use lib.ListN.{length, take, drop, getD};
 ghost use lib.IntN.{pos};
 ghost use Rattle.term.specs.Term.{Term, Terms, encode, encodes};
 ghost use Rattle.message.specs.Product.{Exps};
 ghost use Rattle.lists.specs.Asks.{Asks₂, Promises₂};
 ghost use Rattle.octets.specs.Compare.{compareBytes};
+ghost use Rattle.term.specs.Tags.{mulTag};
 ghost use Rattle.term.specs.Reader.{symbolAt};
 ghost use Rattle.message.specs.Gather.{sign, enter, pours};
 ghost use Rattle.factors.specs.Rows.{Moved, Bounds, Found, FoundAt, Rising, Table};
@@ -27,7 +28,7 @@ const BITS: usize = 7;
 
 const TOP_BIT: u8 = 1 << BITS;
 
-const SHORT_LEAF: usize = 2;
+pub const SHORT_LEAF: usize = 2;
 
 // An entry's places in the table: the factor's start, and behind it its end.
 pub const SPAN: usize = 2;
@@ -223,7 +224,57 @@ fn hinted(src: &[u8], a: usize, e: usize, spans: &[u32], n: usize, hint: usize) 
     h
 }
 
-// The leaf from a up to e goes into the table likewise: factors mostly come in order, so that it mostly is the entry that is tried.
+// Whether the leaf from a up to e comes behind the last entry, by two bytes; false where they do not tell.
+fn is_behind(src: &[u8], a: usize, e: usize, spans: &[u32], n: usize) -> bool
+    requires { ⌜ (2 * n ≤ length (now spans)) × Bounds (now src) (now spans) n × Rising (now src) (now spans) n × (a ≤ e) × (e ≤ length (now src)) ⌝ }
+    ensures { λ r. ⌜ (r ≡ true → Found (take (e - a) (drop a (now (src .entry)))) (now (src .entry)) (now (spans .entry)) n n false) ⌝ }
+{
+    if n == 0 {
+        return true;
+    }
+    let j = n - 1;
+    let x = spans[SPAN * j] as usize;
+    let y = spans[SPAN * j + 1] as usize;
+    if y - x != SHORT_LEAF {
+        return false;
+    }
+    if e - a != SHORT_LEAF {
+        return false;
+    }
+    if src[x] < src[a] {
+        return true;
+    }
+    if src[x] != src[a] {
+        return false;
+    }
+    src[x + 1] < src[a + 1]
+}
+
+// A leaf that comes behind the last entry becomes the last.
+fn append(
+    spans: &mut [u32],
+    powers: &mut [i32],
+    n: usize,
+    src: &[u8],
+    a: usize,
+    e: usize,
+    minus: bool,
+) -> Put
+    requires { ⌜ (a ≤ e) × (e ≤ length (now src)) × Asks₂ (Enter (take (e - a) (drop a (now src))) (now src) (now spans) (now powers) n a) × Found (take (e - a) (drop a (now src))) (now src) (now spans) n n false ⌝ }
+    ensures { λ r. ⌜ Promises₂ (Enter (take (e - a) (drop a (now (src .entry)))) (now (src .entry)) (now (spans .entry)) (now (powers .entry)) n a) (λ (l : Exps) (t : Term). Table (now (src .entry)) (now (spans .exit)) (now (powers .exit)) (r .n) (enter t (sign minus) l)) ⌝ }
+{
+    let u = unit(minus);
+    let at = SPAN * n;
+    spans[at] = a as u32;
+    spans[at + 1] = e as u32;
+    powers[n] = u;
+    Put {
+        n: n + 1,
+        hint: n + 1,
+    }
+}
+
+// The leaf from a up to e goes into the table likewise: factors mostly come in order, so that it mostly is the entry that is tried, or a new last one.
 fn enter_leaf(
     spans: &mut [u32],
     powers: &mut [i32],
@@ -244,6 +295,9 @@ fn enter_leaf(
         let v = k + u;
         powers[h] = v;
         return Put { n: n, hint: h + 1 };
+    }
+    if is_behind(src, a, e, spans, n) {
+        return append(spans, powers, n, src, a, e, minus);
     }
     enter(spans, powers, n, hint, src, &src[a..e], a, minus)
 }
@@ -270,16 +324,12 @@ pub fn way_at(src: &[u8], arities: &[u8], at: usize) -> Way
     }
 }
 
-// The same where a term stands: the most frequent symbols, mul and leaves of small numbers, are told by their bytes.
+// The same where a term stands: a leaf of a small number, as most are, is told by its bytes.
 fn way_there(src: &[u8], arities: &[u8], at: usize) -> Way
     requires { ⌜ Asks₂ (OneAt (now arities) (now src) at) ⌝ }
     ensures { λ r. ⌜ r ≡ wayOf (symbolAt (now (src .entry)) (now (arities .entry)) at) ⌝ }
 {
     let b = src[at];
-    if b == MUL {
-        let k = arities[term::MUL];
-        return Way::On(k as usize, at + 1);
-    }
     if b < FIRST_FUNCTION {
         let c = src[at + 1];
         if c < TOP_BIT {
@@ -356,7 +406,18 @@ fn one_term(
     }
 }
 
-// The factors of the k terms at a place go into the table of n entries, with a sign.
+// How many terms mul takes, by the table.
+fn mul_takes(arities: &[u8]) -> usize
+    ensures { λ r. ⌜ r ≡ getD (now (arities .entry)) mulTag 0 ⌝ }
+{
+    if term::MUL < arities.len() {
+        let k = arities[term::MUL];
+        return k as usize;
+    }
+    0
+}
+
+// The factors of the k terms at a place go into the table of n entries, with a sign. Half of all symbols are mul: they are passed here.
 pub fn collect(
     spans: &mut [u32],
     powers: &mut [i32],
@@ -370,11 +431,18 @@ pub fn collect(
     requires { ⌜ Asks₂ (Collect (now arities) (now src) (now spans) (now powers) n at k) ⌝ }
     ensures { λ r. ⌜ Promises₂ (Collect (now (arities .entry)) (now (src .entry)) (now (spans .entry)) (now (powers .entry)) n at k) (λ (l : Exps) (ts : Terms). Collected (now (src .entry)) (now (spans .exit)) (now (powers .exit)) (at + length (encodes ts)) r (pours minus ts l)) ⌝ }
 {
+    let takes = mul_takes(arities);
     let mut i = at;
     let mut m = n;
     let mut hint = n;
     let mut left = k;
     while 0 < left {
+        let b = src[i];
+        if b == MUL {
+            i += 1;
+            left = left - 1 + takes;
+            continue;
+        }
         let o = one_term(spans, powers, m, hint, src, i, arities, minus);
         i = o.at;
         m = o.n;

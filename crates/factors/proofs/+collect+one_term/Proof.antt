@@ -1,12 +1,12 @@
 -- Together, the slice that is left falling: what is gathered and the pending terms' factors are all the terms' factors, and a turned sign negates.
-use Prim.Native.Nat.{_-_, _+_, _*_, ℕ, _<_}
-use native.Mathlib.Omega.{arith}
-use mathlib.Core.Path.{refl, sym, _∙_}
-use lib.ListN.{length}
-use Rattle.factors.proofs.EnterPaths.{leaf-asks, leaf-entered}
-use Rattle.factors.proofs.CollectPaths.{walk-first, walk-done, term-asks, walk-more, walk-next}
-use Rattle.factors.proofs.CollectPaths.{on-gone, turn-asks, turn-gone, leaf-gone, factor-gone, Walk}
 use borrow.Author.Needs.{needs}
+use Rattle.factors.proofs.CollectPaths.{on-gone, turn-asks, turn-gone, leaf-gone, factor-gone, Walk}
+use Rattle.factors.proofs.CollectPaths.{walk-first, walk-done, term-asks, walk-inside, walk-more, walk-next, mul-more, mul-next}
+use Rattle.factors.proofs.EnterPaths.{leaf-asks, leaf-entered}
+use lib.ListN.{length}
+use mathlib.Core.Path.{refl, sym, _∙_}
+use native.Mathlib.Omega.{arith}
+use Prim.Native.Nat.{_-_, _+_, _*_, ℕ, _<_}
 use Prim.Native.Nat.{ℕ, _<_}
 use borrow.Fn.Kinds.{In}
 use borrow.Fn.PlainCycle.{Measures, is, falls, and}
@@ -16,8 +16,9 @@ use Rattle.factors.proofs.+collect+one_term.Lts-collect as collect-lts
 use Rattle.factors.proofs.one_term.Reads as one-term
 use Rattle.factors.proofs.one_term.Kinds as one-term-kinds
 use Rattle.factors.proofs.+collect+one_term.Lts-one_term as one-term-lts
-use Rattle.factors.proofs.enter_leaf.Reads as enter-leaf-reads
 use Rattle.factors.proofs.enter_at.Reads as enter-at-reads
+use Rattle.factors.proofs.enter_leaf.Reads as enter-leaf-reads
+use Rattle.factors.proofs.mul_takes.Reads as mul-takes-reads
 use Rattle.factors.proofs.way_there.Reads as way-there-reads
 use Rattle.factors.proofs.+collect+one_term.{statement}
 use Rattle.factors.proofs.+collect+one_term.Tie.{close}
@@ -44,128 +45,193 @@ one-term-below t =
     and 4 one-term-kinds.ps (falls 4 one-term-kinds.ps _<_ μ-one-term t) one-term.Pre
 
 abbrev collect-Inv-loop : collect-lts.InvT-loop
-collect-Inv-loop spans₀ powers₀ n src at k arities minus i₀ m₀ hint₀ left₀ spans powers i m hint left =
+collect-Inv-loop spans₀ powers₀ n src at k arities minus takes i₀ m₀ hint₀ left₀ spans powers i m hint left =
     Walk arities src spans₀ powers₀ n at k minus spans powers m i left
 
 abbrev collect-μ-loop : collect-lts.MeasureT-loop
-collect-μ-loop spans₀ powers₀ n src at k arities minus i₀ m₀ hint₀ left₀ spans powers i m hint left =
+collect-μ-loop spans₀ powers₀ n src at k arities minus takes i₀ m₀ hint₀ left₀ spans powers i m hint left =
     length src - i
 
-collect-loop-holds :
-    (t : ℕ) →
-    collect-lts.Need-loop-holds
-    (one-term-below t, one-term.Post)
-    (collect-at t)
-    collect.Post
-    collect-Inv-loop
-    collect-μ-loop
+collect-mul-takes-requires : (t : ℕ) → collect-lts.Need-mul-takes-requires (
+  mul-takes-reads.Asked,
+  mul-takes-reads.Learnt,
+  one-term-below t,
+  one-term.Post,
+) (collect-at t) collect.Post collect-Inv-loop collect-μ-loop
+collect-mul-takes-requires t c κs = search needs
+
+collect-loop-holds : (t : ℕ) → collect-lts.Need-loop-holds (
+  mul-takes-reads.Asked,
+  mul-takes-reads.Learnt,
+  one-term-below t,
+  one-term.Post,
+) (collect-at t) collect.Post collect-Inv-loop collect-μ-loop
 collect-loop-holds t c =
-    let r = c .before .before .before .args in walk-first (r .arities .now) (r .src .now) (r .spans .now) (r .powers .now) (r .n) (r .at) (r .k) (r .minus)
+    let r = c .before .before .before .before .args in walk-first (r .arities .now) (r .src .now) (r .spans .now) (r .powers .now) (r .n) (r .at) (r .k)
+    (r .minus)
+
+collect-shared-slice-read-b : (t : ℕ) → collect-lts.Need-shared-slice-read-b (
+  mul-takes-reads.Asked,
+  mul-takes-reads.Learnt,
+  one-term-below t,
+  one-term.Post,
+) (collect-at t) collect.Post collect-Inv-loop collect-μ-loop
+collect-shared-slice-read-b t c =
+    let c7 = c .before .before .before .before .before .before .before in
+    let r = c7 .args in walk-inside (r .arities .now) (r .src .now) (r .spans .now) (r .powers .now) (r .n) (r .at) (r .k) (r .minus) _ _ _ _ _
+    (c .before .before .loop .inv) (c .before .loop-test .taken) (c7 .pre .1)
+
+collect-add-i : (t : ℕ) → collect-lts.Need-add-i (
+  mul-takes-reads.Asked,
+  mul-takes-reads.Learnt,
+  one-term-below t,
+  one-term.Post,
+) (collect-at t) collect.Post collect-Inv-loop collect-μ-loop
+collect-add-i t c =
+    let c3 = c .before .before .before in
+    let c8 = c3 .before .before .before .before .before in
+    let r = c8 .args in let w = walk-inside (r .arities .now) (r .src .now) (r .spans .now) (r .powers .now) (r .n) (r .at) (r .k) (r .minus) _ _ _ _ _
+    (c3 .loop .inv) (c .before .before .loop-test .taken) (c8 .pre .1) in omega arith
+
+collect-sub-left : (t : ℕ) → collect-lts.Need-sub-left (
+  mul-takes-reads.Asked,
+  mul-takes-reads.Learnt,
+  one-term-below t,
+  one-term.Post,
+) (collect-at t) collect.Post collect-Inv-loop collect-μ-loop
+collect-sub-left t c = search needs
+
+collect-add-left : (t : ℕ) → collect-lts.Need-add-left (
+  mul-takes-reads.Asked,
+  mul-takes-reads.Learnt,
+  one-term-below t,
+  one-term.Post,
+) (collect-at t) collect.Post collect-Inv-loop collect-μ-loop
+collect-add-left t c =
+    let c3 = c .before .before .before in
+    let c4 = c3 .before in
+    let c8 = c4 .before .before .before .before in
+    let r = c8 .args in let w = mul-more (r .arities .now) (r .src .now) (r .spans .now) (r .powers .now) (r .n) (r .at) (r .k) (r .minus) _ _ _ _ _
+    (c3 .loop .inv) (c .before .before .loop-test .taken) _ (c4 .mul-takes .ensures) (c .if1 .taken) (c8 .pre .1) in omega (arith, w .0)
+
+collect-loop-less : (t : ℕ) → collect-lts.Need-loop-less (
+  mul-takes-reads.Asked,
+  mul-takes-reads.Learnt,
+  one-term-below t,
+  one-term.Post,
+) (collect-at t) collect.Post collect-Inv-loop collect-μ-loop
+collect-loop-less t c =
+    let c3 = c .before .before .before in
+    let c4 = c3 .before in
+    let c8 = c4 .before .before .before .before in
+    let r = c8 .args in let w = mul-more (r .arities .now) (r .src .now) (r .spans .now) (r .powers .now) (r .n) (r .at) (r .k) (r .minus) _ _ _ _ _
+    (c3 .loop .inv) (c .before .before .loop-test .taken) _ (c4 .mul-takes .ensures) (c .if1 .taken) (c8 .pre .1) in omega (arith, w .1)
+
+collect-loop-again : (t : ℕ) → collect-lts.Need-loop-again (
+  mul-takes-reads.Asked,
+  mul-takes-reads.Learnt,
+  one-term-below t,
+  one-term.Post,
+) (collect-at t) collect.Post collect-Inv-loop collect-μ-loop
+collect-loop-again t c =
+    let c3 = c .before .before .before in
+    let c4 = c3 .before in
+    let c8 = c4 .before .before .before .before in
+    let r = c8 .args in mul-next (r .arities .now) (r .src .now) (r .spans .now) (r .powers .now) (r .n) (r .at) (r .k) (r .minus) _ _ _ _ _ (c3 .loop .inv)
+    (c .before .before .loop-test .taken) _ (c4 .mul-takes .ensures) (c .if1 .taken)
 
 collect-one-term-requires : (t : ℕ) → collect-lts.Need-one-term-requires (
+  mul-takes-reads.Asked,
+  mul-takes-reads.Learnt,
   one-term-below t,
   one-term.Post,
 ) (collect-at t) collect.Post collect-Inv-loop collect-μ-loop
 collect-one-term-requires t c κs =
-    let c3 = c .before .before .before in
-    let c7 = c3 .before .before .before .before in
-    let r = c7 .args in term-asks (r .arities .now) (r .src .now) (r .spans .now) (r .powers .now) (r .n) (r .at) (r .k) (r .minus) _ _ _ _ _
-    (c3 .loop .inv) (c .before .before .loop-test .taken) t (c7 .pre .0) (c7 .pre .1)
-
-collect-sub-left :
-    (t : ℕ) →
-    collect-lts.Need-sub-left
-    (one-term-below t, one-term.Post)
-    (collect-at t)
-    collect.Post
-    collect-Inv-loop
-    collect-μ-loop
-collect-sub-left t c = search needs
-
-collect-add-left :
-    (t : ℕ) →
-    collect-lts.Need-add-left
-    (one-term-below t, one-term.Post)
-    (collect-at t)
-    collect.Post
-    collect-Inv-loop
-    collect-μ-loop
-collect-add-left t c =
     let c4 = c .before .before .before .before in
-    let c7 = c4 .before .before .before in
-    let c8 = c7 .before in
-    let c12 = c8 .before .before .before .before in
-    let r = c12 .args in let w = walk-more (r .arities .now) (r .src .now) (r .spans .now) (r .powers .now) (r .n) (r .at) (r .k) (r .minus) _ _ _ _ _
-    (c8 .loop .inv) (c7 .loop-test .taken) _ _ _ (c4 .one-term .kept .0) (c4 .one-term .kept .1 .0) (c4 .one-term .ensures) (c12 .pre .1) in omega arith
+    let c5 = c4 .before in
+    let c10 = c5 .before .before .before .before .before in
+    let r = c10 .args in term-asks (r .arities .now) (r .src .now) (r .spans .now) (r .powers .now) (r .n) (r .at) (r .k) (r .minus) _ _ _ _ _ (c5 .loop .inv)
+    (c4 .loop-test .taken) t (c10 .pre .0) (c10 .pre .1)
 
-collect-loop-less :
-    (t : ℕ) →
-    collect-lts.Need-loop-less
-    (one-term-below t, one-term.Post)
-    (collect-at t)
-    collect.Post
-    collect-Inv-loop
-    collect-μ-loop
-collect-loop-less t c =
+collect-sub-left-2 : (t : ℕ) → collect-lts.Need-sub-left-2 (
+  mul-takes-reads.Asked,
+  mul-takes-reads.Learnt,
+  one-term-below t,
+  one-term.Post,
+) (collect-at t) collect.Post collect-Inv-loop collect-μ-loop
+collect-sub-left-2 t c = search needs
+
+collect-add-left-2 : (t : ℕ) → collect-lts.Need-add-left-2 (
+  mul-takes-reads.Asked,
+  mul-takes-reads.Learnt,
+  one-term-below t,
+  one-term.Post,
+) (collect-at t) collect.Post collect-Inv-loop collect-μ-loop
+collect-add-left-2 t c =
     let c4 = c .before .before .before .before in
-    let c7 = c4 .before .before .before in
-    let c8 = c7 .before in
-    let c12 = c8 .before .before .before .before in
-    let r = c12 .args in let w = walk-more (r .arities .now) (r .src .now) (r .spans .now) (r .powers .now) (r .n) (r .at) (r .k) (r .minus) _ _ _ _ _
-    (c8 .loop .inv) (c7 .loop-test .taken) _ _ _ (c4 .one-term .kept .0) (c4 .one-term .kept .1 .0) (c4 .one-term .ensures) (c12 .pre .1) in omega arith
+    let c9 = c4 .before .before .before .before .before in
+    let c10 = c9 .before in
+    let c15 = c10 .before .before .before .before .before in
+    let r = c15 .args in let w = walk-more (r .arities .now) (r .src .now) (r .spans .now) (r .powers .now) (r .n) (r .at) (r .k) (r .minus) _ _ _ _ _
+    (c10 .loop .inv) (c9 .loop-test .taken) _ _ _ (c4 .one-term .kept .0) (c4 .one-term .kept .1 .0) (c4 .one-term .ensures) (c15 .pre .1) in omega arith
 
-collect-loop-again :
-    (t : ℕ) →
-    collect-lts.Need-loop-again
-    (one-term-below t, one-term.Post)
-    (collect-at t)
-    collect.Post
-    collect-Inv-loop
-    collect-μ-loop
-collect-loop-again t c =
+collect-loop-less-2 : (t : ℕ) → collect-lts.Need-loop-less-2 (
+  mul-takes-reads.Asked,
+  mul-takes-reads.Learnt,
+  one-term-below t,
+  one-term.Post,
+) (collect-at t) collect.Post collect-Inv-loop collect-μ-loop
+collect-loop-less-2 t c =
     let c4 = c .before .before .before .before in
-    let c7 = c4 .before .before .before in
-    let c8 = c7 .before in
-    let c12 = c8 .before .before .before .before in
-    let r = c12 .args in let w = walk-more (r .arities .now) (r .src .now) (r .spans .now) (r .powers .now) (r .n) (r .at) (r .k) (r .minus) _ _ _ _ _
-    (c8 .loop .inv) (c7 .loop-test .taken) _ _ _ (c4 .one-term .kept .0) (c4 .one-term .kept .1 .0) (c4 .one-term .ensures) (c12 .pre .1) in
-    walk-next (r .arities .now) (r .src .now) (r .spans .now) (r .powers .now) (r .n) (r .at) (r .k) (r .minus) _ _ _ _ _
-    (c8 .loop .inv) (c7 .loop-test .taken) _ _ _ (c4 .one-term .kept .0) (c4 .one-term .kept .1 .0) (c4 .one-term .ensures) (w .1)
+    let c9 = c4 .before .before .before .before .before in
+    let c10 = c9 .before in
+    let c15 = c10 .before .before .before .before .before in
+    let r = c15 .args in let w = walk-more (r .arities .now) (r .src .now) (r .spans .now) (r .powers .now) (r .n) (r .at) (r .k) (r .minus) _ _ _ _ _
+    (c10 .loop .inv) (c9 .loop-test .taken) _ _ _ (c4 .one-term .kept .0) (c4 .one-term .kept .1 .0) (c4 .one-term .ensures) (c15 .pre .1) in omega arith
 
-collect-same-length :
-    (t : ℕ) →
-    collect-lts.Need-same-length
-    (one-term-below t, one-term.Post)
-    (collect-at t)
-    collect.Post
-    collect-Inv-loop
-    collect-μ-loop
+collect-loop-again-2 : (t : ℕ) → collect-lts.Need-loop-again-2 (
+  mul-takes-reads.Asked,
+  mul-takes-reads.Learnt,
+  one-term-below t,
+  one-term.Post,
+) (collect-at t) collect.Post collect-Inv-loop collect-μ-loop
+collect-loop-again-2 t c =
+    let c4 = c .before .before .before .before in
+    let c9 = c4 .before .before .before .before .before in
+    let c10 = c9 .before in
+    let c15 = c10 .before .before .before .before .before in
+    let r = c15 .args in let w = walk-more (r .arities .now) (r .src .now) (r .spans .now) (r .powers .now) (r .n) (r .at) (r .k) (r .minus) _ _ _ _ _
+    (c10 .loop .inv) (c9 .loop-test .taken) _ _ _ (c4 .one-term .kept .0) (c4 .one-term .kept .1 .0) (c4 .one-term .ensures) (c15 .pre .1) in walk-next
+    (r .arities .now) (r .src .now) (r .spans .now) (r .powers .now) (r .n) (r .at) (r .k) (r .minus) _ _ _ _ _ (c10 .loop .inv) (c9 .loop-test .taken) _ _
+    _ (c4 .one-term .kept .0) (c4 .one-term .kept .1 .0) (c4 .one-term .ensures) (w .1)
+
+collect-same-length : (t : ℕ) → collect-lts.Need-same-length (
+  mul-takes-reads.Asked,
+  mul-takes-reads.Learnt,
+  one-term-below t,
+  one-term.Post,
+) (collect-at t) collect.Post collect-Inv-loop collect-μ-loop
 collect-same-length t c =
     c .before .loop .inv .spans
 
-collect-same-length-2 :
-    (t : ℕ) →
-    collect-lts.Need-same-length-2
-    (one-term-below t, one-term.Post)
-    (collect-at t)
-    collect.Post
-    collect-Inv-loop
-    collect-μ-loop
+collect-same-length-2 : (t : ℕ) → collect-lts.Need-same-length-2 (
+  mul-takes-reads.Asked,
+  mul-takes-reads.Learnt,
+  one-term-below t,
+  one-term.Post,
+) (collect-at t) collect.Post collect-Inv-loop collect-μ-loop
 collect-same-length-2 t c =
     c .before .loop .inv .powers
 
-collect-returns :
-    (t : ℕ) →
-    collect-lts.Need-returns
-    (one-term-below t, one-term.Post)
-    (collect-at t)
-    collect.Post
-    collect-Inv-loop
-    collect-μ-loop
+collect-returns : (t : ℕ) → collect-lts.Need-returns (
+  mul-takes-reads.Asked,
+  mul-takes-reads.Learnt,
+  one-term-below t,
+  one-term.Post,
+) (collect-at t) collect.Post collect-Inv-loop collect-μ-loop
 collect-returns t c =
-    let r = c .before .before .before .before .before .args in walk-done (r .arities .now) (r .src .now) (r .spans .now) (r .powers .now) (r .n) (r .at) (r .k)
-    (r .minus) _ _ _ _ _
-    (c .before .loop .inv) (c .loop-test .left) _ refl refl
+    let r = c .before .before .before .before .before .before .args in walk-done (r .arities .now) (r .src .now) (r .spans .now) (r .powers .now) (r .n)
+    (r .at) (r .k) (r .minus) _ _ _ _ _ (c .before .loop .inv) (c .loop-test .left) _ refl refl
 
 one-term-way-there-requires : (t : ℕ) → one-term-lts.Need-way-there-requires (
   way-there-reads.Asked,
@@ -218,8 +284,8 @@ one-term-collect-requires t c κs =
     let c3 = c .before .before .before in
     let c5 = c3 .before .before in
     let c9 = c5 .before .before .before .before in
-    let r = c9 .args in turn-asks (r .arities .now) (r .src .now) (r .spans .now) (r .powers .now) (r .n) (r .at) (r .minus)
-    (c3 .c2 .given .0 .0) (c3 .c2 .given .0 .1 .0) (sym (c5 .way-there .ensures) ∙ c3 .c2 .given .1) t (c9 .pre .0) (c9 .pre .1)
+    let r = c9 .args in turn-asks (r .arities .now) (r .src .now) (r .spans .now) (r .powers .now) (r .n) (r .at) (r .minus) (c3 .c2 .given .0 .0)
+    (c3 .c2 .given .0 .1 .0) (sym (c5 .way-there .ensures) ∙ c3 .c2 .given .1) t (c9 .pre .0) (c9 .pre .1)
 
 one-term-enum-known-e : (t : ℕ) → one-term-lts.Need-enum-known-e (
   way-there-reads.Asked,
@@ -247,8 +313,8 @@ one-term-enter-leaf-requires t c κs =
     let c3 = c .before .before .before in
     let c5 = c3 .before .before in
     let c9 = c5 .before .before .before .before in
-    let r = c9 .args in leaf-asks (r .arities .now) (r .src .now) (r .spans .now) (r .powers .now) (r .n) (r .at)
-    (c3 .e .given .0 .0) (sym (c5 .way-there .ensures) ∙ c3 .e .given .1) (c9 .pre .1)
+    let r = c9 .args in leaf-asks (r .arities .now) (r .src .now) (r .spans .now) (r .powers .now) (r .n) (r .at) (c3 .e .given .0 .0)
+    (sym (c5 .way-there .ensures) ∙ c3 .e .given .1) (c9 .pre .1)
 
 one-term-enum-told : (t : ℕ) → one-term-lts.Need-enum-told (
   way-there-reads.Asked,
@@ -288,8 +354,8 @@ one-term-returns : (t : ℕ) → one-term-lts.Need-returns (
 one-term-returns t c =
     let c3 = c .before .before .before in
     let c7 = c3 .before .before .before .before in
-    let r = c7 .args in on-gone (r .arities .now) (r .src .now) (r .spans .now) (r .powers .now) (r .n) (r .at) (r .minus)
-    (c .before .c .given .0 .0) (c .before .c .given .0 .1 .0) (sym (c3 .way-there .ensures) ∙ c .before .c .given .1) _ refl refl refl
+    let r = c7 .args in on-gone (r .arities .now) (r .src .now) (r .spans .now) (r .powers .now) (r .n) (r .at) (r .minus) (c .before .c .given .0 .0)
+    (c .before .c .given .0 .1 .0) (sym (c3 .way-there .ensures) ∙ c .before .c .given .1) _ refl refl refl
 
 one-term-same-length : (t : ℕ) → one-term-lts.Need-same-length (
   way-there-reads.Asked,
@@ -330,8 +396,8 @@ one-term-returns-2 t c =
     let c7 = c3 .before .before .before .before in
     let c9 = c7 .before .before in
     let c13 = c9 .before .before .before .before in
-    let r = c13 .args in turn-gone (r .arities .now) (r .src .now) (r .spans .now) (r .powers .now) (r .n) (r .at) (r .minus)
-    (c7 .c2 .given .0 .0) (c7 .c2 .given .0 .1 .0) (sym (c9 .way-there .ensures) ∙ c7 .c2 .given .1) _ _ _ (c3 .collect .ensures) _ refl refl refl
+    let r = c13 .args in turn-gone (r .arities .now) (r .src .now) (r .spans .now) (r .powers .now) (r .n) (r .at) (r .minus) (c7 .c2 .given .0 .0)
+    (c7 .c2 .given .0 .1 .0) (sym (c9 .way-there .ensures) ∙ c7 .c2 .given .1) _ _ _ (c3 .collect .ensures) _ refl refl refl
 
 one-term-same-length-3 : (t : ℕ) → one-term-lts.Need-same-length-3 (
   way-there-reads.Asked,
@@ -374,8 +440,8 @@ one-term-returns-3 t c =
     let c13 = c9 .before .before .before .before in
     let r = c13 .args in leaf-gone (r .arities .now) (r .src .now) (r .spans .now) (r .powers .now) (r .n) (r .at) (r .minus) _ _ _
     (leaf-entered (r .arities .now) (r .src .now) (r .spans .now) (r .powers .now) (r .n) (r .at) (c7 .e .given .0 .0)
-    (sym (c9 .way-there .ensures) ∙ c7 .e .given .1) (r .minus) _ _ _ (c3 .enter-leaf .ensures) _ refl refl refl)
-    (c7 .e .given .0 .0) (sym (c9 .way-there .ensures) ∙ c7 .e .given .1)
+    (sym (c9 .way-there .ensures) ∙ c7 .e .given .1) (r .minus) _ _ _ (c3 .enter-leaf .ensures) _ refl refl refl) (c7 .e .given .0 .0)
+    (sym (c9 .way-there .ensures) ∙ c7 .e .given .1)
 
 one-term-same-length-5 : (t : ℕ) → one-term-lts.Need-same-length-5 (
   way-there-reads.Asked,
@@ -416,11 +482,13 @@ one-term-returns-4 t c =
     let c6 = c3 .before .before .before in
     let c8 = c6 .before .before in
     let c12 = c8 .before .before .before .before in
-    let r = c12 .args in factor-gone (r .arities .now) (r .src .now) (r .spans .now) (r .powers .now) (r .n) (r .at) (r .minus) _ _ _
-    (c3 .enter-at .ensures) (sym (c8 .way-there .ensures) ∙ c6 .enum-told .given .1)
+    let r = c12 .args in factor-gone (r .arities .now) (r .src .now) (r .spans .now) (r .powers .now) (r .n) (r .at) (r .minus) _ _ _ (c3 .enter-at .ensures)
+    (sym (c8 .way-there .ensures) ∙ c6 .enum-told .given .1)
 
 pub +collect+one-term-spec : {M : Type 1} → statement M
 +collect+one-term-spec = close μ-collect μ-one-term (λ t. collect-lts.spec (
+  mul-takes-reads.Asked,
+  mul-takes-reads.Learnt,
   one-term-below t,
   one-term.Post,
 )
@@ -428,12 +496,19 @@ pub +collect+one-term-spec : {M : Type 1} → statement M
     collect.Post
     collect-Inv-loop
     collect-μ-loop
+    (collect-mul-takes-requires t)
     (collect-loop-holds t)
-    (collect-one-term-requires t)
+    (collect-shared-slice-read-b t)
+    (collect-add-i t)
     (collect-sub-left t)
     (collect-add-left t)
     (collect-loop-less t)
     (collect-loop-again t)
+    (collect-one-term-requires t)
+    (collect-sub-left-2 t)
+    (collect-add-left-2 t)
+    (collect-loop-less-2 t)
+    (collect-loop-again-2 t)
     (collect-same-length t)
     (collect-same-length-2 t)
     (collect-returns t))

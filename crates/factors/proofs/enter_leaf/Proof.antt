@@ -1,4 +1,4 @@
--- Where the tried entry is the leaf, the leaf is found there; otherwise `enter` promises the same.
+-- Where the tried entry is the leaf, the leaf is found there; where it comes behind the last, it is appended; otherwise `enter` promises the same.
 use Rattle.factors.proofs.EnterPaths.{enter-few, enter-asks, row-fits, entered-same}
 use native.Mathlib.Omega.{arith}
 use mathlib.Core.Path.{refl}
@@ -52,6 +52,26 @@ returns c =
     let c7 = c3 .before .before .before .before in
     λ l t X. entered-same _ _ _ _ _ _ (c7 .args .minus) _ _ (c3 .hinted .ensures (c .before .before .if1 .taken)) _ (c .before .unit .ensures) refl l t X
 
+is-behind-requires : tie.Need-is-behind-requires
+is-behind-requires c κs =
+    let c6 = c .before .before .before .before .before .before in
+    let w = enter-asks _ _ _ _ _ _ (c6 .pre .2) in (w .0, w .1, w .2, c6 .pre .0, c6 .pre .1)
+
+append-requires : tie.Need-append-requires
+append-requires c κs =
+    let c3 = c .before .before .before in
+    let c10 = c3 .before .before .before .before .before .before .before in
+    (c10 .pre .0, c10 .pre .1, c10 .pre .2, c3 .is-behind .ensures (c .before .before .if2 .taken))
+
+same-length-3 : tie.Need-same-length-3
+same-length-3 c = search needs
+
+same-length-4 : tie.Need-same-length-4
+same-length-4 c = search needs
+
+returns-2 : tie.Need-returns-2
+returns-2 c = search needs
+
 sub-enter : tie.Need-sub-enter
 sub-enter c = search needs
 
@@ -64,14 +84,14 @@ part-enter-end c = search needs
 enter-requires : tie.Need-enter-requires
 enter-requires c κs = search needs
 
-same-length-3 : tie.Need-same-length-3
-same-length-3 c = search needs
+same-length-5 : tie.Need-same-length-5
+same-length-5 c = search needs
 
-same-length-4 : tie.Need-same-length-4
-same-length-4 c = search needs
+same-length-6 : tie.Need-same-length-6
+same-length-6 c = search needs
 
-returns-2 : tie.Need-returns-2
-returns-2 c = search needs
+returns-3 : tie.Need-returns-3
+returns-3 c = search needs
 
 pub enter-leaf-spec : {M : Type 1} → statement M
 enter-leaf-spec =
@@ -88,10 +108,15 @@ enter-leaf-spec =
     same-length
     same-length-2
     returns
+    is-behind-requires
+    append-requires
+    same-length-3
+    same-length-4
+    returns-2
     sub-enter
     part-enter-start
     part-enter-end
     enter-requires
-    same-length-3
-    same-length-4
-    returns-2)
+    same-length-5
+    same-length-6
+    returns-3)

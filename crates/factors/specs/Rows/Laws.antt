@@ -1,14 +1,14 @@
 -- Entering a factor into a table.
 use Prim.Native.Nat.{ℕ, _+_, _-_, _*_, _≤_, _<_}
 use mathlib.Core.Path.{_≡_, sym, ap, ap₂, _∙_}
-use mathlib.Core.List.{List}
+use mathlib.Core.List.{List, [], _∷_}
 use native.Mathlib.Decide.{decLt}
 use native.Mathlib.Omega.{arith}
 use lib.ListN.{length, take, drop, getD, set, length-set}
 use lib.Seq.{getD-set-same, getD-set-other}
 use lib.IntN.{ℤ, pos, _+ℤ_, natAbs}
 use Rattle.octets.specs.Compare.{compareBytes}
-use Rattle.octets.specs.Head.{Stands, stands-part, stands-within}
+use Rattle.octets.specs.Head.{Stands, head-of, stands-part, stands-within}
 use Rattle.octets.specs.declared.Order.{Order}
 use Rattle.octets.specs.declared.Order.the-variants.{Less, Equal, Greater}
 use Rattle.term.specs.Term.{Term, encode}
@@ -18,6 +18,12 @@ use Rattle.message.specs.Gather.{enter}
 use Rattle.message.specs.Gather.Same.{Asc}
 use Rattle.factors.specs.Mass.{size, mass}
 use Rattle.factors.specs.Rows.{startOf, endOf, bytesAt, Rows, orderAt, Moved}
+
+-- a part of two bytes
+pub part-two :
+    (s : List ℕ) (a e : ℕ) → e - a ≡ 2 → a + 1 < length s → take (e - a) (drop a s) ≡ getD s a 0 ∷ getD s (a + 1) 0 ∷ []
+part-two s a e q h =
+    rw q (ap (take 2) (head-of s a (omega arith) ∙ ap (λ (r : List ℕ). getD s a 0 ∷ r) (head-of s (a + 1) h)))
 
 -- the order of these bytes and an entry is that of the terms
 terms-order :

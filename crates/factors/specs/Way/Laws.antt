@@ -174,7 +174,7 @@ module _ (arities src : List ℕ) where
         mul-declared : getD arities 12 undeclared ≡ undeclared → ⊥
         mul-declared u = no-fault (J .1) (J .2) (mul-symbol ∙ ap (λ (o : Option ℕ). opAt 12 o (at + 1)) (arity-none arities 12 u))
 
-        pub mul-slot : 12 < length arities
+        mul-slot : 12 < length arities
         mul-slot = elim (decLt 12 (length arities)) [ yes p ↦ p | no p ↦ absurd (mul-declared (sym (slot-outside arities 12 (omega arith)))) ]
 
         pub there-mul : way.On (getD arities 12 0) (at + 1) ≡ wayOf (symbolAt src arities at)
