@@ -1,12 +1,14 @@
 -- What `put_many` and `put_factor` ask and promise.
 use Prim.Native.Nat.{ℕ, _+_, _-_, _≤_, _<_}
-use mathlib.Core.Path.{_≡_, sym, ap, _∙_}
+use mathlib.Core.Path.{_≡_, refl, sym, ap, ap₂, _∙_}
 use mathlib.Core.Bool.{Bool, true, false}
-use mathlib.Core.List.{List, _++_}
+use mathlib.Core.List.{List, [], _∷_, _++_, append-nil}
 use native.Mathlib.Omega.{arith}
-use lib.ListN.{length, set, length-append, length-set}
+use lib.ListN.{length, getD, set, length-append, length-set}
+use lib.Seq.{getD-set-other}
 use Rattle.octets.specs.Splice.{splice}
 use Rattle.octets.specs.Splice.Prefix.{Wrote, widen, wrote-nothing, wrote-one, wrote-then}
+use Rattle.factors.specs.Rows.Laws.{part-two}
 use Rattle.product.specs.Writing.{wrote-same, copied, tagged, below-kept, bytesIn, part-long, part-same}
 use Rattle.product.specs.Chain.{repeated, copies}
 use Rattle.product.specs.Chain.Laws.{repeated-more, repeated-room}
@@ -58,6 +60,41 @@ module _ (out₀ : List ℕ) (o a e m : ℕ) (pre : (a ≤ e) × (e ≤ o) × (o
         (tagged r out out′ p r 12 x (omega arith) (omega (arith, many-room))
         (copied r (set out p 12) out′ x (p + 1) r (omega (arith, many-room, length-set out p 12, long)) (omega (arith, long)) (omega (arith, long))
         (q ∙ ap (splice (set out p 12) (p + 1)) tag-kept))))
+
+  -- ── once, and two bytes ──
+  module _ (one : m ≡ 1) (two : e - a ≡ 2) where
+    pub short-room : o + 1 + 2 ≤ length out₀
+    short-room = omega (arith, many-room out₀ o 0 (refl, omega arith, many-first) (omega arith))
+
+    short-bytes : repeated m x ≡ 12 ∷ getD out₀ a 0 ∷ getD out₀ (a + 1) 0 ∷ []
+    unfolding repeated
+    short-bytes =
+        ap (λ (k : ℕ). repeated k x) one ∙ append-nil (12 ∷ x)
+        ∙ ap (λ (l : List ℕ). 12 ∷ l) (part-two out₀ a e two (omega (arith, pre .1, short-room)))
+
+    abbrev out₁ : List ℕ
+    out₁ = set out₀ o 12
+
+    abbrev out₂ : List ℕ
+    out₂ = set out₁ (o + 1) (getD out₁ a 0)
+
+    first-byte : getD out₁ a 0 ≡ getD out₀ a 0
+    first-byte = getD-set-other out₀ o a 12 0 (λ z. omega (arith, pre .1))
+
+    second-byte : getD out₂ (a + 1) 0 ≡ getD out₀ (a + 1) 0
+    second-byte =
+        getD-set-other out₁ (o + 1) (a + 1) (getD out₁ a 0) 0 (λ z. omega (arith, pre .1))
+        ∙ getD-set-other out₀ o (a + 1) 12 0 (λ z. omega (arith, pre .1))
+
+    pub short-wrote :
+        (j r : ℕ) → j ≡ o + 1 + 1 → r ≡ o + 1 + 1 + 1 → Wrote r out₀ o (set out₂ j (getD out₂ (a + 1) 0)) r (repeated m x)
+    short-wrote j r p q =
+        let l₁ : length out₁ ≡ length out₀ = length-set out₀ o 12 in
+        let l₂ : length out₂ ≡ length out₁ = length-set out₁ (o + 1) (getD out₁ a 0) in
+        wrote-same (sym (short-bytes ∙ sym (ap₂ (λ (u v : ℕ). 12 ∷ u ∷ v ∷ []) first-byte second-byte)))
+        (rw (p, q) (wrote-then (wrote-one (o + 1 + 1 + 1) o 12 out₀ (omega arith) (omega (arith, short-room)))
+        (wrote-then (wrote-one (o + 1 + 1 + 1) (o + 1) (getD out₁ a 0) out₁ (omega arith) (omega (arith, short-room)))
+        (wrote-one (o + 1 + 1 + 1) (o + 1 + 1) (getD out₂ (a + 1) 0) out₂ (omega arith) (omega (arith, short-room))))))
 
 -- ── one factor, the last without a tag unless more comes ──
 module _ (n : ℕ) (x : List ℕ) where

@@ -82,13 +82,29 @@ fn put_many(out: &mut [u8], o: usize, a: usize, e: usize, m: usize) -> usize
     p
 }
 
+// The same; a leaf of two bytes that stands once, as most do, is written without a loop.
+fn put_all(out: &mut [u8], o: usize, a: usize, e: usize, m: usize) -> usize
+    requires { ⌜ (a ≤ e) × (e ≤ o) × (o + length (repeated m (bytesIn (now out) a e)) ≤ length (now out)) ⌝ }
+    ensures { λ r. ⌜ Wrote r (now (out .entry)) o (now (out .exit)) r (repeated m (bytesIn (now (out .entry)) a e)) ⌝ }
+{
+    if m == 1 {
+        if e - a == factors::SHORT_LEAF {
+            out[o] = MUL;
+            out[o + 1] = out[a];
+            out[o + factors::SHORT_LEAF] = out[a + 1];
+            return o + 1 + factors::SHORT_LEAF;
+        }
+    }
+    put_many(out, o, a, e, m)
+}
+
 // Writes a factor n times, the last without a tag unless more comes.
 fn put_factor(out: &mut [u8], o: usize, a: usize, e: usize, n: usize, more: bool) -> usize
     requires { ⌜ (0 < n) × (a ≤ e) × (e ≤ o) × (o + length (copies n (bytesIn (now out) a e) more) ≤ length (now out)) ⌝ }
     ensures { λ r. ⌜ Wrote r (now (out .entry)) o (now (out .exit)) r (copies n (bytesIn (now (out .entry)) a e) more) ⌝ }
 {
     if more {
-        return put_many(out, o, a, e, n);
+        return put_all(out, o, a, e, n);
     }
     let p = put_many(out, o, a, e, n - 1);
     octets::copy_within(out, a, p, e - a);
