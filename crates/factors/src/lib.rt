@@ -23,11 +23,7 @@ const MUL: u8 = term::MUL as u8;
 
 const FIRST_FUNCTION: u8 = term::FIRST_FUNCTION as u8;
 
-// "groups of seven bits": a byte below it is a whole number, and a leaf with such a number takes so many bytes.
-const BITS: usize = 7;
-
-const TOP_BIT: u8 = 1 << BITS;
-
+// The bytes of a leaf whose number is one byte.
 pub const SHORT_LEAF: usize = 2;
 
 // An entry's places in the table: the factor's start, and behind it its end.
@@ -332,7 +328,7 @@ fn way_there(src: &[u8], arities: &[u8], at: usize) -> Way
     let b = src[at];
     if b < FIRST_FUNCTION {
         let c = src[at + 1];
-        if c < TOP_BIT {
+        if c < number::TOP_BIT {
             return Way::Leaf(at + SHORT_LEAF);
         }
     }

@@ -6,12 +6,12 @@ ghost use Rattle.octets.specs.Splice.{splice};
 ghost use Rattle.number.specs.Groups.{groups, base, roomGroups};
 ghost use Rattle.number.specs.Reading.{readNumber, below, asRead, joined, got};
 
-// "groups of seven bits": a group that another follows is from BASE on.
+// "groups of seven bits": a group that another follows is from BASE on, so a byte below TOP_BIT is a whole number.
 const BITS: usize = 7;
 
 const BASE: u32 = 1 << BITS;
 
-const TOP_BIT: u8 = 1 << BITS;
+pub const TOP_BIT: u8 = 1 << BITS;
 
 // "three groups at most", and the limit that follows.
 const MOST_GROUPS: usize = 3;
