@@ -8,5 +8,7 @@ pub mod Rules
 pub mod Calls
 -- a mark for each fact
 pub mod Marks
+-- a fact that is kept, to be compared with others
+pub mod Kept
 -- what callers owe
 pub mod Owed

@@ -9,7 +9,9 @@ ghost use Rattle.protocol.specs.Protocol.{Protocol};
 ghost use Rattle.steps.specs.Nodes.{Node};
 ghost use Rattle.steps.specs.Facts.{sameFact, sameTerm};
 ghost use Rattle.facts.specs.Writing.{factRoom, Put};
-ghost use Rattle.facts.specs.Calls.{Room, FactsIn, AtPlace, OneOf, factAt, argumentAt, Compared};
+ghost use Rattle.facts.specs.Calls.{Room, FactsIn, AtPlace, WholeFact, OneOf, factAt, argumentAt, Compared};
+ghost use Rattle.facts.specs.Kept.{SameAs};
+use crate::marks::KeptFact;
 use crate::nodes;
 use crate::nodes::FactId;
 use crate::nodes::PlacedFact;
@@ -72,6 +74,24 @@ pub fn same_fact(out: &mut [u8], p: &[u8], s: &[u8], nodes: &[usize], x: FactId,
     }
     let b = compare(out, p, s, nodes, f, Wanted::All, g, Wanted::All);
     b.symbols & b.bytes
+}
+
+// Whether a fact that is kept and another are the same. The other's canonical bytes go behind those of the one that is kept, which stay.
+pub fn same_as_kept(
+    out: &mut [u8],
+    p: &[u8],
+    s: &[u8],
+    nodes: &[usize],
+    kept: KeptFact,
+    y: FactId,
+) -> bool
+    requires { ⌜ Asks₂ (WholeFact (now p) (now s) (now nodes) y) × Room (now out) factRoom × (kept .end ≤ factRoom) ⌝ }
+    ensures same { λ r. ⌜ Promises₂ (WholeFact (now (p .entry)) (now (s .entry)) (now (nodes .entry)) y) (λ (P : Protocol) (n : Node). SameAs (now (out .entry)) kept P (factAt P (y .list) (y .number) n) r) ⌝ }
+    ensures stays { λ r. ⌜ take (kept .end) (now (out .exit)) ≡ take (kept .end) (now (out .entry)) ⌝ }
+{
+    let b = nodes::node_fact(out, kept.end, p, s, nodes, y, Wanted::All);
+    let same = same_parts(out, kept.end, b.end);
+    (kept.symbol == b.symbol) & same
 }
 
 // Whether argument i of a node's fact and argument j of another are the same.

@@ -4,5 +4,5 @@ pub mod writing; // the canonical bytes of a fact, or of one argument of it; its
 pub mod nodes; // of a node's fact
 pub mod counts; // how many facts a node has
 pub mod symbols; // and their symbols
-pub mod compare; // two facts, two arguments, an argument and a public name
 pub mod marks; // facts whose marks differ are not the same
+pub mod compare; // two facts, two arguments, an argument and a public name

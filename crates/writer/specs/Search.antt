@@ -12,7 +12,8 @@ use Rattle.steps.specs.Facts.{factsOf, sameFact}
 use Rattle.steps.specs.Causes.Good.{RightNodes}
 use Rattle.facts.specs.declared.nodes.FactId.{FactId}
 use Rattle.facts.specs.Calls.{factAt}
-use Rattle.facts.specs.Marks.{markOf}
+use Rattle.facts.specs.declared.marks.KeptFact.{KeptFact}
+use Rattle.facts.specs.Kept.{Keeps}
 use Rattle.writer.specs.declared.free.Source.{Source}
 use Rattle.writer.specs.declared.free.Source.the-variants as source
 use Rattle.writer.specs.Free.{Marked, entryPlaced, freeIn}
@@ -28,13 +29,13 @@ factIn P xs a = factAt P (a .list) (a .number) (getD xs (a .node) noNode)
 abbrev pub isSame : Protocol → List Node → FactId → Placed Fact → Bool
 isSame P xs a t = sameFact (factIn P xs a) (t .fact)
 
--- ── looking for a source of fact a ──
-pub record Searching (p s nodes free : List ℕ) (a : FactId) (mark : ℕ) (P : Protocol) (xs : List Node) : Type 0 where
+-- ── looking for a source of fact a, which is kept in the work slice ──
+pub record Searching (p s nodes free : List ℕ) (a : FactId) (work : List ℕ) (k : KeptFact) (P : Protocol) (xs : List Node) : Type 0 where
   pub right : RightNodes p s nodes (length xs) P xs
   pub inside : a .node < length xs
   pub listed : a .number < length (factsOf P (a .list) (getD xs (a .node) noNode))
   pub marked : Marked free (mostFacts * a .node) P xs
-  pub mark-is : mark ≡ markOf (factIn P xs a)
+  pub keeps : Keeps work k (factIn P xs a)
 
 abbrev pub Found : List ℕ → FactId → Source → Protocol → List Node → Type 0
 Found free a (source.At v) P xs = FirstAt (entryPlaced P xs) (isSame P xs a) free v (mostFacts * a .node)

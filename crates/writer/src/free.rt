@@ -15,6 +15,7 @@ ghost use Rattle.writer.specs.Search.{Searching, Found, AtNode, Entered}
 use facts::compare;
 use facts::counts;
 use facts::marks;
+use facts::marks::KeptFact;
 use facts::nodes::FactId;
 use facts::symbols;
 use protocol::figures;
@@ -44,7 +45,8 @@ fn conclusion_of(entry: usize) -> FactId
     }
 }
 
-// The first free conclusion of an earlier node that is the same fact as x. Facts are compared only where their marks agree.
+// The first free conclusion of an earlier node that is the same fact as x, which is kept in the work slice. Facts are compared only where their
+// marks agree.
 pub fn find_source(
     work: &mut [u8],
     p: &[u8],
@@ -52,17 +54,17 @@ pub fn find_source(
     nodes: &[usize],
     free: &[u32],
     x: FactId,
-    mark: u32,
+    kept: KeptFact,
 ) -> Source
-    requires { ⌜ Asks₂ (Searching (now p) (now s) (now nodes) (now free) x mark) × Room (now work) factRoom ⌝ }
-    ensures { λ r. ⌜ Promises₂ (Searching (now (p .entry)) (now (s .entry)) (now (nodes .entry)) (now (free .entry)) x mark) (Found (now (free .entry)) x r) ⌝ }
+    requires { ⌜ Asks₂ (Searching (now p) (now s) (now nodes) (now free) x (now work) kept) × Room (now work) factRoom ⌝ }
+    ensures { λ r. ⌜ Promises₂ (Searching (now (p .entry)) (now (s .entry)) (now (nodes .entry)) (now (free .entry)) x (now (work .entry)) kept) (Found (now (free .entry)) x r) ⌝ }
 {
     let end = figures::MOST_FACTS * x.node;
-    let wanted = mark + 1;
+    let wanted = kept.mark + 1;
     let mut v: usize = 0;
     while v < end {
         if free[v] == wanted {
-            if compare::same_fact(work, p, s, nodes, x, conclusion_of(v)) {
+            if compare::same_as_kept(work, p, s, nodes, kept, conclusion_of(v)) {
                 return Source::At(v);
             }
         }

@@ -79,8 +79,8 @@ fn feed_premise(
         list: figures::PREMISES,
         number: target.number,
     };
-    let mark = marks::fact_mark(work, p, s, nodes, x);
-    match free::find_source(work, p, s, nodes, free, x, mark) {
+    let kept = marks::keep_fact(work, p, s, nodes, x);
+    match free::find_source(work, p, s, nodes, free, x, kept) {
         Source::At(v) => {
             free::take_source(p, nodes, x, free, v);
             put_edge(edges, e, v, target);

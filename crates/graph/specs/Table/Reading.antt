@@ -4,7 +4,7 @@ use mathlib.Core.List.{List, [], _∷_, _++_}
 use mathlib.Core.Path.{_≡_, refl, ap, ap₂, sym, _∙_, subst}
 use native.Mathlib.Omega.{arith}
 use native.Mathlib.Numerals.{add-one}
-use lib.ListN.{length, length-append, getD, drop, set, List·getD-append}
+use lib.ListN.{length, getD, drop, set, List·getD-append}
 use lib.Seq.{getD-drop, getD-set-same, getD-set-other, drop-append-seam}
 use Rattle.lists.specs.Choice.{by-size}
 use Rattle.octets.specs.Head.{Bytes, stands-within}

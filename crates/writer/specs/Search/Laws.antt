@@ -19,9 +19,10 @@ use Rattle.steps.specs.Facts.Counts.{facts-few}
 use Rattle.steps.specs.Table.Laws.{node-in}
 use Rattle.steps.specs.Values.{NodeRight}
 use Rattle.steps.specs.Causes.Good.{RightNodes}
-use Rattle.facts.specs.declared.writing.Wanted.the-variants as want
 use Rattle.facts.specs.declared.nodes.FactId.{FactId}
-use Rattle.facts.specs.Calls.{NodeOf, factAt, WholeFact, FactsIn}
+use Rattle.facts.specs.Calls.{NodeOf, factAt, WholeFact}
+use Rattle.facts.specs.declared.marks.KeptFact.{KeptFact}
+use Rattle.facts.specs.Kept.{SameAs, keeps-on}
 use Rattle.facts.specs.Marks.{markOf, markLimit, marks-differ, mark-below}
 use Rattle.facts.specs.Calls.Meaning.{fact-formed}
 use Rattle.graph.specs.Graph.{place-of}
@@ -49,7 +50,11 @@ pub mark-room :
 mark-room {P = P} f e = omega (arith, e, mark-below P (f .node .prepared .body .within) _ (fact-formed f))
 
 -- ── looking for a source ──
-module _ {p s nodes free : List ℕ} {a : FactId} {mark : ℕ} {P : Protocol} {xs : List Node} (h : Searching p s nodes free a mark P xs) where
+module _ {p s nodes free : List ℕ} {a : FactId} {work : List ℕ} {kept : KeptFact} {P : Protocol} {xs : List Node}
+    (h : Searching p s nodes free a work kept P xs) where
+  abbrev mark : ℕ
+  mark = kept .mark
+
   abbrev None : ℕ → Type 0
   None v = NoneTo (entryPlaced P xs) (isSame P xs a) free v
 
@@ -71,31 +76,31 @@ module _ {p s nodes free : List ℕ} {a : FactId} {mark : ℕ} {P : Protocol} {x
       go (suc m) e =
           none-differs (entryPlaced P xs) (isSame P xs a) free v
           (marks-differ (factIn P xs a) (entryFact P xs v)
-          (λ same. n (let d : mark ≡ m = h .mark-is ∙ same ∙ sym (h .marked .each v m e .mark) in omega (arith, e)))) none
+          (λ same. n (let d : mark ≡ m = h .keeps .mark-is ∙ same ∙ sym (h .marked .each v m e .mark) in omega (arith, e)))) none
 
   module _ (v : ℕ) (agree : getD free v 0 ≡ mark + 1) where
     marked-entry : getD free v 0 ≡ suc mark
     marked-entry = omega (arith, agree)
 
-    -- the two facts can be compared
-    pub facts-there : (x : FactId) → x ≡ entryId v → FactsIn p s nodes a want.All x want.All P (getD xs (a .node) noNode) (getD xs (x .node) noNode)
-    facts-there x e =
+    -- its fact is there
+    pub fact-there : (x : FactId) → x ≡ entryId v → WholeFact p s nodes x P (getD xs (x .node) noNode)
+    fact-there x e =
         let i = h .marked .each v mark marked-entry in
-        subst (λ (y : FactId). FactsIn p s nodes a want.All y want.All P (getD xs (a .node) noNode) (getD xs (y .node) noNode)) (sym e) (record {
-          first = searched;
-          second = whole-fact (h .right) (entryId v) (i .node) (i .listed);
-        })
+        subst (λ (y : FactId). WholeFact p s nodes y P (getD xs (y .node) noNode)) (sym e) (whole-fact (h .right) (entryId v) (i .node) (i .listed))
 
-    module _ (x : FactId) (is : x ≡ entryId v) (b : Bool) (told : b ≡ sameFact (factIn P xs a) (factAt P (x .list) (x .number) (getD xs (x .node) noNode)))
-      where
-        same-entry : b ≡ isSame P xs a (entryPlaced P xs v)
-        same-entry = told ∙ ap (λ (y : FactId). sameFact (factIn P xs a) (factAt P (y .list) (y .number) (getD xs (y .node) noNode))) is
+    module _ (x : FactId) (is : x ≡ entryId v) (b : Bool) (work′ : List ℕ) (stays : take (kept .end) work′ ≡ take (kept .end) work)
+        (compared : SameAs work′ kept P (factAt P (x .list) (x .number) (getD xs (x .node) noNode)) b) where
+      told : b ≡ sameFact (factIn P xs a) (factAt P (x .list) (x .number) (getD xs (x .node) noNode))
+      told = compared (factIn P xs a) (fact-formed searched) (keeps-on (h .keeps) stays)
 
-        pub other-fact : b ≡ false → None v → None (v + 1)
-        other-fact f none = next v (none-differs (entryPlaced P xs) (isSame P xs a) free v (sym same-entry ∙ f) none)
+      same-entry : b ≡ isSame P xs a (entryPlaced P xs v)
+      same-entry = told ∙ ap (λ (y : FactId). sameFact (factIn P xs a) (factAt P (y .list) (y .number) (getD xs (y .node) noNode))) is
 
-        pub found-here : v < mostFacts * a .node → b ≡ true → None v → FirstAt (entryPlaced P xs) (isSame P xs a) free v (mostFacts * a .node)
-        found-here l t none = record { inside = l; mark = mark; held = marked-entry; passes = sym same-entry ∙ t; before = none }
+      pub other-fact : b ≡ false → None v → None (v + 1)
+      other-fact f none = next v (none-differs (entryPlaced P xs) (isSame P xs a) free v (sym same-entry ∙ f) none)
+
+      pub found-here : v < mostFacts * a .node → b ≡ true → None v → FirstAt (entryPlaced P xs) (isSame P xs a) free v (mostFacts * a .node)
+      found-here l t none = record { inside = l; mark = mark; held = marked-entry; passes = sym same-entry ∙ t; before = none }
 
   -- by the answer
   pub found-at : {r : Source} {v : ℕ} → r ≡ source.At v → Found free a r P xs → FirstAt (entryPlaced P xs) (isSame P xs a) free v (mostFacts * a .node)

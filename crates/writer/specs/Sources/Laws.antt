@@ -27,7 +27,8 @@ use Rattle.steps.specs.Table.Laws.{node-in}
 use Rattle.steps.specs.Causes.Good.{RightNodes}
 use Rattle.facts.specs.declared.nodes.FactId.{FactId}
 use Rattle.facts.specs.Calls.{NodeOf, WholeFact}
-use Rattle.facts.specs.Marks.{markOf}
+use Rattle.facts.specs.declared.marks.KeptFact.{KeptFact}
+use Rattle.facts.specs.Kept.{Keeps}
 use Rattle.graph.specs.Graph.{place-of, edge-of, mostEdges}
 use Rattle.graph.specs.Uses.{countTable}
 use Rattle.graph.specs.Table.{edgeFields, edgeAt, noEdge, FieldsFor, EdgesIn}
@@ -164,13 +165,13 @@ module _ {p s nodes free edges : List ℕ} {k i e : ℕ} {P : Protocol} {xs : Li
         let b : i < mostFacts = omega (arith, few-premises, h .listed) in
         (a, b, omega (arith, h .feeding .few), omega (arith, b, h .feeding .few, h .feeding .inside, h .feeding .reached .room))
 
-    pub premise-search : {mark : ℕ} → mark ≡ markOf fact → Searching p s nodes free target mark P xs
+    pub premise-search : {work : List ℕ} {kept : KeptFact} → Keeps work kept fact → Searching p s nodes free target work kept P xs
     premise-search m = record {
       right = h .feeding .right;
       inside = h .feeding .inside;
       listed = h .listed;
       marked = h .feeding .marked;
-      mark-is = m;
+      keeps = m;
     }
 
     opened : fromPremise P xs free k i ≡ premisesThen P xs list k i (fact ∷ behind)

@@ -81,7 +81,8 @@ loop-again c =
       omega (arith, c16 .feed-node .kept, c21 .loop .inv .2),
       omega (arith, c16 .feed-node .kept, c4 .enter-conclusions .kept, c21 .loop .inv .3),
       λ P xs r. let f =
-          (c16 .feed-node .ensures P xs (node-begun (c21 .loop .inv .4 P xs r) (omega (arith, r .stand .count, c20 .loop-test .taken)))) .fed _ (c8 .m .given .1)
+          (c16 .feed-node .ensures P xs (node-begun (c21 .loop .inv .4 P xs r) (omega (arith, r .stand .count, c20 .loop-test .taken)))) .fed _
+          (c8 .m .given .1)
           in node-left f (c4 .enter-conclusions .ensures P xs (node-entered f)),
     )
 
