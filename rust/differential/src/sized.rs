@@ -24,18 +24,20 @@ const WIDTH: usize = 8;
 const FIRST_RULE: u32 = 31;
 
 /// What the facts of a chain are made of.
-pub const CHAINS: [&str; 6] = [
+pub const CHAINS: [&str; 7] = [
     "facts without arguments",
     "one fact eight times",
     "one name each",
     "one product of four names each",
     "eight products of four names each",
     "four products of 120 names each",
+    "four products of 120 names as they stand",
 ];
 
-/// n nodes in a row: each but the first takes the eight facts that the one before gives, equal ones with other terms.
+/// n nodes in a row: each but the first takes the eight facts that the one before gives, equal ones, in the last kind as they stand, otherwise with
+/// other terms.
 pub fn chain(kind: &str, nodes: usize) -> Files {
-    let [no_arguments, equal, names, products, many, large] = CHAINS;
+    let [no_arguments, equal, names, products, many, large, standing] = CHAINS;
     let variable = |number: usize| Term::Variable(number as u32);
     let public = |number: usize| Term::Public(Public(number as u32));
     // The variables 0 to 7 hold what differs, variable 8 what all facts share.
@@ -59,8 +61,12 @@ pub fn chain(kind: &str, nodes: usize) -> Files {
         _ if kind == names => linked(WIDTH, 1, (0..WIDTH).map(public).collect(), [&variable; 3]),
         _ if kind == products => linked(WIDTH, 1, values(), [&start, &taken, &given]),
         _ if kind == many => linked(WIDTH, WIDTH, values(), [&start, &taken, &given]),
-        _ if kind == large => {
-            let terms: [Terms; 3] = [&|_| large_product(), &cancelled, &cancelled];
+        _ if kind == large || kind == standing => {
+            let given: Terms = match kind == large {
+                true => &cancelled_behind,
+                false => &cancelled,
+            };
+            let terms: [Terms; 3] = [&|_| large_product(), &cancelled, given];
             linked(WIDTH, 4, vec![large_product()], terms)
         }
         _ => panic!("one of {CHAINS:?}"),
@@ -76,10 +82,22 @@ fn large_product() -> Term {
 
 /// Variable 0, its inverse, and so on: five of them, equal to it.
 fn cancelled(_: usize) -> Term {
+    multiplied([one(), multiplied([one(), Term::Variable(0)])])
+}
+
+/// The same with the variable first.
+fn cancelled_behind(_: usize) -> Term {
+    multiplied([Term::Variable(0), multiplied([one(), one()])])
+}
+
+fn multiplied(factors: [Term; 2]) -> Term {
+    Term::apply(MUL, factors)
+}
+
+/// Variable 0 and its inverse.
+fn one() -> Term {
     let variable = || Term::Variable(0);
-    let times = |left: Term, right: Term| Term::apply(MUL, [left, right]);
-    let none = || times(variable(), Term::apply(INV, [variable()]));
-    times(none(), times(none(), variable()))
+    multiplied([variable(), Term::apply(INV, [variable()])])
 }
 
 /// The terms of a fact by its number.
