@@ -15,14 +15,15 @@ pub mod Laws
 pub mod Steps
 
 -- ── a link for each place, and behind the links the heads of the chains ──
+-- where the nodes are many, one for each mark
 abbrev pub mostHeads : ℕ
-mostHeads = 4096
+mostHeads = base
 
 abbrev pub mostChains : ℕ
 mostChains = placeCount + mostHeads
 
 abbrev pub fewHeads : ℕ
-fewHeads = 256
+fewHeads = 2048
 
 abbrev pub fewPlaces : ℕ
 fewPlaces = stride * actionsOf fewNodes

@@ -18,12 +18,12 @@ use crate::numbers;
 use facts::compare;
 
 // The chains of places by mark: for each place that begins a class the one before it, and one; behind these links, for each chain its last place, and
-// one. Few nodes have fewer of both, since all are cleared.
-const HEADS: usize = 4096;
+// one. Many nodes have a chain for each mark; few have fewer of both, since all are cleared.
+const HEADS: usize = numbers::BASE as usize;
 
 const CHAINS: usize = numbers::PLACES + HEADS;
 
-const FEW_HEADS: usize = 256;
+const FEW_HEADS: usize = 2048;
 
 const FEW_CHAINS: usize = numbers::FEW_PLACES + FEW_HEADS;
 

@@ -8,13 +8,14 @@ ghost use Rattle.term.specs.Term.{Term};
 ghost use Rattle.message.specs.Canon.{canon};
 ghost use Rattle.protocol.specs.Protocol.{Protocol};
 ghost use Rattle.steps.specs.Nodes.{Node};
-ghost use Rattle.facts.specs.Calls.{Room, OneOf, factAt, argumentAt};
+ghost use Rattle.facts.specs.Calls.{Room, AtPlace, OneOf, factAt, argumentAt};
 ghost use Rattle.trace.specs.Tables.{stride, mostActions};
 ghost use Rattle.trace.specs.Entries.{ListedAll};
 ghost use Rattle.trace.specs.Numbers.{FormIn, formNumber, argumentNumber, Counted, ActionOf, NumberedTo};
 use crate::entries;
 use facts::marks;
 use facts::nodes::FactId;
+use facts::nodes::PlacedFact;
 use facts::symbols;
 use facts::writing::Wanted;
 use prepared::sections;
@@ -45,12 +46,19 @@ fn form_number(form: &[u8], p: &[u8]) -> u32
     }
 }
 
-// The number of argument j of a node's fact.
-fn argument_number(work: &mut [u8], p: &[u8], s: &[u8], nodes: &[usize], x: FactId, j: usize) -> u32
-    requires { ⌜ Asks₂ (OneOf (now p) (now s) (now nodes) x j) × Room (now work) 0 ⌝ }
-    ensures { λ r. ⌜ Promises₂ (OneOf (now (p .entry)) (now (s .entry)) (now (nodes .entry)) x j) (λ (P : Protocol) (m : Node). r ≡ formNumber (canon (argumentAt P (x .list) (x .number) j m))) ⌝ }
+// The number of argument j of a node's fact at its place.
+fn argument_number(
+    work: &mut [u8],
+    p: &[u8],
+    s: &[u8],
+    nodes: &[usize],
+    x: PlacedFact,
+    j: usize,
+) -> u32
+    requires { ⌜ AtPlace (now p) (now nodes) x × Asks₂ (OneOf (now p) (now s) (now nodes) (x .id) j) × Room (now work) 0 ⌝ }
+    ensures { λ r. ⌜ Promises₂ (OneOf (now (p .entry)) (now (s .entry)) (now (nodes .entry)) (x .id) j) (λ (P : Protocol) (m : Node). r ≡ formNumber (canon (argumentAt P (x .id .list) (x .id .number) j m))) ⌝ }
 {
-    let a = facts::nodes::node_fact(work, 0, p, s, nodes, x, Wanted::One(j));
+    let a = facts::nodes::write_fact(work, 0, p, s, nodes, x, Wanted::One(j));
     form_number(&work[..a.end], p)
 }
 
@@ -60,12 +68,12 @@ fn place_number(
     p: &[u8],
     s: &[u8],
     nodes: &[usize],
-    x: FactId,
+    x: PlacedFact,
     count: usize,
     j: usize,
 ) -> u32
-    requires { ⌜ Asks₂ (Counted (now p) (now s) (now nodes) x count) × Room (now work) 0 ⌝ }
-    ensures { λ r. ⌜ Promises₂ (Counted (now (p .entry)) (now (s .entry)) (now (nodes .entry)) x count) (λ (P : Protocol) (m : Node). r ≡ argumentNumber (factAt P (x .list) (x .number) m) j) ⌝ }
+    requires { ⌜ AtPlace (now p) (now nodes) x × Asks₂ (Counted (now p) (now s) (now nodes) (x .id) count) × Room (now work) 0 ⌝ }
+    ensures { λ r. ⌜ Promises₂ (Counted (now (p .entry)) (now (s .entry)) (now (nodes .entry)) (x .id) count) (λ (P : Protocol) (m : Node). r ≡ argumentNumber (factAt P (x .id .list) (x .id .number) m) j) ⌝ }
 {
     if j < count {
         return argument_number(work, p, s, nodes, x, j);
@@ -73,7 +81,7 @@ fn place_number(
     BASE
 }
 
-// The places of the action of entry e.
+// The places of the action of entry e, whose place in its rule is found once.
 fn number_action(
     work: &mut [u8],
     p: &[u8],
@@ -86,10 +94,15 @@ fn number_action(
     requires { ⌜ Asks₂ (ActionOf (now p) (now s) (now nodes) x e) × Room (now work) 0 × (e < mostActions) × (stride * (e + 1) ≤ length (now classes)) ⌝ }
     ensures { λ r. ⌜ Promises₂ (ActionOf (now (p .entry)) (now (s .entry)) (now (nodes .entry)) x e) (λ (P : Protocol) (xs : List Node). NumberedTo (now (classes .entry)) (stride * e) P xs → NumberedTo (now (classes .exit)) (stride * (e + 1)) P xs) ⌝ }
 {
+    let place = facts::nodes::fact_place(p, nodes, x);
+    let f = PlacedFact {
+        id: x,
+        place: place,
+    };
     let count = symbols::argument_count(p, nodes, x);
     let mut j: usize = 0;
     while j < STRIDE {
-        classes[STRIDE * e + j] = place_number(work, p, s, nodes, x, count, j);
+        classes[STRIDE * e + j] = place_number(work, p, s, nodes, f, count, j);
         j += 1;
     }
 }

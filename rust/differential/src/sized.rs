@@ -6,7 +6,7 @@ use reference::graph::{write_edges, Edge};
 use reference::property::{Formula, Quantifier, Sort as PropertySort};
 use reference::protocol::{Fact, FactSymbol, Protocol, Rule, Sort, IN, K};
 use reference::random::Random;
-use reference::term::{Fresh, Public, Signature, Term, EXP, INV, MUL};
+use reference::term::{Fresh, Public, Signature, Term, EXP, INV, MUL, PAIR};
 
 /// The three files of a check.
 pub struct Files {
@@ -187,6 +187,37 @@ pub fn deductions(nodes: usize) -> Files {
     let run = run(&mut random, &protocol, nodes);
     let edges = some_edges(&mut random, &protocol, &run.nodes);
     files(&protocol, &Formula::False, &run.steps, &edges)
+}
+
+/// Nodes of eight actions, each of eight messages that no other action has.
+pub fn actions(nodes: usize) -> Files {
+    let public = |number: usize| Term::Public(Public(number as u32));
+    let message = |place: usize| Term::apply(PAIR, [Term::Variable(0), public(place)]);
+    let action = |place: usize| Fact {
+        symbol: 4,
+        terms: (0..WIDTH)
+            .map(|term| message(WIDTH * place + term))
+            .collect(),
+    };
+    let protocol = Protocol {
+        signature: Signature::default(),
+        own: vec![FactSymbol {
+            arity: WIDTH,
+            persistent: false,
+        }],
+        rules: vec![Rule {
+            variables: vec![Sort::Public],
+            premises: vec![],
+            actions: (0..WIDTH).map(action).collect(),
+            conclusions: vec![],
+        }],
+    };
+    let step = |node| Step {
+        rule: FIRST_RULE,
+        values: vec![public(node)],
+    };
+    let steps: Vec<Step> = (0..nodes).map(step).collect();
+    files(&protocol, &Formula::False, &steps, &[])
 }
 
 /// No nodes under an empty protocol.

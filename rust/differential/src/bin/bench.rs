@@ -3,7 +3,9 @@
 //! `bench [WORDS]` prints the rows whose name has these words, or all. `bench --once WORDS` makes the archive's calls of these rows, once each,
 //! for callgrind.
 
-use differential::sized::{chain, deductions, nested, nothing, term, Files, CHAINS, GUARDS, TERMS};
+use differential::sized::{
+    actions, chain, deductions, nested, nothing, term, Files, CHAINS, GUARDS, TERMS,
+};
 use levtosziv::{Ruling, Written};
 use reference::calls::{Outcome, WORK_AREA};
 use reference::corpus::cases;
@@ -278,6 +280,8 @@ fn main() {
         bench.growth(kind, |nodes| chain(kind, nodes));
     }
     bench.growth("deductions", deductions);
+    bench.check("64 messages in actions each, 32 nodes", &actions(32));
+    bench.growth("64 messages in actions each", actions);
     bench.header("draw");
     bench.draw("draw no nodes", &nothing());
     for kind in CHAINS {

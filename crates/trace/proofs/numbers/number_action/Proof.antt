@@ -1,36 +1,40 @@
 -- The invariant is that the places up to 8e + j are numbered; each turn numbers one, a missing argument with the base.
 use borrow.Author.Needs.{needs}
-use denote.Ref.{now}
-use native.Mathlib.Omega.{arith}
-use lib.ListN.{length, getD}
-use mathlib.Core.Path.{_≡_, ap, _∙_}
-use mathlib.Core.List.{List}
-use Prim.Native.Nat.{_+_, _*_, _-_, _≤_}
-use Rattle.steps.specs.Nodes.{Node, noNode}
-use Rattle.lists.specs.Asks.{Promises₂}
-use Rattle.protocol.specs.Protocol.{Protocol, Fact}
-use Rattle.facts.specs.Owed.{room-kept}
-use Rattle.facts.specs.Calls.Laws.{fact-listed}
-use Rattle.trace.specs.Tables.{stride}
-use Rattle.trace.specs.Numbers.{ActionOf, NumberedTo, argumentNumber}
 use Rattle.trace.specs.Numbers.Places.{action-counted, numbered-more, numbered-at}
+use Rattle.trace.specs.Numbers.{ActionOf, NumberedTo, argumentNumber}
+use Rattle.trace.specs.Tables.{stride}
+use Rattle.facts.specs.Calls.Laws.{fact-listed}
+use Rattle.facts.specs.Owed.{room-kept}
+use Rattle.protocol.specs.Protocol.{Protocol, Fact}
+use Rattle.lists.specs.Asks.{Promises₂}
+use Rattle.steps.specs.Nodes.{Node, noNode}
+use Prim.Native.Nat.{_+_, _*_, _-_, _≤_}
+use mathlib.Core.List.{List}
+use mathlib.Core.Path.{_≡_, ap, _∙_}
+use lib.ListN.{length, getD}
+use native.Mathlib.Omega.{arith}
+use denote.Ref.{now}
 use Rattle.trace.proofs.numbers.number_action.Statement.{statement}
 use Rattle.trace.proofs.numbers.number_action.Tie as tie
 
 abbrev Inv-loop : tie.InvT-loop
-Inv-loop work₀ p s nodes x e classes₀ count j₀ work classes j =
-    (j ≤ stride) × (length work ≡ length work₀) × (length classes ≡ length classes₀) × Promises₂ (ActionOf p s nodes x e)
+Inv-loop work₀ p s nodes e classes₀ place f count j₀ work classes j =
+    (j ≤ stride) × (length work ≡ length work₀) × (length classes ≡ length classes₀) × Promises₂ (ActionOf p s nodes (f .id) e)
     (λ (P : Protocol) (xs : List Node). NumberedTo classes₀ (stride * e) P xs → NumberedTo classes (stride * e + j) P xs)
 
 abbrev μ-loop : tie.MeasureT-loop
-μ-loop work₀ p s nodes x e classes₀ count j₀ work classes j =
+μ-loop work₀ p s nodes e classes₀ place f count j₀ work classes j =
     stride - j
+
+fact-place-requires : tie.Need-fact-place-requires Inv-loop μ-loop
+fact-place-requires c κs =
+    let c5 = c .before .before .before .before .before in
+    let (P, xs, a) = c5 .pre .0 in (now (c5 .args .s), P, getD xs (c5 .args .x .node) noNode, fact-listed (a .whole))
 
 argument-count-requires : tie.Need-argument-count-requires Inv-loop μ-loop
 argument-count-requires c κs =
-    let c5 = c .before .before .before .before .before in
-    let (P, xs, a) = c5 .pre .0 in
-    (now (c5 .args .s), P, getD xs (c5 .args .x .node) noNode, fact-listed (a .whole))
+    let c6 = c .before .before .before .before .before .before in
+    let (P, xs, a) = c6 .pre .0 in (now (c6 .args .s), P, getD xs (c6 .args .x .node) noNode, fact-listed (a .whole))
 
 loop-holds : tie.Need-loop-holds Inv-loop μ-loop
 loop-holds c =
@@ -39,32 +43,36 @@ loop-holds c =
 place-number-requires : tie.Need-place-number-requires Inv-loop μ-loop
 place-number-requires c κs =
     let c3 = c .before .before .before in
-    let c9 = c3 .before .before .before .before .before .before in
-    let (P, xs, a) = c9 .pre .0 in
-    ((P, getD xs (c9 .args .x .node) noNode, action-counted a _ (c3 .argument-count .ensures)), room-kept _ _ _ (c .before .before .loop .inv .1) (c9 .pre .1))
+    let c4 = c3 .before in
+    let c10 = c4 .before .before .before .before .before .before in
+    let (P, xs, a) = c10 .pre .0 in (
+      c4 .fact-place .ensures,
+      (P, getD xs (c10 .args .x .node) noNode, action-counted a _ (c3 .argument-count .ensures)),
+      room-kept _ _ _ (c .before .before .loop .inv .1) (c10 .pre .1),
+    )
 
 mul-classes : tie.Need-mul-classes Inv-loop μ-loop
 mul-classes c =
-    omega (arith, c .before .before .before .before .before .before .before .before .before .before .before .before .pre .2)
+    omega (arith, c .before .before .before .before .before .before .before .before .before .before .before .before .before .pre .2)
 
 add-classes : tie.Need-add-classes Inv-loop μ-loop
 add-classes c =
     let c4 = c .before .before .before .before in
-    let c12 = c4 .before .before .before .before .before .before .before .before in
-    omega (arith, c12 .pre .2, c4 .loop-test .taken)
+    let c13 = c4 .before .before .before .before .before .before .before .before .before in
+    omega (arith, c13 .pre .2, c4 .loop-test .taken)
 
 mul-classes-2 : tie.Need-mul-classes-2 Inv-loop μ-loop
 mul-classes-2 c =
     let c4 = c .before .before .before .before in
-    let c12 = c4 .before .before .before .before .before .before .before .before in
-    omega (arith, c12 .pre .2, c4 .loop-test .taken)
+    let c13 = c4 .before .before .before .before .before .before .before .before .before in
+    omega (arith, c13 .pre .2, c4 .loop-test .taken)
 
 slice-write-classes : tie.Need-slice-write-classes Inv-loop μ-loop
 slice-write-classes c =
     let c4 = c .before .before .before .before in
     let c5 = c4 .before in
-    let c12 = c5 .before .before .before .before .before .before .before in
-    omega (arith, c12 .pre .2, c12 .pre .3, c5 .loop .inv .2, c4 .loop-test .taken)
+    let c13 = c5 .before .before .before .before .before .before .before .before in
+    omega (arith, c13 .pre .2, c13 .pre .3, c5 .loop .inv .2, c4 .loop-test .taken)
 
 add-j : tie.Need-add-j Inv-loop μ-loop
 add-j c = search needs
@@ -77,12 +85,12 @@ loop-again c =
     let c4 = c .before .before .before .before in
     let c5 = c4 .before in
     let c6 = c5 .before in
-    let c12 = c6 .before .before .before .before .before .before in (
+    let c13 = c6 .before .before .before .before .before .before .before in (
       omega arith,
       search needs,
       search needs,
-      λ P xs a t. numbered-more (c12 .args .e) (c5 .loop .j) _ (c4 .loop-test .taken) (c5 .loop .inv .3 P xs a t)
-          (omega (arith, c12 .pre .2, c12 .pre .3, c5 .loop .inv .2, c4 .loop-test .taken))
+      λ P xs a t. numbered-more (c13 .args .e) (c5 .loop .j) _ (c4 .loop-test .taken) (c5 .loop .inv .3 P xs a t)
+          (omega (arith, c13 .pre .2, c13 .pre .3, c5 .loop .inv .2, c4 .loop-test .taken))
           (c .before .before .place-number .ensures P _ (action-counted a _ (c6 .argument-count .ensures)) ∙ ap (λ (g : Fact). argumentNumber g (c5 .loop .j))
           (a .is)),
     )
@@ -103,6 +111,7 @@ number-action-spec =
     (tie.spec
     Inv-loop
     μ-loop
+    fact-place-requires
     argument-count-requires
     loop-holds
     place-number-requires

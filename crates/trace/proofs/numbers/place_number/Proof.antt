@@ -1,6 +1,6 @@
 -- Below the count there is such an argument, and it is numbered; from there on the place is empty.
-use native.Mathlib.Omega.{arith}
 use Rattle.trace.specs.Numbers.Places.{counted-one, argument-there, argument-missing}
+use native.Mathlib.Omega.{arith}
 use borrow.Author.Needs.{needs}
 use Rattle.trace.proofs.numbers.place_number.Statement.{statement}
 use Rattle.trace.proofs.numbers.place_number.Tie as tie
@@ -8,8 +8,7 @@ use Rattle.trace.proofs.numbers.place_number.Tie as tie
 argument-number-requires : tie.Need-argument-number-requires
 argument-number-requires c κs =
     let c6 = c .before .before .before .before .before .before in
-    let (P, m, f) = c6 .pre .0 in
-    ((P, m, counted-one f _ (c .before .if1 .taken)), c6 .pre .1)
+    let (P, m, f) = c6 .pre .1 in (c6 .pre .0, (P, m, counted-one f _ (c .before .if1 .taken)), c6 .pre .2)
 
 same-length : tie.Need-same-length
 same-length c = search needs
