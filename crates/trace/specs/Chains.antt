@@ -7,15 +7,14 @@ use mathlib.Core.Path.{_≡_}
 use lib.ListN.{length, getD}
 use lib.Dec.{ltb}
 use Rattle.lists.specs.Choice.{pick}
-use Rattle.steps.specs.Table.{fewNodes}
-use Rattle.trace.specs.Tables.{actionsOf, stride, placeCount, base}
+use Rattle.trace.specs.Tables.{stride, placeCount, base}
 -- what is in a chain
 pub mod Laws
 -- one place more
 pub mod Steps
 
 -- ── a link for each place, and behind the links the heads of the chains ──
--- where the nodes are many, one for each mark
+-- where the actions are many, one for each mark
 abbrev pub mostHeads : ℕ
 mostHeads = base
 
@@ -23,10 +22,13 @@ abbrev pub mostChains : ℕ
 mostChains = placeCount + mostHeads
 
 abbrev pub fewHeads : ℕ
-fewHeads = 2048
+fewHeads = 256
+
+abbrev pub fewActions : ℕ
+fewActions = 32
 
 abbrev pub fewPlaces : ℕ
-fewPlaces = stride * actionsOf fewNodes
+fewPlaces = stride * fewActions
 
 abbrev pub fewChains : ℕ
 fewChains = fewPlaces + fewHeads

@@ -8,31 +8,34 @@ ghost use Rattle.protocol.specs.Protocol.{Protocol};
 ghost use Rattle.steps.specs.Nodes.{Node};
 ghost use Rattle.facts.specs.Writing.{factRoom};
 ghost use Rattle.facts.specs.Calls.{Room};
-ghost use Rattle.steps.specs.Table.{fewNodes};
-ghost use Rattle.trace.specs.Tables.{actionsOf, stride};
+ghost use Rattle.trace.specs.Tables.{stride};
 ghost use Rattle.trace.specs.Entries.{ListedAll};
-ghost use Rattle.trace.specs.Chains.{chainOf, HeadsBehind, Classed};
+ghost use Rattle.trace.specs.Chains.{fewActions, chainOf, HeadsBehind, Classed};
 ghost use Rattle.trace.specs.Classes.{Walkable, Earlier, keyAt, Classing, Ready, ClassesAre};
 use crate::entries;
 use crate::numbers;
 use facts::compare;
 
 // The chains of places by mark: for each place that begins a class the one before it, and one; behind these links, for each chain its last place, and
-// one. Many nodes have a chain for each mark; few have fewer of both, since all are cleared.
+// one. Many actions have a chain for each mark; few have fewer of both, since all are cleared.
 const HEADS: usize = numbers::BASE as usize;
 
 const CHAINS: usize = numbers::PLACES + HEADS;
 
-const FEW_HEADS: usize = 2048;
+const FEW_ACTIONS: usize = 32;
 
-const FEW_CHAINS: usize = numbers::FEW_PLACES + FEW_HEADS;
+const FEW_PLACES: usize = numbers::STRIDE * FEW_ACTIONS;
+
+const FEW_HEADS: usize = 256;
+
+const FEW_CHAINS: usize = FEW_PLACES + FEW_HEADS;
 
 // Where the head of a mark's chain stands in chains of a size.
 fn head_place(mark: u32, size: usize) -> usize
     ensures { λ r. ⌜ r ≡ chainOf size mark ⌝ }
 {
     if size < CHAINS {
-        return numbers::FEW_PLACES + mark as usize % FEW_HEADS;
+        return FEW_PLACES + mark as usize % FEW_HEADS;
     }
     numbers::PLACES + mark as usize % HEADS
 }
@@ -125,7 +128,7 @@ fn class_places(
     }
 }
 
-// The same with chains for few nodes.
+// The same with chains for few actions.
 fn class_few(
     work: &mut [u8],
     p: &[u8],
@@ -135,14 +138,14 @@ fn class_few(
     classes: &mut [u32],
     total: usize,
 )
-    requires { ⌜ Asks₂ (Ready (now p) (now s) (now nodes) (now entries) (now classes) total) × Room (now work) factRoom × (stride * total ≤ length (now classes)) × (total ≤ actionsOf fewNodes) ⌝ }
+    requires { ⌜ Asks₂ (Ready (now p) (now s) (now nodes) (now entries) (now classes) total) × Room (now work) factRoom × (stride * total ≤ length (now classes)) × (total ≤ fewActions) ⌝ }
     ensures { λ r. ⌜ Promises₂ (Ready (now (p .entry)) (now (s .entry)) (now (nodes .entry)) (now (entries .entry)) (now (classes .entry)) total) (λ (P : Protocol) (xs : List Node). ClassesAre (now (classes .exit)) (stride * total) P xs) ⌝ }
 {
     let mut chains = [0u32; FEW_CHAINS];
     class_places(work, p, s, nodes, entries, classes, &mut chains, total);
 }
 
-// The same with chains for as many nodes as there may be.
+// The same with chains for as many actions as there may be.
 fn class_many(
     work: &mut [u8],
     p: &[u8],
@@ -176,7 +179,7 @@ pub fn class_arguments(
         return;
     }
     numbers::number_actions(work, p, s, nodes, entries, total, classes);
-    if total <= entries::FEW_ACTIONS {
+    if total <= FEW_ACTIONS {
         class_few(work, p, s, nodes, entries, classes, total);
         return;
     }

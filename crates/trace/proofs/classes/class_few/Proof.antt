@@ -1,4 +1,4 @@
--- Chains for few nodes are empty and long enough, so the classes made over them are what is promised.
+-- Chains for few actions are empty and long enough, so the classes made over them are what is promised.
 use Rattle.trace.specs.Classes.Exact.{classes-made}
 use Rattle.trace.specs.Chains.{fewChains}
 use Rattle.trace.specs.Chains.Laws.{few-behind}

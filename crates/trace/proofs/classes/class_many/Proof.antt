@@ -1,4 +1,4 @@
--- Chains for the most nodes are empty and long enough, so the classes made over them are what is promised.
+-- Chains for the most actions are empty and long enough, so the classes made over them are what is promised.
 use Rattle.trace.specs.Classes.Exact.{classes-made}
 use Rattle.trace.specs.Classes.Places.{ready-few}
 use Rattle.trace.specs.Chains.{mostChains}
