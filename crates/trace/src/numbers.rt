@@ -16,8 +16,8 @@ use crate::entries;
 use facts::marks;
 use facts::nodes::FactId;
 use facts::nodes::PlacedFact;
-use facts::symbols;
 use facts::writing::Wanted;
+use prepared::finding;
 use prepared::sections;
 use steps::values::Name;
 
@@ -99,7 +99,8 @@ fn number_action(
         id: x,
         place: place,
     };
-    let count = symbols::argument_count(p, nodes, x);
+    let y = finding::symbol_of(p, place);
+    let count = finding::arity_of(p, y);
     let mut j: usize = 0;
     while j < STRIDE {
         classes[STRIDE * e + j] = place_number(work, p, s, nodes, f, count, j);
