@@ -8,16 +8,18 @@ use lib.ListN.{length, getD, length-map, List·getD-eq-default}
 use Rattle.lists.specs.Choice.{by-size}
 use Rattle.lists.specs.All.Laws.{map-at}
 use Rattle.number.specs.Reading.{below}
-use Rattle.protocol.specs.Figures.{listCount, factLimit}
+use Rattle.octets.specs.Head.{Bytes}
+use Rattle.protocol.specs.Figures.{listCount, factLimit, mostFacts}
 use Rattle.protocol.specs.Protocol.{Fact, Rule, Protocol, listOf, noFact, fact}
-use Rattle.protocol.specs.Places.{Here, factPlace, valueOf}
+use Rattle.protocol.specs.Places.{Here, valueOf}
 use Rattle.protocol.specs.Places.Laws.{symbol-law}
 use Rattle.rules.specs.Numbered.{ruleOf}
-use Rattle.prepared.specs.Prepared.{slotsOf, aritiesOf, listEntry}
+use Rattle.prepared.specs.Prepared.{slotsOf, aritiesOf, listEntry, factEntry, factPlaceIn}
+use Rattle.prepared.specs.Prepared.Laws.{list-few}
 use Rattle.steps.specs.Nodes.{Node}
 use Rattle.steps.specs.Facts.{filledFact, filledList, factsOf}
 use Rattle.steps.specs.Table.{rowAt, NodeIn}
-use Rattle.steps.specs.Table.Laws.{node-rule-of, of-list, of-three}
+use Rattle.steps.specs.Table.Laws.{node-rule-of, of-list, of-fact, of-three}
 use Rattle.steps.specs.Values.Parts.{facts-many, fact-there}
 
 -- ── a node's facts are its rule's, filled in ──
@@ -39,12 +41,7 @@ abbrev pub listStart : List ℕ → List ℕ → ℕ → ℕ → ℕ
 listStart p nodes j list = listEntry p (getD nodes (rowAt j) 0) list
 
 abbrev pub factStart : List ℕ → List ℕ → ℕ → ℕ → ℕ → ℕ
-factStart p nodes j list i = factPlace p (slotsOf p) (aritiesOf p) (listStart p nodes j list) i
-
-pub fact-start :
-    (p nodes : List ℕ) (j list i start place : ℕ) → start ≡ listStart p nodes j list → place ≡ factPlace p (slotsOf p) (aritiesOf p) start i
-    → place ≡ factStart p nodes j list i
-fact-start p nodes j list i start place hl hf = hf ∙ ap (λ (k : ℕ). factPlace p (slotsOf p) (aritiesOf p) k i) hl
+factStart p nodes j list i = factPlaceIn p (listStart p nodes j list) i
 
 module _ {p s nodes : List ℕ} {j : ℕ} {P : Protocol} {x : Node} (h : NodeIn p s nodes j P x) (list : ℕ) where
   abbrev u : Rule
@@ -68,6 +65,19 @@ module _ {p s nodes : List ℕ} {j : ℕ} {P : Protocol} {x : Node} (h : NodeIn 
     fact-here =
         fact-there p (slotsOf p) (aritiesOf p) (listStart p nodes j list) (listOf list u) (of-list (node-rule-of h) list (list-known i l)) i
         (factStart p nodes j list i) (omega (arith, l, facts-counted P x u (h .within .known) list)) refl
+
+    -- the table has that place
+    pub fact-entered : factEntry p (getD nodes (rowAt j) 0) list i ≡ factStart p nodes j list i
+    fact-entered = of-fact (node-rule-of h) list i (list-known i l) (omega (arith, l, facts-counted P x u (h .within .known) list))
+
+    pub fact-few : Bytes p → i < mostFacts
+    fact-few bytes =
+        omega (
+          arith,
+          l,
+          facts-counted P x u (h .within .known) list,
+          list-few p bytes (omega (arith, h .prepared .long)) (listStart p nodes j list) (listOf list u) (of-list (node-rule-of h) list (list-known i l)),
+        )
 
     pub symbol-is :
         (place y : ℕ) → place ≡ factStart p nodes j list i → y ≡ valueOf (below p (length (aritiesOf p)) place)

@@ -5,10 +5,10 @@ ghost use Rattle.protocol.specs.Protocol.{Protocol};
 ghost use Rattle.steps.specs.Nodes.{Node};
 ghost use Rattle.facts.specs.Rules.{factStart};
 ghost use Rattle.facts.specs.Calls.{Room, ListedFact, FactIn, AtPlace, FactWritten, factAt};
-use crate::counts;
 use crate::writing;
 use crate::writing::Wanted;
 use prepared::finding;
+use prepared::list_places;
 
 // A fact of a node: the node's number, from 0, the list of its rule (0 premises, 1 actions, 2 conclusions), the number in that list, from 0.
 pub struct FactId {
@@ -34,8 +34,8 @@ pub fn fact_place(p: &[u8], nodes: &[usize], x: FactId) -> usize
     requires { ⌜ Asks₃ (ListedFact (now p) (now nodes) x) ⌝ }
     ensures { λ r. ⌜ r ≡ factStart (now (p .entry)) (now (nodes .entry)) (x .node) (x .list) (x .number) ⌝ }
 {
-    let start = counts::list_start(p, nodes, x.node, x.list);
-    finding::fact_at(p, start, x.number)
+    let number = nodes[steps::nodes::ROW * x.node];
+    list_places::fact_place(p, number, x.list, x.number)
 }
 
 // The fact of a node at its place: the bytes that are wanted go into the output from o on.

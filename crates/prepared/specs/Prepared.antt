@@ -7,12 +7,13 @@ use lib.ListN.{length, getD, take, drop}
 use lib.Dec.{eqb}
 use Rattle.lists.specs.Choice.{pick}
 use Rattle.term.specs.Arity.{tagArities, padded}
-use Rattle.protocol.specs.Protocol.{Rule, Own, Protocol, listOf, factArities, factFlags, facts, rule}
+use Rattle.protocol.specs.Protocol.{Fact, Rule, Own, Protocol, listOf, factArities, factFlags, fact, facts, rule}
 use Rattle.protocol.specs.Protocol.Limits.{Within}
-use Rattle.protocol.specs.Places.{Here}
+use Rattle.number.specs.Reading.{Read}
+use Rattle.protocol.specs.Places.{Here, factPlace}
 use Rattle.rules.specs.Numbered.{ruleOf}
 use Rattle.protocol.specs.Figures.{symbolCount, listCount}
-use Rattle.prepared.specs.Sections.{slotCount, ruleCount, aritiesAt, linearsAt, cellAt, bodyLength, preparedLength, placeBytes, placeBase}
+use Rattle.prepared.specs.Sections.{slotCount, ruleCount, aritiesAt, linearsAt, cellAt, bodyLength, preparedLength, placeBytes, placeBase, factRow}
 -- its laws
 pub mod Laws
 -- with more bytes behind it
@@ -52,7 +53,7 @@ abbrev pub Entry : List ℕ → ℕ → Option Rule → Type 0
 Entry p n (some u) = Some p u (placeAt p n)
 Entry p n none = placeAt p n ≡ 0
 
--- all but the places of the rules' lists
+-- all but the places of the rules' lists and of their facts
 pub record Body (p : List ℕ) (P : Protocol) : Type 0 where
   pub within : Within P
   pub long : bodyLength ≤ length p
@@ -65,14 +66,30 @@ pub record Body (p : List ℕ) (P : Protocol) : Type 0 where
 abbrev pub entryAt : List ℕ → ℕ → ℕ → ℕ
 entryAt t at k = getD t (at + placeBytes * k) 0 * placeBase + getD t (at + placeBytes * k + 1) 0
 
--- a list of rule n has entry 3 n + its number
+-- a list of rule n has entry 3 n + its number; a fact of it the entry of its number from the row of that list on
 abbrev pub listEntry : List ℕ → ℕ → ℕ → ℕ
 listEntry p n list = entryAt p bodyLength (listCount * n + list)
 
+abbrev pub factEntry : List ℕ → ℕ → ℕ → ℕ → ℕ
+factEntry p n list i = entryAt p bodyLength (factRow (listCount * n + list) + i)
+
+-- a fact, or the list, reads at a place under the arities that p has
+abbrev pub factIn : List ℕ → ℕ → Read Fact
+factIn p = fact p (slotsOf p) (aritiesOf p)
+
+abbrev pub factsIn : List ℕ → ℕ → Read (List Fact)
+factsIn p = facts p (slotsOf p) (aritiesOf p)
+
 abbrev pub ListAt : List ℕ → Rule → ℕ → ℕ → Type 0
-ListAt p u list place = Here (facts p (slotsOf p) (aritiesOf p)) (listOf list u) place
+ListAt p u list place = Here (factsIn p) (listOf list u) place
+
+-- the place of fact i of the list at a place
+abbrev pub factPlaceIn : List ℕ → ℕ → ℕ → ℕ
+factPlaceIn p place i = factPlace p (slotsOf p) (aritiesOf p) place i
 
 pub record Prepared (p : List ℕ) (P : Protocol) : Type 0 where
   pub long : length p ≡ preparedLength
   pub body : Body p P
   pub lists : (n list : ℕ) (u : Rule) → n < ruleCount → list < listCount → ruleOf P n ≡ some u → ListAt p u list (listEntry p n list)
+  pub facts : (n list i : ℕ) (u : Rule) → n < ruleCount → list < listCount → i < length (listOf list u) → ruleOf P n ≡ some u
+      → factEntry p n list i ≡ factPlaceIn p (listEntry p n list) i

@@ -2,7 +2,7 @@
 use Prim.Native.Nat.{ℕ, _+_, _*_, _≤_}
 use native.Mathlib.Omega.{arith}
 use Rattle.term.specs.Tags.{tagCount}
-use Rattle.protocol.specs.Figures.{symbolCount, mostRules, listCount}
+use Rattle.protocol.specs.Figures.{symbolCount, mostRules, listCount, mostFacts}
 use Rattle.rules.specs.Numbered.{ruleRoom, firstOwnRule}
 
 -- ── how many ──
@@ -16,9 +16,12 @@ ruleCount = firstOwnRule + mostRules
 abbrev pub builtinCount : ℕ
 builtinCount = firstOwnRule
 
--- three lists of each rule number
+-- three lists of each rule number; those, and eight facts of each
 abbrev pub entryCount : ℕ
 entryCount = listCount * ruleCount
+
+abbrev pub placeCount : ℕ
+placeCount = entryCount + mostFacts * entryCount
 
 -- "Protocol (4,096 bytes)"
 abbrev pub fileLimit : ℕ
@@ -52,12 +55,12 @@ rulesAt = placesAt + placeBytes * ruleCount
 abbrev pub fileAt : ℕ
 fileAt = rulesAt + ruleRoom * builtinCount
 
--- all but the places of the rules' lists, which stand behind it in two bytes each
+-- all but the places of the rules' lists and of their facts, which stand behind it in two bytes each
 abbrev pub bodyLength : ℕ
 bodyLength = fileAt + fileLimit
 
 abbrev pub tableLength : ℕ
-tableLength = placeBytes * entryCount
+tableLength = placeBytes * placeCount
 
 abbrev pub preparedLength : ℕ
 preparedLength = bodyLength + tableLength
@@ -65,6 +68,10 @@ preparedLength = bodyLength + tableLength
 -- the two bytes of rule number n
 abbrev pub cellAt : ℕ → ℕ
 cellAt n = placesAt + placeBytes * n
+
+-- the entry of the first fact of the list that has entry k
+abbrev pub factRow : ℕ → ℕ
+factRow k = entryCount + mostFacts * k
 
 -- the bytes of the built-in rule n
 abbrev pub builtinAt : ℕ → ℕ
@@ -78,7 +85,8 @@ pub record Apart : Type 0 where
   pub places-end : cellAt ruleCount ≤ rulesAt
   pub rules-end : builtinAt builtinCount ≤ fileAt
   pub file-end : fileAt + fileLimit ≤ bodyLength
-  pub lists-end : bodyLength + placeBytes * entryCount ≤ preparedLength
+  pub lists-end : entryCount ≤ factRow 0
+  pub facts-end : bodyLength + placeBytes * factRow entryCount ≤ preparedLength
 
 pub apart : Apart
 apart = record {
@@ -89,4 +97,5 @@ apart = record {
   rules-end = omega arith;
   file-end = omega arith;
   lists-end = omega arith;
+  facts-end = omega arith;
 }

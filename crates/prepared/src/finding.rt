@@ -6,10 +6,10 @@ ghost use Rattle.lists.specs.Asks.{Asks, Promises};
 ghost use Rattle.octets.specs.Limits.{longest};
 ghost use Rattle.number.specs.Reading.{below};
 ghost use Rattle.protocol.specs.Figures.{symbolCount};
-ghost use Rattle.protocol.specs.Protocol.{Protocol, facts};
+ghost use Rattle.protocol.specs.Protocol.{Protocol};
 ghost use Rattle.protocol.specs.Places.{placeOf, valueOf, listPlace, factPlace, termPlace};
 ghost use Rattle.prepared.specs.Sections.{ruleCount, bodyLength, placeBase};
-ghost use Rattle.prepared.specs.Prepared.{slotsOf, aritiesOf, placeAt, Body};
+ghost use Rattle.prepared.specs.Prepared.{slotsOf, aritiesOf, placeAt, Body, factIn};
 ghost use Rattle.prepared.specs.Finding.{Finds};
 use crate::sections;
 
@@ -63,19 +63,6 @@ pub fn list_at(p: &[u8], place: usize, list: usize) -> usize
     )
 }
 
-// The place behind the list at a place.
-pub fn list_end(p: &[u8], list: usize) -> usize
-    requires { ⌜ (bodyLength ≤ length (now p)) × (length (now p) ≤ longest) ⌝ }
-    ensures { λ r. ⌜ r ≡ placeOf (facts (now (p .entry)) (slotsOf (now (p .entry))) (aritiesOf (now (p .entry))) list) ⌝ }
-{
-    protocol::places::list_end(
-        p,
-        &p[..sections::ARITIES],
-        &p[sections::ARITIES..sections::LINEARS],
-        list,
-    )
-}
-
 // The place of fact i of the list at a place.
 pub fn fact_at(p: &[u8], list: usize, i: usize) -> usize
     requires { ⌜ (bodyLength ≤ length (now p)) × (length (now p) ≤ longest) ⌝ }
@@ -87,6 +74,19 @@ pub fn fact_at(p: &[u8], list: usize, i: usize) -> usize
         &p[sections::ARITIES..sections::LINEARS],
         list,
         i,
+    )
+}
+
+// The place behind the fact at a place.
+pub fn fact_end(p: &[u8], fact: usize) -> usize
+    requires { ⌜ (bodyLength ≤ length (now p)) × (length (now p) ≤ longest) ⌝ }
+    ensures { λ r. ⌜ r ≡ placeOf (factIn (now (p .entry)) fact) ⌝ }
+{
+    protocol::places::fact_end(
+        p,
+        &p[..sections::ARITIES],
+        &p[sections::ARITIES..sections::LINEARS],
+        fact,
     )
 }
 

@@ -3,4 +3,4 @@
 pub mod sections; // where each section starts
 pub mod finding; // the rule of a number, its lists and facts
 pub mod filling; // a protocol file is judged and prepared
-pub mod list_places; // and the places of the lists of each rule behind it
+pub mod list_places; // and the places of the lists of each rule, and of their facts, behind it

@@ -28,9 +28,11 @@ pub const FILE: usize = RULES + rules::numbered::RULE_ROOM * BUILTIN_COUNT;
 
 pub const BODY: usize = FILE + FILE_LIMIT;
 
-// Behind that body the places of each rule's lists.
+// Behind that body the places of each rule's lists; behind these the places of each list's facts.
 pub const LIST_COUNT: usize = figures::LISTS * RULE_COUNT;
 
-pub const LIST_BYTES: usize = PLACE_BYTES * LIST_COUNT;
+pub const FACT_COUNT: usize = figures::MOST_FACTS * LIST_COUNT;
 
-pub const PREPARED: usize = BODY + LIST_BYTES;
+pub const TABLE_BYTES: usize = PLACE_BYTES * (LIST_COUNT + FACT_COUNT);
+
+pub const PREPARED: usize = BODY + TABLE_BYTES;

@@ -5,7 +5,7 @@ ghost use lib.ListN.{length};
 ghost use Rattle.octets.specs.Limits.{longest};
 ghost use Rattle.protocol.specs.Figures.{factLimit, variableLimit};
 ghost use Rattle.number.specs.Reading.{below};
-ghost use Rattle.protocol.specs.Protocol.{facts};
+ghost use Rattle.protocol.specs.Protocol.{fact};
 ghost use Rattle.protocol.specs.Places.{placeOf, valueOf, sortOf, listPlace, factPlace, termPlace};
 ghost use Rattle.protocol.specs.Places.Ends.{endOf, sortFrom};
 use crate::figures;
@@ -79,14 +79,6 @@ pub fn list_at(file: &[u8], arities: &[u8], ars: &[u8], at: usize, list: usize) 
     }
 }
 
-// The place behind the list at a place.
-pub fn list_end(file: &[u8], arities: &[u8], ars: &[u8], at: usize) -> usize
-    requires { ⌜ length (now file) ≤ longest ⌝ }
-    ensures { λ r. ⌜ r ≡ placeOf (facts (now (file .entry)) (now (arities .entry)) (now (ars .entry)) at) ⌝ }
-{
-    end_of(walks::one_list(file, arities, ars, at, term::VARIABLE, 0, 0))
-}
-
 // How many facts the list at a place has.
 pub fn count_of(file: &[u8], at: usize) -> usize
     ensures { λ r. ⌜ r ≡ valueOf (below (now (file .entry)) factLimit at) ⌝ }
@@ -108,6 +100,14 @@ pub fn fact_at(file: &[u8], arities: &[u8], ars: &[u8], at: usize, i: usize) -> 
         }
         Number::Fault => 0,
     }
+}
+
+// The place behind the fact at a place.
+pub fn fact_end(file: &[u8], arities: &[u8], ars: &[u8], at: usize) -> usize
+    requires { ⌜ length (now file) ≤ longest ⌝ }
+    ensures { λ r. ⌜ r ≡ placeOf (fact (now (file .entry)) (now (arities .entry)) (now (ars .entry)) at) ⌝ }
+{
+    end_of(walks::one_fact(file, arities, ars, at, term::VARIABLE, 0, 0))
 }
 
 // The symbol of the fact at a place.

@@ -7,10 +7,13 @@ use lib.ListN.{length, getD, take, drop, length-drop, length-map, length-append}
 use lib.Seq.{getD-drop, getD-take, length-take-le}
 use Rattle.term.specs.Tags.{tagCount, mostFunctions}
 use Rattle.term.specs.Arity.{padded, tagArities, builtin}
-use Rattle.protocol.specs.Protocol.{Own, Protocol, factArities, factFlags}
-use Rattle.protocol.specs.Figures.{symbolCount}
+use Rattle.octets.specs.Head.{Bytes}
+use Rattle.protocol.specs.Protocol.{Fact, Own, Protocol, factArities, factFlags}
+use Rattle.protocol.specs.Protocol.Exact.{facts-exact}
+use Rattle.protocol.specs.Places.{Here}
+use Rattle.protocol.specs.Figures.{symbolCount, mostFacts}
 use Rattle.prepared.specs.Sections.{slotCount, aritiesAt, linearsAt, bodyLength}
-use Rattle.prepared.specs.Prepared.{slotsOf, aritiesOf, linears, Body}
+use Rattle.prepared.specs.Prepared.{slotsOf, aritiesOf, linears, Body, factsIn}
 
 -- ── a list with 255 behind it ──
 pub length-padded : (n : ℕ) (l : List ℕ) → length (padded n l) ≡ n
@@ -57,3 +60,8 @@ module _ (p : List ℕ) (P : Protocol) (f : Body p P) (y : ℕ) (known : y < len
       sym (part-at p linearsAt symbolCount y (omega (arith, few)))
       ∙ ap (λ (l : List ℕ). getD l y 0) (f .flagged)
       ∙ padded-in symbolCount (linears (P .symbols)) y (omega (arith, few)) (omega arith)
+
+-- ── a list has eight facts at most ──
+pub list-few : (p : List ℕ) → Bytes p → bodyLength ≤ length p → (place : ℕ) (fs : List Fact) → Here (factsIn p) fs place → length fs ≤ mostFacts
+list-few p bytes long place fs h =
+    facts-exact p bytes (slotsOf p) (aritiesOf p) (omega (arith, arities-length p long)) .form fs place (h .next) (h .reads) .0 .few

@@ -33,6 +33,15 @@ module _ {A : Type 0} (p : ℕ → Read A) (d : A) where
             ∙ ap (λ (x : A). got x (r .next)) (sym (nth-is xs (r .front) (r .back) (r .item) i (r .whole) (r .number)));
       }
 
+  -- the one behind it stands at the end of its reading; behind the last is the end of all
+  pub nth-next : (n at e i : ℕ) (xs : List A) → many p n at ≡ got xs e → i < n → placeOf (many p (i + 1) at) ≡ placeOf (p (placeOf (many p i at)))
+  nth-next n at e i xs h l =
+      let r = many-nth p n at e i xs h l in
+      let more : i + 1 ≡ suc i = omega arith in
+      ap (λ (k : ℕ). placeOf (many p k at)) more
+      ∙ ap placeOf (many-snoc p i at (r .place) (r .next) (r .front) (r .item) (r .before) (r .here))
+      ∙ sym (ap placeOf (ap p (ap placeOf (r .before)) ∙ r .here))
+
 module _ (file arities ars : List ℕ) where
   -- a rule that stands there has that layout
   pub rule-layout : (at : ℕ) (r : Rule) → Here (rule file arities ars) r at → Here (layout file arities ars) r at
@@ -105,14 +114,10 @@ module _ (file arities ars : List ℕ) where
         → listPlace file arities ars at (list + 1) ≡ placeOf (facts file arities ars (listPlace file arities ars at list))
     unfolding listPlace
     list-next list l =
-        let r = many-nth (facts file arities ars) 3 (rule-parts .behind) (stands .next) list (r .lists) (rule-parts .lists) (omega arith) in
         let next : (k : ℕ) → Read ℕ → Read (List (List Fact)) = λ k o. andThen o (λ n e. many (facts file arities ars) k e) in
-        let here : placeOf (next list (sortsAt file at)) ≡ r .place = ap (λ (o : Read ℕ). placeOf (next list o)) sorts-are ∙ ap placeOf (r .before) in
-        let more : list + 1 ≡ suc list = omega arith in
         ap (λ (o : Read ℕ). placeOf (next (list + 1) o)) sorts-are
-        ∙ ap (λ (k : ℕ). placeOf (many (facts file arities ars) k (rule-parts .behind))) more
-        ∙ ap placeOf (many-snoc (facts file arities ars) list (rule-parts .behind) (r .place) (r .next) (r .front) (r .item) (r .before) (r .here))
-        ∙ sym (ap placeOf (ap (facts file arities ars) here ∙ r .here))
+        ∙ nth-next (facts file arities ars) [] 3 (rule-parts .behind) (stands .next) list (r .lists) (rule-parts .lists) (omega arith)
+        ∙ sym (ap (λ (o : Read ℕ). placeOf (facts file arities ars (placeOf (next list o)))) sorts-are)
 
   -- ── what stands in a list ──
   module _ (at : ℕ) (fs : List Fact) (stands : Here (facts file arities ars) fs at) where
@@ -134,6 +139,28 @@ module _ (file arities ars : List ℕ) where
           next = z .next;
           reads = ap (λ (o : Read ℕ). fact file arities ars (placeOf (andThen o (λ n e. many (fact file arities ars) i e)))) hn ∙ z .reads;
         })
+
+    -- the next fact stands behind it
+    pub fact-next : (i : ℕ) → i < length fs → factPlace file arities ars at (i + 1) ≡ placeOf (fact file arities ars (factPlace file arities ars at i))
+    unfolding facts counted factPlace
+    fact-next i l =
+        cut-got (below file factLimit at) _ (stands .reads) (λ n d hn hm.
+        let len = many-length (fact file arities ars) n d (stands .next) fs hm in
+        let next : (k : ℕ) → Read ℕ → Read (List Fact) = λ k o. andThen o (λ n e. many (fact file arities ars) k e) in
+        ap (λ (o : Read ℕ). placeOf (next (i + 1) o)) hn
+        ∙ nth-next (fact file arities ars) noFact n d (stands .next) i fs hm (omega arith)
+        ∙ sym (ap (λ (o : Read ℕ). placeOf (fact file arities ars (placeOf (next i o)))) hn))
+
+    -- behind the last fact the list ends
+    pub facts-end : factPlace file arities ars at (length fs) ≡ placeOf (facts file arities ars at)
+    unfolding facts counted factPlace
+    facts-end =
+        cut-got (below file factLimit at) _ (stands .reads) (λ n d hn hm.
+        let len = many-length (fact file arities ars) n d (stands .next) fs hm in
+        let next : (k : ℕ) → Read ℕ → Read (List Fact) = λ k o. andThen o (λ n e. many (fact file arities ars) k e) in
+        ap (λ (o : Read ℕ). placeOf (next (length fs) o)) hn
+        ∙ ap (λ (k : ℕ). placeOf (many (fact file arities ars) k d)) len
+        ∙ ap placeOf hm ∙ sym (ap placeOf (stands .reads)))
 
   -- ── what stands in a fact ──
   module _ (at : ℕ) (f : Fact) (stands : Here (fact file arities ars) f at) where

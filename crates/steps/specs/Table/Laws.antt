@@ -13,12 +13,12 @@ use Rattle.number.specs.Reading.{got, fault, below}
 use Rattle.number.specs.Reading.Numbers.{below-inside}
 use Rattle.term.specs.Reader.{term}
 use Rattle.protocol.specs.Figures.{variableLimit, listCount}
-use Rattle.protocol.specs.Protocol.{Rule, Protocol}
+use Rattle.protocol.specs.Protocol.{Rule, Protocol, listOf}
 use Rattle.protocol.specs.Places.{valueOf, sortOf}
 use Rattle.protocol.specs.Places.Laws.{rule-layout, sort-law, variables-law}
 use Rattle.rules.specs.Numbered.{ruleOf}
 use Rattle.prepared.specs.Sections.{ruleCount}
-use Rattle.prepared.specs.Prepared.{slotsOf, aritiesOf, placeAt, RuleAt, listEntry, ListAt, Prepared}
+use Rattle.prepared.specs.Prepared.{slotsOf, aritiesOf, placeAt, RuleAt, listEntry, factEntry, ListAt, factPlaceIn, Prepared}
 use Rattle.prepared.specs.Finding.{rule-listed, rule-at}
 use Rattle.steps.specs.Nodes.{Node, noNode, mostNodes, NodeWithin, NodesWithin}
 use Rattle.steps.specs.Values.Parts.{noTerm, lists-many}
@@ -94,6 +94,9 @@ module _ {p : List ℕ} {number : ℕ} {P : Protocol} {u : Rule} (h : RuleOf p n
 
   pub of-list : (list : ℕ) → list < listCount → ListAt p u list (listEntry p number list)
   of-list list l = h .prepared .lists number list u of-listed l (h .is)
+
+  pub of-fact : (list i : ℕ) → list < listCount → i < length (listOf list u) → factEntry p number list i ≡ factPlaceIn p (listEntry p number list) i
+  of-fact list i l m = h .prepared .facts number list i u of-listed l m (h .is)
 
   pub of-rule : RuleAt p u (placeAt p number)
   of-rule = rule-at p P (h .prepared .body) number u (h .is)

@@ -1,62 +1,52 @@
--- The three lists are found one behind the other, so each entry is its list's place; the earlier rows stay.
-use Rattle.prepared.specs.Lists.{three-lists, lists-more}
+-- Each list stands behind the one before, and is entered behind its entries; the earlier rows stay.
 use denote.Ref.{now}
 use native.Mathlib.Omega.{arith}
+use Rattle.prepared.specs.Lists.Numbers.{premises-of, actions-of, conclusions-of, list-asked, lists-more}
 use borrow.Author.Needs.{needs}
 use Rattle.prepared.proofs.list_places.enter_lists.Statement.{statement}
 use Rattle.prepared.proofs.list_places.enter_lists.Tie as tie
 
-list-at-requires : tie.Need-list-at-requires
-list-at-requires c κs = search needs
-
-list-end-requires : tie.Need-list-end-requires
-list-end-requires c κs = search needs
-
-list-end-requires-2 : tie.Need-list-end-requires-2
-list-end-requires-2 c κs = search needs
-
 mul-first : tie.Need-mul-first
 mul-first c = search needs
 
-put-entry-requires : tie.Need-put-entry-requires
-put-entry-requires c κs =
+list-at-requires : tie.Need-list-at-requires
+list-at-requires c κs = search needs
+
+enter-list-requires : tie.Need-enter-list-requires
+enter-list-requires c κs =
+    let c4 = c .before .before .before .before in
+    (omega (arith, c4 .pre .0), c4 .pre .1, c4 .pre .2, list-asked (c4 .pre .3) 0 _ (premises-of (c4 .pre .3) _ (c .before .list-at .ensures)))
+
+add-enter-list : tie.Need-add-enter-list
+add-enter-list c = search needs
+
+enter-list-requires-2 : tie.Need-enter-list-requires-2
+enter-list-requires-2 c κs =
     let c3 = c .before .before .before in
     let c5 = c3 .before .before in
-    let c6 = c5 .before in
-    let x = three-lists (λ k. c5 .shared-slice-known .given k .fits) (c6 .pre .1) (c6 .pre .3) _ _ _ (c3 .list-at .ensures)
-    (c .before .before .list-end .ensures) (c .before .list-end2 .ensures) in
-    (omega arith, c6 .pre .2, x .0 .small)
+    let c8 = c5 .before .before .before in (
+      omega (arith, c8 .pre .0),
+      c8 .pre .1,
+      omega (arith, c3 .enter-list .kept, c8 .pre .2),
+      list-asked (c8 .pre .3) 1 _
+          (actions-of (c8 .pre .3) _ (c5 .list-at .ensures) _ (c3 .enter-list .ensures .0)),
+    )
 
-add-put-entry : tie.Need-add-put-entry
-add-put-entry c = search needs
+add-enter-last : tie.Need-add-enter-last
+add-enter-last c = search needs
 
-put-entry-requires-2 : tie.Need-put-entry-requires-2
-put-entry-requires-2 c κs =
-    let c3 = c .before .before .before in
-    let c5 = c3 .before .before in
-    let c6 = c5 .before in
-    let c7 = c6 .before in
-    let c9 = c7 .before .before in
-    let c10 = c9 .before in
-    let x = three-lists (λ k. c9 .shared-slice-known .given k .fits) (c10 .pre .1) (c10 .pre .3) _ _ _ (c7 .list-at .ensures) (c6 .list-end .ensures)
-    (c5 .list-end2 .ensures) in
-    (omega arith, omega (arith, c3 .put-entry .kept), x .1 .small)
-
-add-put-entry-2 : tie.Need-add-put-entry-2
-add-put-entry-2 c = search needs
-
-put-entry-requires-3 : tie.Need-put-entry-requires-3
-put-entry-requires-3 c κs =
+enter-last-requires : tie.Need-enter-last-requires
+enter-last-requires c κs =
     let c3 = c .before .before .before in
     let c7 = c3 .before .before .before .before in
     let c9 = c7 .before .before in
-    let c10 = c9 .before in
-    let c11 = c10 .before in
-    let c13 = c11 .before .before in
-    let c14 = c13 .before in
-    let x = three-lists (λ k. c13 .shared-slice-known .given k .fits) (c14 .pre .1) (c14 .pre .3) _ _ _ (c11 .list-at .ensures) (c10 .list-end .ensures)
-    (c9 .list-end2 .ensures) in
-    (omega arith, omega (arith, c7 .put-entry .kept, c3 .put-entry2 .kept), x .2 .small)
+    let c12 = c9 .before .before .before in (
+      omega (arith, c12 .pre .0),
+      c12 .pre .1,
+      omega (arith, c7 .enter-list .kept, c3 .enter-list2 .kept, c12 .pre .2),
+      list-asked (c12 .pre .3) 2 _
+          (conclusions-of (c12 .pre .3) _ (c9 .list-at .ensures) _ (c7 .enter-list .ensures .0) _ (c3 .enter-list2 .ensures .0)),
+    )
 
 same-length : tie.Need-same-length
 same-length c = search needs
@@ -66,27 +56,23 @@ returns c =
     let c6 = c .before .before .before .before .before .before in
     let c10 = c6 .before .before .before .before in
     let c12 = c10 .before .before in
-    let c13 = c12 .before in
-    let c14 = c13 .before in
-    let c16 = c14 .before .before in
-    let c17 = c16 .before in
-    let x = three-lists (λ k. c16 .shared-slice-known .given k .fits) (c17 .pre .1) (c17 .pre .3) _ _ _ (c14 .list-at .ensures) (c13 .list-end .ensures)
-    (c12 .list-end2 .ensures) in
-    lists-more (now (c17 .args .q)) (now (c17 .args .table)) (c17 .args .n) (c17 .pre .0) (c17 .pre .2) _ _ _ (x .0) (x .1) (x .2) _ _ _
-    (c10 .put-entry .ensures) (c6 .put-entry2 .ensures) (c .before .before .put-entry3 .ensures)
+    let c14 = c12 .before .before in
+    let c15 = c14 .before in
+    lists-more (now (c15 .args .q)) (λ k. c14 .shared-slice-known .given k .fits) (c15 .pre .1) (c15 .args .n) _ _ _
+    (premises-of (c15 .pre .3) _ (c12 .list-at .ensures)) (actions-of (c15 .pre .3) _ (c12 .list-at .ensures) _ (c10 .enter-list .ensures .0))
+    (conclusions-of (c15 .pre .3) _ (c12 .list-at .ensures) _ (c10 .enter-list .ensures .0) _ (c6 .enter-list2 .ensures .0)) (now (c15 .args .table)) _ _ _
+    (c10 .enter-list .ensures .1) (c6 .enter-list2 .ensures .1) (c .before .before .enter-last .ensures)
 
 pub enter-lists-spec : {M : Type 1} → statement M
 enter-lists-spec =
     tie.close
     (tie.spec
-    list-at-requires
-    list-end-requires
-    list-end-requires-2
     mul-first
-    put-entry-requires
-    add-put-entry
-    put-entry-requires-2
-    add-put-entry-2
-    put-entry-requires-3
+    list-at-requires
+    enter-list-requires
+    add-enter-list
+    enter-list-requires-2
+    add-enter-last
+    enter-last-requires
     same-length
     returns)

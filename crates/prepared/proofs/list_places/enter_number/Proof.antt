@@ -1,5 +1,5 @@
 -- A number with a rule has its three lists entered; one without has none to enter.
-use Rattle.prepared.specs.Lists.{lists-of, none-found, lists-none}
+use Rattle.prepared.specs.Lists.Numbers.{lists-of, none-found, lists-none}
 use denote.Ref.{now}
 use borrow.Author.Needs.{needs}
 use Rattle.prepared.proofs.list_places.enter_number.Statement.{statement}
@@ -34,7 +34,7 @@ returns c = search needs
 returns-2 : tie.Need-returns-2
 returns-2 c =
     let c5 = c .before .before .before .before .before in
-    lists-none (now (c5 .args .q)) (now (c5 .args .table)) (c5 .args .n) (c5 .pre .0)
+    lists-none (now (c5 .args .q)) (now (c5 .args .table)) (c5 .args .n)
     (none-found (now (c5 .args .q)) (c5 .pre .3) (c5 .args .n) (c .before .before .rule-place .ensures) (c .enum-told .given .1))
 
 pub enter-number-spec : {M : Type 1} → statement M

@@ -5,7 +5,8 @@ use Prim.Native.Nat.{_+_, _-_, _≤_, _*_}
 use native.Mathlib.Omega.{arith}
 use lib.ListN.{length}
 use Rattle.prepared.specs.Sections.{builtinCount}
-use Rattle.prepared.specs.Lists.{Listing, rules-few, listing-all}
+use Rattle.prepared.specs.Lists.{Listing}
+use Rattle.prepared.specs.Lists.Numbers.{rules-few, listing-all}
 use Rattle.prepared.proofs.list_places.list_table.Statement.{statement}
 use Rattle.prepared.proofs.list_places.list_table.Tie as tie
 

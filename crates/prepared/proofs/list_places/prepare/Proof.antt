@@ -1,5 +1,5 @@
 -- The body is prepared in the slice's front and the table copied behind it, so both stand; the verdict is the body's.
-use Rattle.prepared.specs.Lists.{joined-long, joined-part, joined-as, joined-ready, all-prepared}
+use Rattle.prepared.specs.Lists.Whole.{joined-long, joined-part, joined-as, joined-ready, all-prepared}
 use Rattle.prepared.specs.Sections.{bodyLength}
 use Rattle.rules.specs.Fit.Laws.{verdictOf}
 use lib.Seq.{length-take-le}

@@ -1,0 +1,143 @@
+-- The entries of one rule number after another.
+use Prim.Native.Nat.{ℕ, _+_, _-_, _*_, _/_, _%_, _≤_, _<_}
+use mathlib.Core.List.{List}
+use mathlib.Core.Option.{Option, some, none, Option·none-ne-some}
+use mathlib.Core.Path.{_≡_, refl, ap, sym, _∙_, subst}
+use native.Mathlib.Omega.{arith}
+use lib.ListN.{length}
+use Rattle.protocol.specs.Figures.{listCount, mostRules}
+use Rattle.lists.specs.Asks.{Asks}
+use Rattle.lists.specs.Choice.{by-size}
+use Rattle.lists.specs.Lists.Laws.{at-outside}
+use Rattle.octets.specs.Head.{Bytes}
+use Rattle.protocol.specs.Protocol.{Rule, Protocol, listOf}
+use Rattle.protocol.specs.Places.{At, listPlace, placeOf}
+use Rattle.protocol.specs.Places.Laws.{list-law, list-next, rule-layout}
+use Rattle.rules.specs.Numbered.{ruleOf}
+use Rattle.rules.specs.Numbered.Found.{of-own}
+use Rattle.prepared.specs.declared.finding.Found.{Found}
+use Rattle.prepared.specs.declared.finding.Found.the-variants as fd
+use Rattle.prepared.specs.Sections.{ruleCount, builtinCount, bodyLength, entryCount, factRow}
+use Rattle.prepared.specs.Prepared.{slotsOf, aritiesOf, placeAt, Entry, Body, entryAt, factsIn, ListAt, factPlaceIn}
+use Rattle.prepared.specs.Prepared.Laws.{list-few}
+use Rattle.prepared.specs.Finding.{Finds, found-here}
+use Rattle.prepared.specs.Lists.{ListsOf, RulesIn, ListEntered, ListIn, Listing}
+
+-- ── where the lists of a rule stand ──
+-- at a place, in whatever protocol
+abbrev pub ListOf : List ℕ → ℕ → ℕ → ℕ → Type 0
+ListOf q n list r = (P : Protocol) (u : Rule) → Body q P → ruleOf P n ≡ some u → ListAt q u list r
+
+module _ {q : List ℕ} {n place : ℕ} (x : ListsOf q n place) where
+  list-found : (list : ℕ) → list < listCount → (r : ℕ) → r ≡ listPlace q (slotsOf q) (aritiesOf q) place list → ListOf q n list r
+  list-found list small r h P u f is =
+      subst (ListAt q u list) (sym h)
+      (list-law q (slotsOf q) (aritiesOf q) place u
+      (rule-layout q (slotsOf q) (aritiesOf q) place u (found-here q P n place (x .found P f) u is)) list small)
+
+  -- the next one stands behind it
+  next-place :
+      (list : ℕ) → list + 1 < listCount → (l r : ℕ) → l ≡ listPlace q (slotsOf q) (aritiesOf q) place list → r ≡ placeOf (factsIn q l)
+      → r ≡ listPlace q (slotsOf q) (aritiesOf q) place (list + 1)
+  next-place list small l r hl hr =
+      let (P, f) = x .some-protocol in
+      let g = x .found P f in
+      let u = rule-layout q (slotsOf q) (aritiesOf q) place (g .its) (g .here) in
+      hr ∙ ap (λ (i : ℕ). placeOf (factsIn q i)) hl
+      ∙ sym (list-next q (slotsOf q) (aritiesOf q) place (g .its) u list small)
+
+  module _ (a : ℕ) (ha : a ≡ listPlace q (slotsOf q) (aritiesOf q) place 0) where
+    pub premises-of : ListOf q n 0 a
+    premises-of = list-found 0 (omega arith) a ha
+
+    module _ (b : ℕ) (hb : b ≡ placeOf (factsIn q a)) where
+      pub actions-of : ListOf q n 1 b
+      actions-of = list-found 1 (omega arith) b (next-place 0 (omega arith) a b ha hb)
+
+      pub conclusions-of : (c : ℕ) → c ≡ placeOf (factsIn q b) → ListOf q n 2 c
+      conclusions-of c hc = list-found 2 (omega arith) c (next-place 1 (omega arith) b c (next-place 0 (omega arith) a b ha hb) hc)
+
+  -- some list stands there
+  pub list-asked : (list r : ℕ) → ListOf q n list r → Asks (At (factsIn q) r)
+  list-asked list r l =
+      let (P, f) = x .some-protocol in
+      let g = x .found P f in
+      (listOf list (g .its), l P (g .its) f (g .is))
+
+-- the code's two cases
+module _ (q : List ℕ) (ready : Asks (Body q)) (n : ℕ) {found : Found} (x : (P : Protocol) → Body q P → Finds q P n found) where
+  pub lists-of : (place : ℕ) → found ≡ fd.At place → ListsOf q n place
+  lists-of place e = record { some-protocol = ready; found = λ P f. subst (Finds q P n) e (x P f) }
+
+  pub none-found : found ≡ fd.Nothing → (P : Protocol) → Body q P → ruleOf P n ≡ none
+  none-found e P f = subst (Finds q P n) e (x P f)
+
+-- ── one list more ──
+module _ (q : List ℕ) (bytes : Bytes q) (long : length q ≡ bodyLength) where
+  list-kept : (t t′ : List ℕ) (k r : ℕ) → ListEntered q r t t′ k → (u : Rule) (j : ℕ) → j < k → ListIn q t u j → ListIn q t′ u j
+  list-kept t t′ k r h u j l x =
+      let same = h .lists-kept j l in
+      record {
+        here = subst (ListAt q u (j % listCount)) (sym same) (x .here);
+        each = λ i m.
+            let few = list-few q bytes (omega arith) (entryAt t 0 j) (listOf (j % listCount) u) (x .here) in
+            h .facts-kept (factRow j + i) (omega arith) (omega (arith, few)) ∙ x .each i m ∙ ap (λ (a : ℕ). factPlaceIn q a i) (sym same);
+      }
+
+  list-right : (t t′ : List ℕ) (k r : ℕ) → ListEntered q r t t′ k → (u : Rule) → ListAt q u (k % listCount) r → ListIn q t′ u k
+  list-right t t′ k r h u x = record {
+    here = subst (ListAt q u (k % listCount)) (sym (h .is)) x;
+    each = λ i m. h .each (listOf (k % listCount) u) x i m ∙ ap (λ (a : ℕ). factPlaceIn q a i) (sym (h .is));
+  }
+
+  listing-more :
+      (t t′ : List ℕ) (n list k r : ℕ) → k / listCount ≡ n → k % listCount ≡ list → ListOf q n list r → ListEntered q r t t′ k → Listing q t k
+      → Listing q t′ (k + 1)
+  listing-more t t′ n list k r d m x h l j b P u f is =
+      by-size j k
+      (λ a. list-kept t t′ k r h u j a (l j a P u f is))
+      (λ a.
+      let z : k ≡ j = omega arith in
+      subst (ListIn q t′ u) z
+      (list-right t t′ k r h u
+      (subst (λ (i : ℕ). ListAt q u i r) (sym m) (x P u f (ap (ruleOf P) (sym d ∙ ap (λ (i : ℕ). i / 3) z) ∙ is)))))
+
+  -- ── one rule more ──
+  pub lists-more :
+      (n a b c : ℕ) → ListOf q n 0 a → ListOf q n 1 b → ListOf q n 2 c → (t t₁ t₂ t₃ : List ℕ)
+      → ListEntered q a t t₁ (listCount * n) → ListEntered q b t₁ t₂ (listCount * n + 1) → ListEntered q c t₂ t₃ (listCount * n + 2)
+      → Listing q t (listCount * n) → Listing q t₃ (listCount * (n + 1))
+  lists-more n a b c x y z t t₁ t₂ t₃ h₁ h₂ h₃ l =
+      let l₁ : Listing q t₁ (3 * n + 1) = listing-more t t₁ n 0 (3 * n) a (omega arith) (omega arith) x h₁ l in
+      let l₂ : Listing q t₂ (3 * n + 1 + 1) = listing-more t₁ t₂ n 1 (3 * n + 1) b (omega arith) (omega arith) y h₂ l₁ in
+      let l₂′ : Listing q t₂ (3 * n + 2) = (let e : 3 * n + 1 + 1 ≡ 3 * n + 2 = omega arith in subst (Listing q t₂) e l₂) in
+      let l₃ : Listing q t₃ (3 * n + 2 + 1) = listing-more t₂ t₃ n 2 (3 * n + 2) c (omega arith) (omega arith) z h₃ l₂′ in
+      (let e : 3 * n + 2 + 1 ≡ 3 * (n + 1) = omega arith in subst (Listing q t₃) e l₃)
+
+pub lists-none :
+    (q t : List ℕ) (n : ℕ) → ((P : Protocol) → Body q P → ruleOf P n ≡ none) → Listing q t (listCount * n) → Listing q t (listCount * (n + 1))
+lists-none q t n h l j m P u f is =
+    by-size j (3 * n)
+    (λ b. l j b P u f is)
+    (λ b. let d : j / 3 ≡ n = omega arith in absurd (Option·none-ne-some u (sym (ap (ruleOf P) d ∙ h P f) ∙ is)))
+
+-- ── the numbers behind the rules of the file have no rule ──
+no-place : (q : List ℕ) (m : ℕ) (u : Option Rule) → Entry q m u → placeAt q m ≡ 0 → u ≡ none
+no-place q m (some u) e z = absurd (omega (arith, e .there))
+no-place q m none e z = refl
+
+module _ (q : List ℕ) (nr : ℕ) (ready : Asks (RulesIn q nr)) where
+  pub rules-few : nr ≤ mostRules
+  rules-few = omega (arith, ready .1 .count, ready .1 .body .within .few-rules)
+
+  none-more : (m : ℕ) → builtinCount + nr ≤ m → m < ruleCount → (P : Protocol) → Body q P → ruleOf P m ≡ none
+  none-more m h l P f =
+      let (Q, g) = ready in
+      let none-there : ruleOf Q m ≡ none = of-own Q m (omega arith) ∙ at-outside (Q .rules) (m - builtinCount) (omega (arith, g .count)) in
+      no-place q m (ruleOf P m) (f .rules m l) (subst (Entry q m) none-there (g .body .rules m l))
+
+  pub listing-all : (t : List ℕ) (n : ℕ) → builtinCount + nr ≤ n → Listing q t (listCount * n) → Listing q t entryCount
+  listing-all t n all l j h P u f is =
+      by-size j (3 * n)
+      (λ b. l j b P u f is)
+      (λ b. absurd (Option·none-ne-some u (sym (none-more (j / 3) (omega arith) (omega arith) P f) ∙ is)))
