@@ -1,10 +1,8 @@
 // The symbols of a rule's terms with the values filled in (8).
 ghost use mathlib.Core.Path.{_≡_};
 ghost use mathlib.Core.List.{List};
-ghost use Prim.Native.Nat.{ℕ, _≤_, _<_, _+_, suc};
+ghost use Prim.Native.Nat.{ℕ, _≤_};
 ghost use lib.ListN.{length};
-ghost use lib.Dec.{ltb};
-ghost use Rattle.steps.specs.Values.{mostFilledIn};
 ghost use Rattle.octets.specs.Limits.{longest};
 ghost use Rattle.lists.specs.Asks.{Asks, Promises, Asks₂, Promises₂};
 ghost use Rattle.term.specs.Term.{Term};
@@ -15,7 +13,7 @@ ghost use Rattle.prepared.specs.Sections.{preparedLength};
 ghost use Rattle.prepared.specs.Prepared.{slotsOf, aritiesOf};
 ghost use Rattle.steps.specs.Values.Parts.{factSmall, listSmall, ruleSmall};
 ghost use Rattle.steps.specs.Table.Laws.{RuleOf};
-ghost use Rattle.steps.specs.Values.Weights.{leafWeight, weigh, weightOf, sizeIn};
+ghost use Rattle.steps.specs.Values.Weights.{leafWeight, weightOf, sizeIn, termSmall, smallTo};
 use prepared::finding;
 use prepared::list_places;
 use prepared::sections;
@@ -24,14 +22,18 @@ use term::Symbol;
 // "filled-in term over 256 symbols"; "Each tag counts as one symbol."
 const MOST_FILLED_IN: usize = term::MOST_SYMBOLS;
 
-const FILLED_IN_LIMIT: usize = MOST_FILLED_IN + 1;
-
 const ONE_SYMBOL: usize = 1;
 
 // One symbol: what it weighs, how many terms it takes, the place behind it.
 pub enum Weight {
     Takes(usize, u8, usize),
     Fault,
+}
+
+// Small enough, with the place behind it; or not.
+pub enum Small {
+    Upto(usize),
+    Big,
 }
 
 // The size of a value.
@@ -65,63 +67,69 @@ fn one_weight(file: &[u8], arities: &[u8], at: usize, sizes: &[usize]) -> Weight
 }
 
 // Whether the term at a place has 256 symbols at most with values of these sizes filled in.
-pub fn term_small(file: &[u8], arities: &[u8], at: usize, sizes: &[usize]) -> bool
+pub fn term_small(file: &[u8], arities: &[u8], at: usize, sizes: &[usize]) -> Small
     requires { ⌜ Asks₂ (ReadAs (term (now file) (now arities)) at) × (length (now file) ≤ longest) × ((v : ℕ) → sizeIn (now sizes) v ≤ longest) ⌝ }
-    ensures { λ r. ⌜ Promises₂ (ReadAs (term (now (file .entry)) (now (arities .entry))) at) (λ (t : Term) (e : ℕ). r ≡ ltb (weigh (sizeIn (now (sizes .entry))) t) (suc mostFilledIn)) ⌝ }
+    ensures { λ r. ⌜ Promises₂ (ReadAs (term (now (file .entry)) (now (arities .entry))) at) (λ (t : Term) (e : ℕ). r ≡ smallTo (termSmall (sizeIn (now (sizes .entry))) t) e) ⌝ }
 {
     let mut i = at;
     let mut pending: usize = 1;
     let mut sum: usize = 0;
     while 0 < pending {
-        if MOST_FILLED_IN < sum {
-            return false;
-        }
         match one_weight(file, arities, i, sizes) {
             Weight::Takes(a, k, e) => {
                 sum += a;
+                if MOST_FILLED_IN < sum {
+                    return Small::Big;
+                }
                 pending = pending - 1 + k as usize;
                 i = e;
             }
             Weight::Fault => {
-                return false;
+                return Small::Big;
             }
         }
     }
-    sum < FILLED_IN_LIMIT
+    Small::Upto(i)
 }
 
-// Whether all terms of the fact at a place are small enough.
-pub fn fact_small(p: &[u8], place: usize, sizes: &[usize]) -> bool
-    requires { ⌜ Asks (At (fact (now p) (slotsOf (now p)) (aritiesOf (now p))) place) × (length (now p) ≡ preparedLength) × ((v : ℕ) → sizeIn (now sizes) v ≤ longest) ⌝ }
-    ensures { λ r. ⌜ Promises (At (fact (now (p .entry)) (slotsOf (now (p .entry))) (aritiesOf (now (p .entry)))) place) (λ (f : Fact). r ≡ factSmall (sizeIn (now (sizes .entry))) f) ⌝ }
+// Whether all terms of the fact at a place are small enough, each found behind the one before.
+pub fn fact_small(p: &[u8], place: usize, sizes: &[usize]) -> Small
+    requires { ⌜ Asks₂ (ReadAs (fact (now p) (slotsOf (now p)) (aritiesOf (now p))) place) × (length (now p) ≡ preparedLength) × ((v : ℕ) → sizeIn (now sizes) v ≤ longest) ⌝ }
+    ensures { λ r. ⌜ Promises₂ (ReadAs (fact (now (p .entry)) (slotsOf (now (p .entry))) (aritiesOf (now (p .entry)))) place) (λ (f : Fact) (e : ℕ). r ≡ smallTo (factSmall (sizeIn (now (sizes .entry))) f) e) ⌝ }
 {
     let y = finding::symbol_of(p, place);
-    let n = finding::arity_of(p, y);
-    let mut j: usize = 0;
-    while j < n {
-        let at = finding::term_at(p, place, j);
-        if term_small(p, &p[..sections::ARITIES], at, sizes) {
-            j += 1;
-        } else {
-            return false;
+    let mut left = finding::arity_of(p, y);
+    let mut at = finding::term_at(p, place, 0);
+    while 0 < left {
+        match term_small(p, &p[..sections::ARITIES], at, sizes) {
+            Small::Upto(e) => {
+                at = e;
+                left -= 1;
+            }
+            Small::Big => {
+                return Small::Big;
+            }
         }
     }
-    true
+    Small::Upto(at)
 }
 
-// Whether all facts of the list at a place are.
+// Whether all facts of the list at a place are, each found behind the one before.
 pub fn list_small(p: &[u8], place: usize, sizes: &[usize]) -> bool
     requires { ⌜ Asks (At (facts (now p) (slotsOf (now p)) (aritiesOf (now p))) place) × (length (now p) ≡ preparedLength) × ((v : ℕ) → sizeIn (now sizes) v ≤ longest) ⌝ }
     ensures { λ r. ⌜ Promises (At (facts (now (p .entry)) (slotsOf (now (p .entry))) (aritiesOf (now (p .entry)))) place) (λ (fs : List Fact). r ≡ listSmall (sizeIn (now (sizes .entry))) fs) ⌝ }
 {
-    let n = protocol::places::count_of(p, place);
-    let mut j: usize = 0;
-    while j < n {
-        let at = finding::fact_at(p, place, j);
-        if fact_small(p, at, sizes) {
-            j += 1;
-        } else {
-            return false;
+    let mut left = protocol::places::count_of(p, place);
+    let mut at = finding::fact_at(p, place, 0);
+    while 0 < left {
+        match fact_small(p, at, sizes) {
+            Small::Upto(e) => {
+                at = e;
+                left -= 1;
+            }
+            Small::Big => {
+                return false;
+            }
         }
     }
     true

@@ -1,12 +1,12 @@
 -- The symbols of a term with the values filled in, added up symbol by symbol: a variable weighs as much as its value, everything else one.
 use Prim.Native.Nat.{ℕ, zero, suc, _+_, _-_, _≤_, _<_}
 use mathlib.Core.List.{List, [], _∷_, _++_}
-use mathlib.Core.Bool.{false}
+use mathlib.Core.Bool.{Bool, true, false}
 use mathlib.Core.Path.{_≡_, refl, ap, ap₂, sym, _∙_}
 use native.Mathlib.Omega.{arith}
 use lib.ListN.{length, getD, List·getD-eq-default}
 use lib.Dec.{ltb}
-use borrow.Author.Tests.{le-ltb}
+use borrow.Author.Tests.{lt-ltb, le-ltb}
 use Rattle.steps.specs.Values.{mostFilledIn}
 use Rattle.lists.specs.Choice.{clash}
 use Rattle.octets.specs.Head.{Bytes}
@@ -21,6 +21,8 @@ use Rattle.term.specs.declared.Symbol.the-variants as sy
 use Rattle.message.specs.Substitution.{sub, subs}
 use Rattle.steps.specs.declared.sizes.Weight.{Weight}
 use Rattle.steps.specs.declared.sizes.Weight.the-variants as wt
+use Rattle.steps.specs.declared.sizes.Small.{Small}
+use Rattle.steps.specs.declared.sizes.Small.the-variants as sm
 
 -- ── weights ──
 abbrev pub leafWeight : (ℕ → ℕ) → Kind → ℕ → ℕ
@@ -82,33 +84,54 @@ weight-small w b l small sy.Fault h = clash (cc)
 abbrev pub sizeIn : List ℕ → ℕ → ℕ
 sizeIn sizes v = getD sizes v 1
 
--- ── a walk: what was added up and what is left make the whole ──
-module _ (file arities : List ℕ) (w : ℕ → ℕ) (t : Term) where
+-- ── the test of cause 8, and what code answers of it ──
+abbrev pub termSmall : (ℕ → ℕ) → Term → Bool
+termSmall w t = ltb (weigh w t) (suc mostFilledIn)
+
+-- small enough, with the place behind it; or not
+abbrev pub smallTo : Bool → ℕ → Small
+smallTo true e = sm.Upto e
+smallTo false e = sm.Big
+
+pub upto : (b : Bool) (e d : ℕ) → sm.Upto d ≡ smallTo b e → (true ≡ b) × (d ≡ e)
+upto true e d h = (refl, cc)
+upto false e d h = clash (cc)
+
+pub big : (b : Bool) (e : ℕ) → sm.Big ≡ smallTo b e → false ≡ b
+big true e h = clash (cc)
+big false e h = refl
+
+-- ── a walk: what was added up and what is left make the whole, and what is left ends where the whole ends ──
+module _ (file arities : List ℕ) (w : ℕ → ℕ) (t : Term) (end : ℕ) where
   pub record Going (sum pending i : ℕ) : Type 0 where
     pub rest : List Term
-    pub end : ℕ
     pub reads : many (term file arities) pending i ≡ got rest end
     pub adds : sum + total w rest ≡ weigh w t
 
-  pub going-starts : (at e : ℕ) → term file arities at ≡ got t e → Going 0 1 at
+  pub going-starts : (at : ℕ) → term file arities at ≡ got t end → Going 0 1 at
   unfolding many
-  going-starts at e h = record { rest = t ∷ []; end = e; reads = then-got (term file arities at) _ h; adds = omega arith }
+  going-starts at h = record { rest = t ∷ []; reads = then-got (term file arities at) _ h; adds = omega arith }
 
-  pub going-ends : (sum i : ℕ) → Going sum 0 i → sum ≡ weigh w t
+  pub going-ends : (sum pending i : ℕ) → pending ≤ 0 → sum ≤ mostFilledIn → Going sum pending i → sm.Upto i ≡ smallTo (termSmall w t) end
   unfolding many
-  going-ends sum i g = let r : [] ≡ g .rest = (let q = g .reads in cc) in omega (arith, g .adds, ap (total w) r)
+  going-ends sum (suc n) i z l g = absurd (omega arith)
+  going-ends sum zero i z l g =
+      let r : [] ≡ g .rest = (let q = g .reads in cc) in
+      let b : i ≡ end = (let q = g .reads in cc) in
+      ap₂ smallTo (sym (lt-ltb (weigh w t) (suc mostFilledIn) (omega (arith, g .adds, ap (total w) r)))) b
 
   -- what was added up is no more than the whole
-  pub going-long : (sum pending i : ℕ) → Going sum pending i → mostFilledIn < sum → false ≡ ltb (weigh w t) (suc mostFilledIn)
-  going-long sum pending i g l = sym (le-ltb (weigh w t) (suc mostFilledIn) (omega (arith, g .adds)))
+  pub going-long : (sum pending i : ℕ) → Going sum pending i → mostFilledIn < sum → sm.Big ≡ smallTo (termSmall w t) end
+  going-long sum pending i g l = ap (λ (b : Bool). smallTo b end) (sym (le-ltb (weigh w t) (suc mostFilledIn) (omega (arith, g .adds))))
 
   pub record Stepped (sum pending i a k e : ℕ) : Type 0 where
     pub ahead : i < e
     pub inside : e ≤ length file
     pub going : Going (sum + a) (pending - 1 + k) e
 
-module _ (file arities : List ℕ) (bytes : Bytes file) (w : ℕ → ℕ) (t : Term) where
-  pub going-fault : {C : Type 0} (sum pending i : ℕ) → 0 < pending → Going file arities w t sum pending i → weightOf w (symbolAt file arities i) ≡ wt.Fault → C
+module _ (file arities : List ℕ) (bytes : Bytes file) (w : ℕ → ℕ) (t : Term) (end : ℕ) where
+  pub going-fault : {C : Type 0} (sum pending i : ℕ) → 0 < pending → Going file arities w t end sum pending i → weightOf w (symbolAt file arities i) ≡ wt.Fault
+      → C
   unfolding many
   going-fault sum zero i l g h = absurd (omega arith)
   going-fault sum (suc n) i l g h =
@@ -121,23 +144,24 @@ module _ (file arities : List ℕ) (bytes : Bytes file) (w : ℕ → ℕ) (t : T
       go (sy.Op f m b) y hu h = let q : wt.Takes 1 m b ≡ wt.Fault = sym (ap (weightOf w) y) ∙ h in clash (cc)
       go {C} {u} {d} sy.Fault y hu h = let q : fault ≡ got u d = sym (ap (build (term file arities)) y) ∙ hu in clash (cc)
 
-  pub going-more : (sum pending i a k e : ℕ) → 0 < pending → Going file arities w t sum pending i → weightOf w (symbolAt file arities i) ≡ wt.Takes a k e →
+  pub going-more : (sum pending i a k e : ℕ) → 0 < pending → Going file arities w t end sum pending i → weightOf w (symbolAt file arities i) ≡ wt.Takes a k e →
       Stepped file
-      arities w t sum pending i a k e
+      arities w t end sum pending i a k e
   unfolding many
   going-more sum zero i a k e l g h = absurd (omega arith)
   going-more sum (suc n) i a k e l g h =
       cut-got (term file arities i) _ (g .reads) (λ u d hu q. cut-got (many (term file arities) n d) _ q (λ us c hus q.
       let r : u ∷ us ≡ g .rest = cc in
+      let b : c ≡ end = cc in
       let z : sum + (weigh w u + total w us) ≡ weigh w t = ap (λ (l : List Term). sum + total w l) r ∙ g .adds in
-      go (symbolAt file arities i) refl u d us c (sym (term-build file arities bytes i) ∙ hu) hus z h))
+      go (symbolAt file arities i) refl u d us (sym (term-build file arities bytes i) ∙ hu) (hus ∙ ap (got us) b) z h))
     where
-      go : (y : Symbol) → symbolAt file arities i ≡ y → (u : Term) (d : ℕ) (us : List Term) (c : ℕ) → build (term file arities) (symbolAt file arities i) ≡ got
+      go : (y : Symbol) → symbolAt file arities i ≡ y → (u : Term) (d : ℕ) (us : List Term) → build (term file arities) (symbolAt file arities i) ≡ got
           u d
-          → many (term file arities) n d ≡ got us c → sum + (weigh w u + total w us) ≡ weigh w t → weightOf w (symbolAt file arities i) ≡ wt.Takes a k e →
+          → many (term file arities) n d ≡ got us end → sum + (weigh w u + total w us) ≡ weigh w t → weightOf w (symbolAt file arities i) ≡ wt.Takes a k e →
           Stepped file
-          arities w t sum (suc n) i a k e
-      go (sy.Leaf f m b) y u d us c hu hus z h =
+          arities w t end sum (suc n) i a k e
+      go (sy.Leaf f m b) y u d us hu hus z h =
           let p : got (leaf (kindOf f) m) b ≡ got u d = sym (ap (build (term file arities)) y) ∙ hu in
           let q : wt.Takes (leafWeight w (kindOf f) m) 0 b ≡ wt.Takes a k e = sym (ap (weightOf w) y) ∙ h in
           let pu : leaf (kindOf f) m ≡ u = cc in
@@ -153,12 +177,11 @@ module _ (file arities : List ℕ) (bytes : Bytes file) (w : ℕ → ℕ) (t : T
             inside = omega (arith, x .within);
             going = record {
               rest = us;
-              end = c;
               reads = ap₂ (λ (o b : ℕ). many (term file arities) o b) j de ∙ hus;
               adds = omega (arith, ap (weigh w) pu);
             };
           }
-      go (sy.Op f m b) y u d us c hu hus z h =
+      go (sy.Op f m b) y u d us hu hus z h =
           cut-got (many (term file arities) m b) _ (sym (ap (build (term file arities)) y) ∙ hu) (λ vs o hvs p.
           let q : wt.Takes 1 m b ≡ wt.Takes a k e = sym (ap (weightOf w) y) ∙ h in
           let pu : app f (terms vs) ≡ u = cc in
@@ -173,7 +196,6 @@ module _ (file arities : List ℕ) (bytes : Bytes file) (w : ℕ → ℕ) (t : T
             inside = omega (arith, x .within);
             going = record {
               rest = vs ++ us;
-              end = c;
               reads =
                   ap₂ (λ (o b : ℕ). many (term file arities) o b) j (sym qe) ∙ many-split (term file arities) n m (n + m) b refl
                   ∙ then-got (many (term file arities) m b) _ hvs
@@ -181,7 +203,7 @@ module _ (file arities : List ℕ) (bytes : Bytes file) (w : ℕ → ℕ) (t : T
               adds = omega (arith, ap (weigh w) pu, total-terms w vs, total-append w vs us);
             };
           })
-      go sy.Fault y u d us c hu hus z h = let q : wt.Fault ≡ wt.Takes a k e = sym (ap (weightOf w) y) ∙ h in clash (cc)
+      go sy.Fault y u d us hu hus z h = let q : wt.Fault ≡ wt.Takes a k e = sym (ap (weightOf w) y) ∙ h in clash (cc)
 
 -- ── a leaf ──
 module _ (sizes : List ℕ) (n : ℕ) where
