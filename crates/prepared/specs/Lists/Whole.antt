@@ -66,7 +66,7 @@ module _ (file p₁ p₂ q t : List ℕ) (long : length p₁ ≡ preparedLength)
       let m : (3 * n + list) % 3 ≡ list = omega arith in
       let x = list-here n list u a b is in
       let few = list-few (bodyOf p₂) (front-bytes p₂ bytes (omega (arith, long₂)) P front-body)
-          (omega (arith, length-take-le bodyLength p₂ (omega (arith, long₂)))) _ _ x in
+      (omega (arith, length-take-le bodyLength p₂ (omega (arith, long₂)))) _ _ x in
       entry-there (factRow (3 * n + list) + i) (omega (arith, few))
       ∙ row n list u a b is .each i (omega (arith, ap (λ (c : ℕ). length (listOf c u)) m))
       ∙ ap₂ (λ (c : List ℕ) (e : ℕ). factPlaceIn c e i) (sym body-is) (sym (entry-there (3 * n + list) (omega arith)))

@@ -22,9 +22,13 @@ shared-slice-read-number c =
 fact-place-requires : tie.Need-fact-place-requires
 fact-place-requires c κs =
     let c3 = c .before .before .before in
-    let c4 = c3 .before in
-    (node-listed (c4 .pre .3 .node), list-known (c4 .pre .3 .node) _ _ (c4 .pre .3 .listed), fact-few (c4 .pre .3 .node) _ _ (c4 .pre .3 .listed)
-        (λ k. c3 .shared-slice-known .given k .fits), c4 .pre .3 .node .prepared .long)
+    let c4 = c3 .before in (
+      node-listed (c4 .pre .3 .node),
+      list-known (c4 .pre .3 .node) _ _ (c4 .pre .3 .listed),
+      fact-few (c4 .pre .3 .node) _ _ (c4 .pre .3 .listed)
+          (λ k. c3 .shared-slice-known .given k .fits),
+      c4 .pre .3 .node .prepared .long,
+    )
 
 returns : tie.Need-returns
 returns c =
