@@ -7,9 +7,9 @@ ghost use Rattle.octets.specs.Limits.{longest};
 ghost use Rattle.number.specs.Reading.{below};
 ghost use Rattle.protocol.specs.Figures.{symbolCount};
 ghost use Rattle.protocol.specs.Protocol.{Protocol};
-ghost use Rattle.protocol.specs.Places.{placeOf, valueOf, listPlace, factPlace, termPlace};
+ghost use Rattle.protocol.specs.Places.{placeOf, valueOf, listPlace, termPlace};
 ghost use Rattle.prepared.specs.Sections.{ruleCount, bodyLength, placeBase};
-ghost use Rattle.prepared.specs.Prepared.{slotsOf, aritiesOf, placeAt, Body, factIn};
+ghost use Rattle.prepared.specs.Prepared.{slotsOf, aritiesOf, placeAt, Body, factIn, factPlaceIn};
 ghost use Rattle.prepared.specs.Finding.{Finds};
 use crate::sections;
 
@@ -63,18 +63,11 @@ pub fn list_at(p: &[u8], place: usize, list: usize) -> usize
     )
 }
 
-// The place of fact i of the list at a place.
-pub fn fact_at(p: &[u8], list: usize, i: usize) -> usize
-    requires { ⌜ (bodyLength ≤ length (now p)) × (length (now p) ≤ longest) ⌝ }
-    ensures { λ r. ⌜ r ≡ factPlace (now (p .entry)) (slotsOf (now (p .entry))) (aritiesOf (now (p .entry))) list i ⌝ }
+// The place of the first fact of the list at a place.
+pub fn first_fact(p: &[u8], list: usize) -> usize
+    ensures { λ r. ⌜ r ≡ factPlaceIn (now (p .entry)) list 0 ⌝ }
 {
-    protocol::places::fact_at(
-        p,
-        &p[..sections::ARITIES],
-        &p[sections::ARITIES..sections::LINEARS],
-        list,
-        i,
-    )
+    protocol::places::first_fact(p, list)
 }
 
 // The place behind the fact at a place.

@@ -34,7 +34,7 @@ fn enter_facts(q: &[u8], list: usize, count: usize, row: usize, table: &mut [u8]
     ensures behind { λ r. ⌜ r ≡ factPlaceIn (now (q .entry)) list count ⌝ }
     ensures done { λ r. ⌜ FactsEntered (now (q .entry)) list (now (table .entry)) (now (table .exit)) row count ⌝ }
 {
-    let mut at = finding::fact_at(q, list, 0);
+    let mut at = finding::first_fact(q, list);
     let mut i: usize = 0;
     while i < count {
         put_entry(table, row + i, at);

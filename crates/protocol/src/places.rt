@@ -6,7 +6,7 @@ ghost use Rattle.octets.specs.Limits.{longest};
 ghost use Rattle.protocol.specs.Figures.{factLimit, variableLimit};
 ghost use Rattle.number.specs.Reading.{below};
 ghost use Rattle.protocol.specs.Protocol.{fact};
-ghost use Rattle.protocol.specs.Places.{placeOf, valueOf, sortOf, listPlace, factPlace, termPlace};
+ghost use Rattle.protocol.specs.Places.{placeOf, valueOf, sortOf, listPlace, termPlace};
 ghost use Rattle.protocol.specs.Places.Ends.{endOf, sortFrom};
 use crate::figures;
 use crate::walks;
@@ -86,18 +86,12 @@ pub fn count_of(file: &[u8], at: usize) -> usize
     value_below(file, at, figures::FACT_LIMIT)
 }
 
-// The place of fact i of the list at a place.
-pub fn fact_at(file: &[u8], arities: &[u8], ars: &[u8], at: usize, i: usize) -> usize
-    requires { ⌜ length (now file) ≤ longest ⌝ }
-    ensures { λ r. ⌜ r ≡ factPlace (now (file .entry)) (now (arities .entry)) (now (ars .entry)) at i ⌝ }
+// The place of the first fact of the list at a place, behind the count.
+pub fn first_fact(file: &[u8], at: usize) -> usize
+    ensures { λ r. ⌜ r ≡ placeOf (below (now (file .entry)) factLimit at) ⌝ }
 {
     match number::below(file, at, figures::FACT_LIMIT) {
-        Number::Value(_, e) => {
-            if i == 0 {
-                return e;
-            }
-            end_of(walks::some_facts(file, arities, ars, e, i, term::VARIABLE, 0, 0))
-        }
+        Number::Value(_, e) => e,
         Number::Fault => 0,
     }
 }

@@ -5,14 +5,16 @@ ghost use Prim.Native.Nat.{_≤_, _<_};
 ghost use lib.ListN.{length};
 ghost use Rattle.octets.specs.Limits.{longest};
 ghost use Rattle.term.specs.Tags.{tagCount};
-ghost use Rattle.protocol.specs.Figures.{symbolCount, mostRules, listCount};
+ghost use Rattle.protocol.specs.Figures.{symbolCount, mostRules};
 ghost use Rattle.lists.specs.Lists.{anyBy};
-ghost use Rattle.protocol.specs.Protocol.{Rule, emptyRule, listOf, rule, protocol};
+ghost use Rattle.protocol.specs.Protocol.{Fact, Rule, emptyRule, facts, rule, protocol};
+ghost use Rattle.protocol.specs.Places.{At};
+ghost use Rattle.lists.specs.Asks.{Promises};
 ghost use Rattle.protocol.specs.Protocol.Walks.{asks, ruleAsks};
 ghost use Rattle.protocol.specs.Index.{Placed};
 ghost use Rattle.rules.specs.Fit.{bound, p4, fits, judged};
 ghost use Rattle.lists.specs.Below.{least, allBelow};
-ghost use Rattle.rules.specs.Fit.Laws.{hitOf, OfRule, unfit, verdictOf, Indexes};
+ghost use Rattle.rules.specs.Fit.Laws.{hitOf, OfRule, Located, unfit, verdictOf, Indexes};
 use number::Number;
 use number::Seen;
 use protocol::figures;
@@ -41,21 +43,26 @@ fn hit_of(r: Seen) -> bool
     }
 }
 
-// Whether a fact of one list of the rule at a place meets the test.
+// A rule: its place, and those of its premises and of its conclusions.
+pub struct RulePlaces {
+    pub at: usize,
+    pub premises: usize,
+    pub conclusions: usize,
+}
+
+// Whether a fact of the list at a place meets the test.
 fn list_asks(
     file: &[u8],
     arities: &[u8],
     ars: &[u8],
-    at: usize,
-    list: usize,
+    start: usize,
     kind: usize,
     lo: usize,
     hi: usize,
 ) -> bool
-    requires { ⌜ (length (now file) ≤ longest) × (list < listCount) ⌝ }
-    ensures { λ b. ⌜ OfRule (now (file .entry)) (now (arities .entry)) (now (ars .entry)) at (λ (r : Rule). b ≡ anyBy (asks kind lo hi) (listOf list r)) ⌝ }
+    requires { ⌜ length (now file) ≤ longest ⌝ }
+    ensures { λ b. ⌜ Promises (At (facts (now (file .entry)) (now (arities .entry)) (now (ars .entry))) start) (λ (fs : List Fact). b ≡ anyBy (asks kind lo hi) fs) ⌝ }
 {
-    let start = places::list_at(file, arities, ars, at, list);
     hit_of(walks::one_list(file, arities, ars, start, kind, lo, hi))
 }
 
@@ -75,26 +82,29 @@ fn rule_asks(
     hit_of(walks::one_layout(file, arities, ars, at, kind, lo, hi))
 }
 
-// Whether variable v of the rule at a place is of sort public, in a premise, or in no conclusion.
-fn is_bound(file: &[u8], arities: &[u8], ars: &[u8], at: usize, v: u32) -> bool
-    requires { ⌜ length (now file) ≤ longest ⌝ }
-    ensures { λ b. ⌜ OfRule (now (file .entry)) (now (arities .entry)) (now (ars .entry)) at (λ (r : Rule). v < length (r .sorts) → b ≡ bound r v) ⌝ }
+// Whether variable v of a rule is of sort public, in a premise, or in no conclusion.
+fn is_bound(file: &[u8], arities: &[u8], ars: &[u8], x: RulePlaces, v: u32) -> bool
+    requires { ⌜ (length (now file) ≤ longest) × Located (now file) (now arities) (now ars) x ⌝ }
+    ensures { λ b. ⌜ OfRule (now (file .entry)) (now (arities .entry)) (now (ars .entry)) (x .at) (λ (r : Rule). v < length (r .sorts) → b ≡ bound r v) ⌝ }
 {
-    let public = places::sort_of(file, at, v) == figures::PUBLIC_SORT;
-    let x = v as usize;
-    let above = list_asks(file, arities, ars, at, PREMISES, VARIABLE, x, x + 1);
-    let below = list_asks(file, arities, ars, at, CONCLUSIONS, VARIABLE, x, x + 1);
-    public | (above | !below)
+    if places::sort_of(file, x.at, v) == figures::PUBLIC_SORT {
+        return true;
+    }
+    let n = v as usize;
+    if list_asks(file, arities, ars, x.premises, VARIABLE, n, n + 1) {
+        return true;
+    }
+    !list_asks(file, arities, ars, x.conclusions, VARIABLE, n, n + 1)
 }
 
 // The same for the first n variables.
-fn all_bound(file: &[u8], arities: &[u8], ars: &[u8], at: usize, n: u32) -> bool
-    requires { ⌜ length (now file) ≤ longest ⌝ }
-    ensures { λ b. ⌜ OfRule (now (file .entry)) (now (arities .entry)) (now (ars .entry)) at (λ (r : Rule). n ≤ length (r .sorts) → b ≡ allBelow (bound r) n) ⌝ }
+fn all_bound(file: &[u8], arities: &[u8], ars: &[u8], x: RulePlaces, n: u32) -> bool
+    requires { ⌜ (length (now file) ≤ longest) × Located (now file) (now arities) (now ars) x ⌝ }
+    ensures { λ b. ⌜ OfRule (now (file .entry)) (now (arities .entry)) (now (ars .entry)) (x .at) (λ (r : Rule). n ≤ length (r .sorts) → b ≡ allBelow (bound r) n) ⌝ }
 {
     let mut j: u32 = 0;
     while j < n {
-        if !is_bound(file, arities, ars, at, j) {
+        if !is_bound(file, arities, ars, x, j) {
             return false;
         }
         j += 1;
@@ -102,29 +112,35 @@ fn all_bound(file: &[u8], arities: &[u8], ars: &[u8], at: usize, n: u32) -> bool
     true
 }
 
-// P4 of the rule at a place.
-fn variables_bound(file: &[u8], arities: &[u8], ars: &[u8], at: usize) -> bool
-    requires { ⌜ length (now file) ≤ longest ⌝ }
-    ensures { λ b. ⌜ OfRule (now (file .entry)) (now (arities .entry)) (now (ars .entry)) at (λ (r : Rule). b ≡ p4 r) ⌝ }
+// P4 of a rule.
+fn variables_bound(file: &[u8], arities: &[u8], ars: &[u8], x: RulePlaces) -> bool
+    requires { ⌜ (length (now file) ≤ longest) × Located (now file) (now arities) (now ars) x ⌝ }
+    ensures { λ b. ⌜ OfRule (now (file .entry)) (now (arities .entry)) (now (ars .entry)) (x .at) (λ (r : Rule). b ≡ p4 r) ⌝ }
 {
-    match walks::sorts_at(file, at) {
-        Number::Value(n, _) => all_bound(file, arities, ars, at, n),
+    match walks::sorts_at(file, x.at) {
+        Number::Value(n, _) => all_bound(file, arities, ars, x, n),
         Number::Fault => false,
     }
 }
 
-// P1 to P4 of the rule at a place.
+// P1 to P4 of the rule at a place. The places of its lists are found once.
 fn rule_fits(file: &[u8], arities: &[u8], ars: &[u8], at: usize) -> bool
     requires { ⌜ length (now file) ≤ longest ⌝ }
     ensures { λ b. ⌜ OfRule (now (file .entry)) (now (arities .entry)) (now (ars .entry)) at (λ (r : Rule). b ≡ fits r) ⌝ }
 {
+    let above = places::list_at(file, arities, ars, at, PREMISES);
+    let below = places::list_at(file, arities, ars, at, CONCLUSIONS);
+    let x = RulePlaces {
+        at: at,
+        premises: above,
+        conclusions: below,
+    };
     let fresh = rule_asks(file, arities, ars, at, term::FRESH, 0, number::NUMBER_LIMIT);
     let known = list_asks(
         file,
         arities,
         ars,
-        at,
-        PREMISES,
+        above,
         SYMBOL_KIND,
         figures::OUT,
         figures::PAST_K,
@@ -133,8 +149,7 @@ fn rule_fits(file: &[u8], arities: &[u8], ars: &[u8], at: usize) -> bool
         file,
         arities,
         ars,
-        at,
-        CONCLUSIONS,
+        below,
         SYMBOL_KIND,
         figures::FR,
         figures::OUT,
@@ -143,13 +158,12 @@ fn rule_fits(file: &[u8], arities: &[u8], ars: &[u8], at: usize) -> bool
         file,
         arities,
         ars,
-        at,
-        CONCLUSIONS,
+        below,
         SYMBOL_KIND,
         figures::K,
         figures::PAST_K,
     );
-    let held = variables_bound(file, arities, ars, at);
+    let held = variables_bound(file, arities, ars, x);
     !fresh & (!known & ((!made & !learnt) & held))
 }
 

@@ -120,7 +120,7 @@ pub fn list_small(p: &[u8], place: usize, sizes: &[usize]) -> bool
     ensures { λ r. ⌜ Promises (At (facts (now (p .entry)) (slotsOf (now (p .entry))) (aritiesOf (now (p .entry)))) place) (λ (fs : List Fact). r ≡ listSmall (sizeIn (now (sizes .entry))) fs) ⌝ }
 {
     let mut left = protocol::places::count_of(p, place);
-    let mut at = finding::fact_at(p, place, 0);
+    let mut at = finding::first_fact(p, place);
     while 0 < left {
         match fact_small(p, at, sizes) {
             Small::Upto(e) => {

@@ -46,10 +46,6 @@ module _ (file arities ars : List ℕ) (at i : ℕ) where
   unfolding factPlace
   fact-got h = place-then _ h
 
-  pub fact-none : below file factLimit at ≡ fault → factPlace file arities ars at i ≡ 0
-  unfolding factPlace
-  fact-none h = place-then _ h
-
   pub term-got : {n e : ℕ} → below file (length ars) at ≡ got n e → termPlace file arities ars at i ≡ placeOf (many (ruleTerm file arities) i e)
   unfolding termPlace
   term-got h = place-then _ h
@@ -57,6 +53,15 @@ module _ (file arities ars : List ℕ) (at i : ℕ) where
   pub term-none : below file (length ars) at ≡ fault → termPlace file arities ars at i ≡ 0
   unfolding termPlace
   term-none h = place-then _ h
+
+-- the first fact of a list stands behind the count
+pub fact-first : (file arities ars : List ℕ) (at : ℕ) → placeOf (below file factLimit at) ≡ factPlace file arities ars at 0
+unfolding factPlace many
+fact-first file arities ars at = go (below file factLimit at)
+  where
+    go : (r : Read ℕ) → placeOf r ≡ placeOf (andThen r (λ n e. many (fact file arities ars) 0 e))
+    go (got n e) = refl
+    go fault = refl
 
 -- the sort of a variable
 unfoldable pub sortFrom : List ℕ → ℕ → ℕ → Read ℕ

@@ -1,12 +1,12 @@
 -- The tests of a rule as the code makes them, the least of several, and the judgement of a file.
 use Prim.Native.Nat.{ℕ, _+_, _≤_, _<_}
 use mathlib.Core.List.{List}
-use mathlib.Core.Bool.{Bool, false, _||_, not}
-use mathlib.Core.Path.{_≡_, ap, ap₂, sym, _∙_, subst}
+use mathlib.Core.Bool.{Bool, true, false, _||_, not}
+use mathlib.Core.Path.{_≡_, refl, ap, ap₂, sym, _∙_, subst}
 use native.Mathlib.Omega.{arith}
 use lib.ListN.{length, getD, take}
 use lib.Dec.{eqb}
-use borrow.Author.Tests.{ne-eqb}
+use borrow.Author.Tests.{eq-eqb, ne-eqb}
 use Rattle.number.specs.Groups.{numberLimit}
 use Rattle.protocol.specs.Figures.{listCount}
 use Rattle.lists.specs.Choice.{clash}
@@ -14,13 +14,14 @@ use Rattle.number.specs.Reading.{Read, got, fault, seen}
 use Rattle.lists.specs.Lists.{anyBy}
 use Rattle.number.specs.declared.Seen.{Seen}
 use Rattle.number.specs.declared.Seen.the-variants as sn
-use Rattle.protocol.specs.Protocol.{Rule, listOf, emptyRule, premises, conclusions, facts, layout, rule, protocol}
+use Rattle.protocol.specs.Protocol.{Fact, Rule, listOf, emptyRule, premises, conclusions, facts, layout, rule, protocol}
 use Rattle.protocol.specs.Protocol.Walks.{asks, ruleAsks, sortsAt, layout-fault}
 use Rattle.protocol.specs.Places.{Here, valueOf, listPlace, sortOf}
 use Rattle.protocol.specs.Places.Laws.{vars-law, list-law, sort-law, rule-layout}
 use Rattle.protocol.specs.Index.{Entries, Indexed, Placed}
 use Rattle.protocol.specs.declared.index.Index.{Index}
 use Rattle.protocol.specs.declared.index.Index.the-variants as ix
+use Rattle.rules.specs.declared.fit.RulePlaces.{RulePlaces}
 use Rattle.rules.specs.declared.fit.FitVerdict.{FitVerdict}
 use Rattle.rules.specs.declared.fit.FitVerdict.the-variants as jd
 use Rattle.rules.specs.Fit.{p1, p4, bound, fits, Verdict, sound, broken, malformed, outcome, judged}
@@ -38,14 +39,33 @@ hit-is q r h k = ap hitOf (h ∙ ap (seen q) k)
 abbrev pub OfRule : List ℕ → List ℕ → List ℕ → ℕ → (Rule → Type 0) → Type 0
 OfRule file arities ars at P = (r : Rule) → Here (layout file arities ars) r at → P r
 
+or-first : (b c : Bool) → b ≡ true → true ≡ (b || c)
+or-first b c h = ap (λ (x : Bool). x || c) (sym h)
+
+or-second : (a b c : Bool) → b ≡ true → true ≡ (a || (b || c))
+or-second true b c h = refl
+or-second false b c h = or-first b c h
+
+-- the places of a rule's premises and of its conclusions
+pub record Located (file arities ars : List ℕ) (x : RulePlaces) : Type 0 where
+  pub premises-at : x .premises ≡ listPlace file arities ars (x .at) 0
+  pub conclusions-at : x .conclusions ≡ listPlace file arities ars (x .at) 2
+
+-- the answer on a list
+pub list-asked :
+    (file arities ars : List ℕ) (start kind lo hi : ℕ) {o : Seen} {b : Bool} → b ≡ hitOf o
+    → o ≡ seen (anyBy (asks kind lo hi)) (facts file arities ars start)
+    → (fs : List Fact) → Here (facts file arities ars) fs start → b ≡ anyBy (asks kind lo hi) fs
+list-asked file arities ars start kind lo hi hb ho fs h =
+    hb ∙ hit-is (anyBy (asks kind lo hi)) (facts file arities ars start) ho (h .reads)
+
 module _ (file arities ars : List ℕ) (at : ℕ) where
-  -- the answer on a list of the rule
-  pub list-asked :
-      (list kind lo hi l : ℕ) {o : Seen} {b : Bool} → list < listCount → b ≡ hitOf o → l ≡ listPlace file arities ars at list
-      → o ≡ seen (anyBy (asks kind lo hi)) (facts file arities ars l) → OfRule file arities ars at (λ r. b ≡ anyBy (asks kind lo hi) (listOf list r))
-  list-asked list kind lo hi l {o} {b} small hb hl ho r h =
-      hb ∙ hit-is (anyBy (asks kind lo hi)) (facts file arities ars l) ho
-      (ap (facts file arities ars) hl ∙ list-law file arities ars at r h list small .reads)
+  -- on one of the rule's
+  pub asked-of :
+      (list l : ℕ) (q : List Fact → Bool) {b : Bool} → list < listCount → l ≡ listPlace file arities ars at list
+      → ((fs : List Fact) → Here (facts file arities ars) fs l → b ≡ q fs) → OfRule file arities ars at (λ r. b ≡ q (listOf list r))
+  asked-of list l q small hl f r h =
+      f (listOf list r) (subst (Here (facts file arities ars) (listOf list r)) (sym hl) (list-law file arities ars at r h list small))
 
   -- the answer on all of the rule
   pub rule-asked :
@@ -57,15 +77,25 @@ module _ (file arities ars : List ℕ) (at : ℕ) where
   pub fresh-asked : (b : Bool) (r : Rule) → b ≡ ruleAsks 2 0 numberLimit r → not b ≡ p1 r
   fresh-asked b r h = ap not h
 
-  -- a variable that the code finds bound
-  pub bound-is :
-      (v m : ℕ) (b a c : Bool) → b ≡ eqb m 2 → m ≡ valueOf (sortOf file at v)
-      → OfRule file arities ars at (λ r. a ≡ anyBy (asks 0 v (v + 1)) (premises r))
-      → OfRule file arities ars at (λ r. c ≡ anyBy (asks 0 v (v + 1)) (conclusions r))
-      → OfRule file arities ars at (λ r. v < length (r .sorts) → (b || (a || not c)) ≡ bound r v)
-  bound-is v m b a c hb hm ha hc r h l =
-      ap₂ _||_ (hb ∙ ap (λ (k : ℕ). eqb k 2) (hm ∙ sort-law file arities ars at r h v l))
-      (ap₂ (λ (x y : Bool). x || not y) (ha r h) (hc r h))
+  -- a variable that the code finds bound, by its sort, by a premise, or by no conclusion
+  module _ (v m : ℕ) (hm : m ≡ valueOf (sortOf file at v)) where
+    sort-is : (r : Rule) → Here (layout file arities ars) r at → v < length (r .sorts) → m ≡ getD (r .sorts) v 0
+    sort-is r h l = hm ∙ sort-law file arities ars at r h v l
+
+    pub bound-public : m ≡ 2 → OfRule file arities ars at (λ r. v < length (r .sorts) → true ≡ bound r v)
+    bound-public e r h l = or-first _ _ (eq-eqb (getD (r .sorts) v 0) 2 (sym (sort-is r h l) ∙ e))
+
+    module _ (a : Bool) (ha : OfRule file arities ars at (λ r. a ≡ anyBy (asks 0 v (v + 1)) (premises r))) where
+      pub bound-above : a ≡ true → OfRule file arities ars at (λ r. v < length (r .sorts) → true ≡ bound r v)
+      bound-above e r h l =
+          or-second (eqb (getD (r .sorts) v 0) 2) (anyBy (asks 0 v (v + 1)) (premises r)) (not (anyBy (asks 0 v (v + 1)) (conclusions r))) (sym (ha r h) ∙ e)
+
+      pub bound-below :
+          (c : Bool) → OfRule file arities ars at (λ r. c ≡ anyBy (asks 0 v (v + 1)) (conclusions r)) → (m ≡ 2 → ⊥) → a ≡ false
+          → OfRule file arities ars at (λ r. v < length (r .sorts) → not c ≡ bound r v)
+      bound-below c hc ne e r h l =
+          ap₂ _||_ (sym (ne-eqb (getD (r .sorts) v 0) 2 (λ k. ne (sort-is r h l ∙ k))))
+          (ap₂ (λ (x y : Bool). x || not y) (sym e ∙ ha r h) (hc r h))
 
   -- all of them
   pub all-is :

@@ -20,12 +20,12 @@ abbrev μ-loop : tie.MeasureT-loop
 μ-loop q list count row table₀ at₀ i₀ table at i =
     count - i
 
-fact-at-requires : tie.Need-fact-at-requires Inv-loop μ-loop
-fact-at-requires c κs = search needs
+first-fact-requires : tie.Need-first-fact-requires Inv-loop μ-loop
+first-fact-requires c κs = search needs
 
 loop-holds : tie.Need-loop-holds Inv-loop μ-loop
 loop-holds c =
-    (omega arith, c .before .before .before .pre .2, c .fact-at .ensures, facts-none _ _ _ _)
+    (omega arith, c .before .before .before .pre .2, c .first-fact .ensures, facts-none _ _ _ _)
 
 add-put-entry : tie.Need-add-put-entry Inv-loop μ-loop
 add-put-entry c = search needs
@@ -86,7 +86,7 @@ enter-facts-spec =
     (tie.spec
     Inv-loop
     μ-loop
-    fact-at-requires
+    first-fact-requires
     loop-holds
     add-put-entry
     put-entry-requires

@@ -14,11 +14,11 @@ use Rattle.rules.proofs.fit.all_bound.Statement.{statement}
 use Rattle.rules.proofs.fit.all_bound.Tie as tie
 
 abbrev Inv-loop : tie.InvT-loop
-Inv-loop file arities ars at n j₀ j =
-    (j ≤ n) × OfRule file arities ars at (λ (r : Rule). n ≤ length (r .sorts) → allBelow (bound r) j ≡ true)
+Inv-loop file arities ars x n j₀ j =
+    (j ≤ n) × OfRule file arities ars (x .at) (λ (r : Rule). n ≤ length (r .sorts) → allBelow (bound r) j ≡ true)
 
 abbrev μ-loop : tie.MeasureT-loop
-μ-loop file arities ars at n j₀ j =
+μ-loop file arities ars x n j₀ j =
     n - j
 
 loop-holds : tie.Need-loop-holds Inv-loop μ-loop

@@ -1,12 +1,9 @@
--- The list is found at its place, and the walk over it tells the test.
-use Rattle.rules.specs.Fit.Laws.{list-asked}
+-- The walk over the list tells the test of what reads there.
 use denote.Ref.{now}
+use Rattle.rules.specs.Fit.Laws.{list-asked}
 use borrow.Author.Needs.{needs}
 use Rattle.rules.proofs.fit.list_asks.Statement.{statement}
 use Rattle.rules.proofs.fit.list_asks.Tie as tie
-
-list-at-requires : tie.Need-list-at-requires
-list-at-requires c κs = search needs
 
 one-list-requires : tie.Need-one-list-requires
 one-list-requires c κs = search needs
@@ -16,10 +13,9 @@ hit-of-requires c κs = search needs
 
 returns : tie.Need-returns
 returns c =
-    let c6 = c .before .before .before .before .before .before in
-    list-asked (now (c6 .args .file)) (now (c6 .args .arities)) (now (c6 .args .ars)) (c6 .args .at) (c6 .args .list) (c6 .args .kind) (c6 .args .lo)
-    (c6 .args .hi)
-    _ (c6 .pre .1) (c .hit-of .ensures) (c .before .before .list-at .ensures) (c .before .one-list .ensures)
+    let c5 = c .before .before .before .before .before in
+    list-asked (now (c5 .args .file)) (now (c5 .args .arities)) (now (c5 .args .ars)) (c5 .args .start) (c5 .args .kind) (c5 .args .lo) (c5 .args .hi)
+    (c .hit-of .ensures) (c .before .one-list .ensures)
 
 pub list-asks-spec : {M : Type 1} → statement M
-list-asks-spec = tie.close (tie.spec list-at-requires one-list-requires hit-of-requires returns)
+list-asks-spec = tie.close (tie.spec one-list-requires hit-of-requires returns)

@@ -26,13 +26,13 @@ returns : tie.Need-returns
 returns c =
     let c4 = c .before .before .before .before in
     let c8 = c4 .before .before .before .before in
-    all-is (now (c8 .args .file)) (now (c8 .args .arities)) (now (c8 .args .ars)) (c8 .args .at) _ _ _
+    all-is (now (c8 .args .file)) (now (c8 .args .arities)) (now (c8 .args .ars)) (c8 .args .x .at) _ _ _
     (sym (c4 .sorts-at .ensures) ∙ ap asRead (c .before .before .n .given .1)) (c .all-bound .ensures)
 
 returns-2 : tie.Need-returns-2
 returns-2 c =
     let c6 = c .before .before .before .before .before .before in
-    none-there (now (c6 .args .file)) (now (c6 .args .arities)) (now (c6 .args .ars)) (c6 .args .at) (λ (r : Rule). false ≡ p4 r)
+    none-there (now (c6 .args .file)) (now (c6 .args .arities)) (now (c6 .args .ars)) (c6 .args .x .at) (λ (r : Rule). false ≡ p4 r)
     (sym (c .before .before .sorts-at .ensures) ∙ ap asRead (c .enum-told .given .1))
 
 pub variables-bound-spec : {M : Type 1} → statement M

@@ -26,14 +26,12 @@ abbrev μ-loop : tie.MeasureT-loop
 count-of-requires : tie.Need-count-of-requires Inv-loop μ-loop
 count-of-requires c κs = search needs
 
-fact-at-requires : tie.Need-fact-at-requires Inv-loop μ-loop
-fact-at-requires c κs =
-    let c3 = c .before .before .before in
-    (omega (arith, c3 .pre .1), omega (arith, c3 .pre .1))
+first-fact-requires : tie.Need-first-fact-requires Inv-loop μ-loop
+first-fact-requires c κs = search needs
 
 loop-holds : tie.Need-loop-holds Inv-loop μ-loop
 loop-holds c =
-    λ fs e h. left-starts _ _ fs e _ _ (facts-start _ _ _ _ fs (record { next = e; reads = h }) _ _ (c .before .count-of .ensures) (c .fact-at .ensures))
+    λ fs e h. left-starts _ _ fs e _ _ (facts-start _ _ _ _ fs (record { next = e; reads = h }) _ _ (c .before .count-of .ensures) (c .first-fact .ensures))
 
 fact-small-requires : tie.Need-fact-small-requires Inv-loop μ-loop
 fact-small-requires c κs =
@@ -82,7 +80,7 @@ list-small-spec =
     Inv-loop
     μ-loop
     count-of-requires
-    fact-at-requires
+    first-fact-requires
     loop-holds
     fact-small-requires
     enum-known-e
