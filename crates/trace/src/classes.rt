@@ -47,10 +47,10 @@ fn earlier(
     s: &[u8],
     nodes: &[usize],
     entries: &[u32],
-    chains: &[u32],
-    head: u32,
+    chains: &[u16],
+    head: u16,
     q: usize,
-) -> u32
+) -> u16
     requires { ⌜ Asks₂ (Walkable (now p) (now s) (now nodes) (now entries) (now chains) head q) × Room (now work) factRoom × (q ≤ length (now chains)) ⌝ }
     ensures { λ r. ⌜ Promises₂ (Walkable (now (p .entry)) (now (s .entry)) (now (nodes .entry)) (now (entries .entry)) (now (chains .entry)) head q) (λ (P : Protocol) (xs : List Node). Earlier (keyAt P xs) (now (chains .entry)) head q r) ⌝ }
 {
@@ -84,7 +84,7 @@ fn class_place(
     nodes: &[usize],
     entries: &[u32],
     classes: &mut [u32],
-    chains: &mut [u32],
+    chains: &mut [u16],
     q: usize,
 )
     requires { ⌜ Asks₃ (Classing (now p) (now s) (now nodes) (now entries) (now classes) (now chains) q) × Room (now work) factRoom × (q < length (now classes)) × HeadsBehind (length (now chains)) (q + 1) ⌝ }
@@ -100,7 +100,7 @@ fn class_place(
     if h == 0 {
         classes[q] = q as u32;
         chains[q] = head;
-        chains[chain] = (q + 1) as u32;
+        chains[chain] = (q + 1) as u16;
         return;
     }
     classes[q] = classes[h as usize - 1];
@@ -114,7 +114,7 @@ fn class_places(
     nodes: &[usize],
     entries: &[u32],
     classes: &mut [u32],
-    chains: &mut [u32],
+    chains: &mut [u16],
     total: usize,
 )
     requires { ⌜ Asks₂ (Ready (now p) (now s) (now nodes) (now entries) (now classes) total) × Room (now work) factRoom × (stride * total ≤ length (now classes)) × HeadsBehind (length (now chains)) (stride * total) × ((i : ℕ) → getD (now chains) i 0 ≡ 0) ⌝ }
@@ -141,7 +141,7 @@ fn class_few(
     requires { ⌜ Asks₂ (Ready (now p) (now s) (now nodes) (now entries) (now classes) total) × Room (now work) factRoom × (stride * total ≤ length (now classes)) × (total ≤ fewActions) ⌝ }
     ensures { λ r. ⌜ Promises₂ (Ready (now (p .entry)) (now (s .entry)) (now (nodes .entry)) (now (entries .entry)) (now (classes .entry)) total) (λ (P : Protocol) (xs : List Node). ClassesAre (now (classes .exit)) (stride * total) P xs) ⌝ }
 {
-    let mut chains = [0u32; FEW_CHAINS];
+    let mut chains = [0u16; FEW_CHAINS];
     class_places(work, p, s, nodes, entries, classes, &mut chains, total);
 }
 
@@ -158,7 +158,7 @@ fn class_many(
     requires { ⌜ Asks₂ (Ready (now p) (now s) (now nodes) (now entries) (now classes) total) × Room (now work) factRoom × (stride * total ≤ length (now classes)) ⌝ }
     ensures { λ r. ⌜ Promises₂ (Ready (now (p .entry)) (now (s .entry)) (now (nodes .entry)) (now (entries .entry)) (now (classes .entry)) total) (λ (P : Protocol) (xs : List Node). ClassesAre (now (classes .exit)) (stride * total) P xs) ⌝ }
 {
-    let mut chains = [0u32; CHAINS];
+    let mut chains = [0u16; CHAINS];
     class_places(work, p, s, nodes, entries, classes, &mut chains, total);
 }
 
