@@ -1,9 +1,9 @@
 -- Filling a prepared protocol: what is asked of the tables of a protocol file, and what each step leaves.
-use Prim.Native.Nat.{ℕ, _+_, _/_, _%_, _≤_, _<_}
+use Prim.Native.Nat.{ℕ, _+_, _≤_, _<_}
 use mathlib.Core.List.{List}
 use mathlib.Core.Option.{some, none}
 use mathlib.Core.Path.{_≡_}
-use lib.ListN.{length, getD, set}
+use lib.ListN.{length, getD}
 use Rattle.octets.specs.Head.{Bytes, Stands}
 use Rattle.number.specs.Reading.{got}
 use Rattle.protocol.specs.Protocol.{Rule, Protocol, factArities, factFlags, encodeRule, protocol}
@@ -12,7 +12,8 @@ use Rattle.rules.specs.Numbered.{ruleOf}
 use Rattle.rules.specs.declared.fit.FitVerdict.{FitVerdict}
 use Rattle.rules.specs.declared.fit.FitVerdict.the-variants as jd
 use Rattle.rules.specs.Numbered.{ruleRoom}
-use Rattle.prepared.specs.Sections.{builtinCount, fileLimit, placesAt, rulesAt, fileAt, cellAt, builtinAt, placeBytes, placeBase}
+use Rattle.prepared.specs.Sections.{builtinCount, fileLimit, placesAt, rulesAt, fileAt, cellAt, builtinAt, placeBytes}
+use Rattle.prepared.specs.Pairs.{paired}
 use Rattle.prepared.specs.Prepared.{placeAt, Body}
 -- bytes that stand somewhere; lists filled up with 255
 pub mod Lists
@@ -42,7 +43,7 @@ pub record Laid (file arities ars flags places : List ℕ) (nr : ℕ) : Type 0 w
 -- ── a rule number ──
 -- its place written
 abbrev pub placed : List ℕ → ℕ → ℕ → List ℕ
-placed p n v = set (set p (cellAt n) (v / placeBase)) (cellAt n + 1) (v % placeBase)
+placed p n v = paired p (cellAt n) v
 
 -- these bytes lie in p from a place on
 abbrev pub Lies : List ℕ → ℕ → List ℕ → Type 0

@@ -3,7 +3,7 @@ use Prim.Native.Nat.{ℕ, _+_, _*_, _/_, _%_, _≤_, _<_}
 use mathlib.Core.List.{List}
 use mathlib.Core.Option.{some}
 use mathlib.Core.Path.{_≡_}
-use lib.ListN.{length, set}
+use lib.ListN.{length}
 use Rattle.protocol.specs.Figures.{listCount}
 use Rattle.lists.specs.Asks.{Asks}
 use Rattle.number.specs.Reading.{got}
@@ -12,8 +12,9 @@ use Rattle.protocol.specs.Places.{Here}
 use Rattle.rules.specs.Numbered.{ruleOf}
 use Rattle.rules.specs.declared.fit.FitVerdict.{FitVerdict}
 use Rattle.rules.specs.declared.fit.FitVerdict.the-variants as jd
-use Rattle.prepared.specs.Sections.{entryCount, factRow, placeBytes, placeBase}
-use Rattle.prepared.specs.Prepared.{Body, entryAt, factsIn, ListAt, factPlaceIn, Prepared}
+use Rattle.prepared.specs.Sections.{entryCount, entryPlace, factRow}
+use Rattle.prepared.specs.Pairs.{paired}
+use Rattle.prepared.specs.Prepared.{Body, bodyOf, entryAt, factsIn, ListAt, factPlaceIn, Prepared}
 use Rattle.prepared.specs.Finding.{RuleFound}
 -- one entry, one list
 pub mod Entries
@@ -41,28 +42,40 @@ pub record RulesIn (q : List ℕ) (nr : ℕ) (P : Protocol) : Type 0 where
 -- ── what is written ──
 -- entry k
 abbrev pub entered : List ℕ → ℕ → ℕ → List ℕ
-entered t k v = set (set t (placeBytes * k) (v / placeBase)) (placeBytes * k + 1) (v % placeBase)
+entered p k v = paired p (entryPlace k) v
 
--- the first facts of the list at a place, from a row on; no entry before it changes
-pub record FactsEntered (q : List ℕ) (list : ℕ) (t t′ : List ℕ) (row count : ℕ) : Type 0 where
-  pub each : (i : ℕ) → i < count → entryAt t′ 0 (row + i) ≡ factPlaceIn q list i
-  pub before : (j : ℕ) → j < row → entryAt t′ 0 j ≡ entryAt t 0 j
+-- the first facts of the list at a place, from a row on; the body stays, and each entry before the row
+pub record FactsEntered (list : ℕ) (p p′ : List ℕ) (row count : ℕ) : Type 0 where
+  pub body : bodyOf p′ ≡ bodyOf p
+  pub each : (i : ℕ) → i < count → entryAt p′ (row + i) ≡ factPlaceIn (bodyOf p) list i
+  pub before : (j : ℕ) → j < row → entryAt p′ j ≡ entryAt p j
 
--- the list at a place, as entry k, and its facts; no list before it changes, and no fact of one
-pub record ListEntered (q : List ℕ) (list : ℕ) (t t′ : List ℕ) (k : ℕ) : Type 0 where
-  pub is : entryAt t′ 0 k ≡ list
-  pub each : (fs : List Fact) → Here (factsIn q) fs list → (i : ℕ) → i < length fs → entryAt t′ 0 (factRow k + i) ≡ factPlaceIn q list i
-  pub lists-kept : (j : ℕ) → j < k → entryAt t′ 0 j ≡ entryAt t 0 j
-  pub facts-kept : (j : ℕ) → entryCount ≤ j → j < factRow k → entryAt t′ 0 j ≡ entryAt t 0 j
+-- the list at a place, as entry k, and its facts; the body stays, each list before it, and each fact of one
+pub record ListEntered (list : ℕ) (p p′ : List ℕ) (k : ℕ) : Type 0 where
+  pub body : bodyOf p′ ≡ bodyOf p
+  pub is : entryAt p′ k ≡ list
+  pub each : (fs : List Fact) → Here (factsIn (bodyOf p)) fs list → (i : ℕ) → i < length fs → entryAt p′ (factRow k + i) ≡ factPlaceIn (bodyOf p) list i
+  pub lists-kept : (j : ℕ) → j < k → entryAt p′ j ≡ entryAt p j
+  pub facts-kept : (j : ℕ) → entryCount ≤ j → j < factRow k → entryAt p′ j ≡ entryAt p j
 
 -- entry k is right for the list of a rule
-pub record ListIn (q t : List ℕ) (u : Rule) (k : ℕ) : Type 0 where
-  pub here : ListAt q u (k % listCount) (entryAt t 0 k)
-  pub each : (i : ℕ) → i < length (listOf (k % listCount) u) → entryAt t 0 (factRow k + i) ≡ factPlaceIn q (entryAt t 0 k) i
+pub record ListIn (p : List ℕ) (u : Rule) (k : ℕ) : Type 0 where
+  pub here : ListAt (bodyOf p) u (k % listCount) (entryAt p k)
+  pub each : (i : ℕ) → i < length (listOf (k % listCount) u) → entryAt p (factRow k + i) ≡ factPlaceIn (bodyOf p) (entryAt p k) i
 
 -- the first k entries are right
-abbrev pub Listing : List ℕ → List ℕ → ℕ → Type 0
-Listing q t k = (j : ℕ) → j < k → (P : Protocol) (u : Rule) → Body q P → ruleOf P (j / listCount) ≡ some u → ListIn q t u j
+abbrev pub Listing : List ℕ → ℕ → Type 0
+Listing p k = (j : ℕ) → j < k → (P : Protocol) (u : Rule) → Body (bodyOf p) P → ruleOf P (j / listCount) ≡ some u → ListIn p u j
+
+-- the first n rule numbers have their entries, if those before had, and the body stays
+pub record NumberEntered (p p′ : List ℕ) (n : ℕ) : Type 0 where
+  pub body : bodyOf p′ ≡ bodyOf p
+  pub more : Listing p (listCount * n) → Listing p′ (listCount * (n + 1))
+
+-- all have, and the body stays
+pub record Tabled (p p′ : List ℕ) : Type 0 where
+  pub body : bodyOf p′ ≡ bodyOf p
+  pub all : Listing p′ entryCount
 
 -- ── what is promised ──
 pub record PreparedAs (file p : List ℕ) : Type 0 where

@@ -3,7 +3,7 @@ use Prim.Native.Nat.{ℕ, _+_, _*_, _≤_, _<_}
 use mathlib.Core.List.{List, map}
 use mathlib.Core.Option.{Option, some, none}
 use mathlib.Core.Path.{_≡_}
-use lib.ListN.{length, getD, take, drop}
+use lib.ListN.{length, take, drop}
 use lib.Dec.{eqb}
 use Rattle.lists.specs.Choice.{pick}
 use Rattle.term.specs.Arity.{tagArities, padded}
@@ -13,7 +13,8 @@ use Rattle.number.specs.Reading.{Read}
 use Rattle.protocol.specs.Places.{Here, factPlace}
 use Rattle.rules.specs.Numbered.{ruleOf}
 use Rattle.protocol.specs.Figures.{symbolCount, listCount}
-use Rattle.prepared.specs.Sections.{slotCount, ruleCount, aritiesAt, linearsAt, cellAt, bodyLength, preparedLength, placeBytes, placeBase, factRow}
+use Rattle.prepared.specs.Pairs.{pairAt}
+use Rattle.prepared.specs.Sections.{entryPlace, slotCount, ruleCount, aritiesAt, linearsAt, cellAt, bodyLength, preparedLength, factRow}
 -- its laws
 pub mod Laws
 -- with more bytes behind it
@@ -38,7 +39,7 @@ linears os = map linear (factFlags os)
 
 -- the place of rule number n, high byte first; 0 where there is none
 abbrev pub placeAt : List ℕ → ℕ → ℕ
-placeAt p n = getD p (cellAt n) 0 * placeBase + getD p (cellAt n + 1) 0
+placeAt p n = pairAt p (cellAt n)
 
 -- ── what it says ──
 -- the rule stands at a place of p, under the arities that p has
@@ -62,16 +63,19 @@ pub record Body (p : List ℕ) (P : Protocol) : Type 0 where
   pub flagged : linearsOf p ≡ padded symbolCount (linears (P .symbols))
   pub rules : (n : ℕ) → n < ruleCount → Entry p n (ruleOf P n)
 
--- entry k of a table of places that starts at a place
-abbrev pub entryAt : List ℕ → ℕ → ℕ → ℕ
-entryAt t at k = getD t (at + placeBytes * k) 0 * placeBase + getD t (at + placeBytes * k + 1) 0
+-- the body; entry k of the table behind it
+abbrev pub bodyOf : List ℕ → List ℕ
+bodyOf p = take bodyLength p
+
+abbrev pub entryAt : List ℕ → ℕ → ℕ
+entryAt p k = pairAt p (entryPlace k)
 
 -- a list of rule n has entry 3 n + its number; a fact of it the entry of its number from the row of that list on
 abbrev pub listEntry : List ℕ → ℕ → ℕ → ℕ
-listEntry p n list = entryAt p bodyLength (listCount * n + list)
+listEntry p n list = entryAt p (listCount * n + list)
 
 abbrev pub factEntry : List ℕ → ℕ → ℕ → ℕ → ℕ
-factEntry p n list i = entryAt p bodyLength (factRow (listCount * n + list) + i)
+factEntry p n list i = entryAt p (factRow (listCount * n + list) + i)
 
 -- a fact, or the list, reads at a place under the arities that p has
 abbrev pub factIn : List ℕ → ℕ → Read Fact

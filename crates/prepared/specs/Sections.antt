@@ -69,6 +69,10 @@ preparedLength = bodyLength + tableLength
 abbrev pub cellAt : ℕ → ℕ
 cellAt n = placesAt + placeBytes * n
 
+-- the two bytes of entry k of that table
+abbrev pub entryPlace : ℕ → ℕ
+entryPlace k = bodyLength + placeBytes * k
+
 -- the entry of the first fact of the list that has entry k
 abbrev pub factRow : ℕ → ℕ
 factRow k = entryCount + mostFacts * k
@@ -86,7 +90,7 @@ pub record Apart : Type 0 where
   pub rules-end : builtinAt builtinCount ≤ fileAt
   pub file-end : fileAt + fileLimit ≤ bodyLength
   pub lists-end : entryCount ≤ factRow 0
-  pub facts-end : bodyLength + placeBytes * factRow entryCount ≤ preparedLength
+  pub facts-end : entryPlace (factRow entryCount) ≤ preparedLength
 
 pub apart : Apart
 apart = record {

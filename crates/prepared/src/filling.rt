@@ -13,6 +13,7 @@ ghost use Rattle.rules.specs.Numbered.{ruleRoom};
 ghost use Rattle.prepared.specs.Sections.{slotCount, ruleCount, builtinCount, fileLimit, linearsAt, builtinAt, bodyLength, placeLimit};
 ghost use Rattle.prepared.specs.Prepared.{linear, Body};
 ghost use Rattle.prepared.specs.Filling.{Source, Laid, placed, NoPlaces, Enters, Rows, WhereBody};
+use crate::pairs;
 use crate::sections;
 use protocol::figures;
 use rules::fit::FitVerdict;
@@ -62,9 +63,7 @@ fn put_place(p: &mut [u8], n: usize, place: usize)
     requires { ⌜ (n < ruleCount) × (length (now p) ≡ bodyLength) × (place < placeLimit) ⌝ }
     ensures { λ r. ⌜ now (p .exit) ≡ placed (now (p .entry)) n place ⌝ }
 {
-    let at = sections::PLACES + sections::PLACE_BYTES * n;
-    p[at] = (place / sections::PLACE_BASE) as u8;
-    p[at + 1] = (place % sections::PLACE_BASE) as u8;
+    pairs::write(p, sections::PLACES + sections::PLACE_BYTES * n, place);
 }
 
 // The bytes of the built-in rule n, and its place.

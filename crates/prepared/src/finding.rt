@@ -8,9 +8,10 @@ ghost use Rattle.number.specs.Reading.{below};
 ghost use Rattle.protocol.specs.Figures.{symbolCount};
 ghost use Rattle.protocol.specs.Protocol.{Protocol};
 ghost use Rattle.protocol.specs.Places.{placeOf, valueOf, listPlace, termPlace};
-ghost use Rattle.prepared.specs.Sections.{ruleCount, bodyLength, placeBase};
+ghost use Rattle.prepared.specs.Sections.{ruleCount, bodyLength};
 ghost use Rattle.prepared.specs.Prepared.{slotsOf, aritiesOf, placeAt, Body, factIn, factPlaceIn};
 ghost use Rattle.prepared.specs.Finding.{Finds};
+use crate::pairs;
 use crate::sections;
 
 // A place of the prepared protocol, or no rule.
@@ -19,19 +20,12 @@ pub enum Found {
     Nothing,
 }
 
-fn wide(x: u8) -> usize
-    ensures { λ r. ⌜ (r ≡ x) × (r < placeBase) ⌝ }
-{
-    x as usize
-}
-
 // The place in the table; 0 for none.
 pub fn place_of(p: &[u8], number: usize) -> usize
     requires { ⌜ (number < ruleCount) × (bodyLength ≤ length (now p)) ⌝ }
     ensures { λ r. ⌜ r ≡ placeAt (now (p .entry)) number ⌝ }
 {
-    let at = sections::PLACES + sections::PLACE_BYTES * number;
-    wide(p[at]) * sections::PLACE_BASE + wide(p[at + 1])
+    pairs::read(p, sections::PLACES + sections::PLACE_BYTES * number)
 }
 
 // The place of the rule of a number.
@@ -96,7 +90,7 @@ pub fn arity_of(p: &[u8], symbol: usize) -> usize
     requires { ⌜ (symbol < symbolCount) × (bodyLength ≤ length (now p)) ⌝ }
     ensures { λ r. ⌜ r ≡ getD (aritiesOf (now (p .entry))) symbol 0 ⌝ }
 {
-    wide(p[sections::ARITIES + symbol])
+    pairs::wide(p[sections::ARITIES + symbol])
 }
 
 // The place of term j of the fact at a place.

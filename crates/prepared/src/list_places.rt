@@ -8,107 +8,105 @@ ghost use Rattle.protocol.specs.Protocol.{protocol};
 ghost use Rattle.protocol.specs.Places.{placeOf, At};
 ghost use Rattle.rules.specs.Fit.{judged};
 ghost use Rattle.rules.specs.Fit.Laws.{verdictOf};
-ghost use Rattle.prepared.specs.Sections.{ruleCount, entryCount, placeCount, fileLimit, bodyLength, tableLength, preparedLength, placeBase, placeLimit};
-ghost use Rattle.prepared.specs.Prepared.{Body, entryAt, listEntry, factEntry, factsIn, factPlaceIn};
-ghost use Rattle.prepared.specs.Lists.{FirstFacts, FactsEntered, ListEntered, Listing, ListsOf, RulesIn, entered, WherePrepared};
+ghost use Rattle.prepared.specs.Sections.{ruleCount, entryCount, placeCount, fileLimit, preparedLength, placeLimit};
+ghost use Rattle.prepared.specs.Prepared.{Body, bodyOf, entryAt, listEntry, factEntry, factsIn, factPlaceIn};
+ghost use Rattle.prepared.specs.Lists.{FirstFacts, ListsOf, RulesIn, entered, FactsEntered, ListEntered, NumberEntered, Tabled, WherePrepared};
 use crate::filling;
 use crate::finding;
 use crate::finding::Found;
+use crate::pairs;
 use crate::sections;
 use protocol::figures;
 use rules::fit::FitVerdict;
 
 // Entry k of the table.
-fn put_entry(table: &mut [u8], k: usize, place: usize)
-    requires { ⌜ (k < placeCount) × (length (now table) ≡ tableLength) × (place < placeLimit) ⌝ }
-    ensures { λ r. ⌜ now (table .exit) ≡ entered (now (table .entry)) k place ⌝ }
+fn put_entry(p: &mut [u8], k: usize, place: usize)
+    requires { ⌜ (k < placeCount) × (length (now p) ≡ preparedLength) × (place < placeLimit) ⌝ }
+    ensures { λ r. ⌜ now (p .exit) ≡ entered (now (p .entry)) k place ⌝ }
 {
-    let at = sections::PLACE_BYTES * k;
-    table[at] = (place / sections::PLACE_BASE) as u8;
-    table[at + 1] = (place % sections::PLACE_BASE) as u8;
+    pairs::write(p, sections::BODY + sections::PLACE_BYTES * k, place);
 }
 
 // The places of the first facts of the list at a place, so many, in the entries from a row on; the place behind these facts.
-fn enter_facts(q: &[u8], list: usize, count: usize, row: usize, table: &mut [u8]) -> usize
-    requires { ⌜ (row + count ≤ placeCount) × (length (now q) ≡ bodyLength) × (length (now table) ≡ tableLength) × Asks (FirstFacts (now q) list count) ⌝ }
-    ensures behind { λ r. ⌜ r ≡ factPlaceIn (now (q .entry)) list count ⌝ }
-    ensures done { λ r. ⌜ FactsEntered (now (q .entry)) list (now (table .entry)) (now (table .exit)) row count ⌝ }
+fn enter_facts(p: &mut [u8], list: usize, count: usize, row: usize) -> usize
+    requires { ⌜ (row + count ≤ placeCount) × (length (now p) ≡ preparedLength) × Asks (FirstFacts (bodyOf (now p)) list count) ⌝ }
+    ensures behind { λ r. ⌜ r ≡ factPlaceIn (bodyOf (now (p .entry))) list count ⌝ }
+    ensures done { λ r. ⌜ FactsEntered list (now (p .entry)) (now (p .exit)) row count ⌝ }
 {
-    let mut at = finding::first_fact(q, list);
+    let mut at = finding::first_fact(&p[..sections::BODY], list);
     let mut i: usize = 0;
     while i < count {
-        put_entry(table, row + i, at);
-        at = finding::fact_end(q, at);
+        put_entry(p, row + i, at);
+        at = finding::fact_end(&p[..sections::BODY], at);
         i += 1;
     }
     at
 }
 
 // The list at a place has entry k; its facts have their row. The place behind the list.
-fn enter_list(q: &[u8], list: usize, k: usize, table: &mut [u8]) -> usize
-    requires { ⌜ (k < entryCount) × (length (now q) ≡ bodyLength) × (length (now table) ≡ tableLength) × Asks (At (factsIn (now q)) list) ⌝ }
-    ensures behind { λ r. ⌜ r ≡ placeOf (factsIn (now (q .entry)) list) ⌝ }
-    ensures done { λ r. ⌜ ListEntered (now (q .entry)) list (now (table .entry)) (now (table .exit)) k ⌝ }
+fn enter_list(p: &mut [u8], list: usize, k: usize) -> usize
+    requires { ⌜ (k < entryCount) × (length (now p) ≡ preparedLength) × Asks (At (factsIn (bodyOf (now p))) list) ⌝ }
+    ensures behind { λ r. ⌜ r ≡ placeOf (factsIn (bodyOf (now (p .entry))) list) ⌝ }
+    ensures done { λ r. ⌜ ListEntered list (now (p .entry)) (now (p .exit)) k ⌝ }
 {
-    put_entry(table, k, list);
-    let count = protocol::places::count_of(q, list);
+    let count = protocol::places::count_of(&p[..sections::BODY], list);
+    put_entry(p, k, list);
     enter_facts(
-        q,
+        p,
         list,
         count,
         sections::LIST_COUNT + figures::MOST_FACTS * k,
-        table,
     )
 }
 
 // The same for a list behind which nothing is looked for: its last fact is not walked.
-fn enter_last(q: &[u8], list: usize, k: usize, table: &mut [u8])
-    requires { ⌜ (k < entryCount) × (length (now q) ≡ bodyLength) × (length (now table) ≡ tableLength) × Asks (At (factsIn (now q)) list) ⌝ }
-    ensures { λ r. ⌜ ListEntered (now (q .entry)) list (now (table .entry)) (now (table .exit)) k ⌝ }
+fn enter_last(p: &mut [u8], list: usize, k: usize)
+    requires { ⌜ (k < entryCount) × (length (now p) ≡ preparedLength) × Asks (At (factsIn (bodyOf (now p))) list) ⌝ }
+    ensures { λ r. ⌜ ListEntered list (now (p .entry)) (now (p .exit)) k ⌝ }
 {
-    put_entry(table, k, list);
-    let count = protocol::places::count_of(q, list);
+    let count = protocol::places::count_of(&p[..sections::BODY], list);
+    put_entry(p, k, list);
     if count == 0 {
         return;
     }
     let row = sections::LIST_COUNT + figures::MOST_FACTS * k;
     let rest = count - 1;
-    let last = enter_facts(q, list, rest, row, table);
-    put_entry(table, row + rest, last);
+    let last = enter_facts(p, list, rest, row);
+    put_entry(p, row + rest, last);
 }
 
 // The lists of the rule at a place, each found behind the one before.
-fn enter_lists(q: &[u8], place: usize, n: usize, table: &mut [u8])
-    requires { ⌜ (n < ruleCount) × (length (now q) ≡ bodyLength) × (length (now table) ≡ tableLength) × ListsOf (now q) n place ⌝ }
-    ensures { λ r. ⌜ (Listing (now (q .entry)) (now (table .entry)) (listCount * n) → Listing (now (q .entry)) (now (table .exit)) (listCount * (n + 1))) ⌝ }
+fn enter_lists(p: &mut [u8], place: usize, n: usize)
+    requires { ⌜ (n < ruleCount) × (length (now p) ≡ preparedLength) × ListsOf (bodyOf (now p)) n place ⌝ }
+    ensures { λ r. ⌜ NumberEntered (now (p .entry)) (now (p .exit)) n ⌝ }
 {
     let first = figures::LISTS * n;
-    let premises = finding::list_at(q, place, figures::PREMISES);
-    let actions = enter_list(q, premises, first, table);
-    let conclusions = enter_list(q, actions, first + figures::ACTIONS, table);
-    enter_last(q, conclusions, first + figures::CONCLUSIONS, table);
+    let premises = finding::list_at(&p[..sections::BODY], place, figures::PREMISES);
+    let actions = enter_list(p, premises, first);
+    let conclusions = enter_list(p, actions, first + figures::ACTIONS);
+    enter_last(p, conclusions, first + figures::CONCLUSIONS);
 }
 
 // The lists of the rule of a number, if it has one.
-fn enter_number(q: &[u8], n: usize, table: &mut [u8])
-    requires { ⌜ (n < ruleCount) × (length (now q) ≡ bodyLength) × (length (now table) ≡ tableLength) × Asks (Body (now q)) ⌝ }
-    ensures { λ r. ⌜ (Listing (now (q .entry)) (now (table .entry)) (listCount * n) → Listing (now (q .entry)) (now (table .exit)) (listCount * (n + 1))) ⌝ }
+fn enter_number(p: &mut [u8], n: usize)
+    requires { ⌜ (n < ruleCount) × (length (now p) ≡ preparedLength) × Asks (Body (bodyOf (now p))) ⌝ }
+    ensures { λ r. ⌜ NumberEntered (now (p .entry)) (now (p .exit)) n ⌝ }
 {
-    match finding::rule_place(q, n) {
-        Found::At(place) => enter_lists(q, place, n, table),
+    match finding::rule_place(&p[..sections::BODY], n) {
+        Found::At(place) => enter_lists(p, place, n),
         Found::Nothing => (),
     }
 }
 
 // The lists of all rules: nr of them are the file's own.
-fn list_table(q: &[u8], nr: usize, table: &mut [u8])
-    requires { ⌜ Asks (RulesIn (now q) nr) × (length (now q) ≡ bodyLength) × (length (now table) ≡ tableLength) ⌝ }
-    ensures { λ r. ⌜ Listing (now (q .entry)) (now (table .exit)) entryCount ⌝ }
+fn enter_table(p: &mut [u8], nr: usize)
+    requires { ⌜ Asks (RulesIn (bodyOf (now p)) nr) × (length (now p) ≡ preparedLength) ⌝ }
+    ensures { λ r. ⌜ Tabled (now (p .entry)) (now (p .exit)) ⌝ }
 {
     let end = sections::BUILTIN_COUNT + nr;
     let mut n: usize = 0;
     while n < end {
-        enter_number(q, n, table);
+        enter_number(p, n);
         n += 1;
     }
 }
@@ -121,9 +119,7 @@ pub fn prepare(file: &[u8], p: &mut [u8]) -> FitVerdict
 {
     match filling::prepare_body(file, &mut p[..sections::BODY]) {
         FitVerdict::Sound(ns, nr) => {
-            let mut table = [0u8; sections::TABLE_BYTES];
-            list_table(&p[..sections::BODY], nr, &mut table);
-            octets::copy_into(p, sections::BODY, &table);
+            enter_table(p, nr);
             FitVerdict::Sound(ns, nr)
         }
         FitVerdict::Broken(k) => FitVerdict::Broken(k),
@@ -131,19 +127,12 @@ pub fn prepare(file: &[u8], p: &mut [u8]) -> FitVerdict
     }
 }
 
-fn wide(x: u8) -> usize
-    ensures { λ r. ⌜ (r ≡ x) × (r < placeBase) ⌝ }
-{
-    x as usize
-}
-
-// Entry k of the table behind the body.
+// Entry k of the table.
 fn entry_of(p: &[u8], k: usize) -> usize
     requires { ⌜ (k < placeCount) × (length (now p) ≡ preparedLength) ⌝ }
-    ensures { λ r. ⌜ r ≡ entryAt (now (p .entry)) bodyLength k ⌝ }
+    ensures { λ r. ⌜ r ≡ entryAt (now (p .entry)) k ⌝ }
 {
-    let at = sections::BODY + sections::PLACE_BYTES * k;
-    wide(p[at]) * sections::PLACE_BASE + wide(p[at + 1])
+    pairs::read(p, sections::BODY + sections::PLACE_BYTES * k)
 }
 
 // The place of a list that the table has.

@@ -1,11 +1,11 @@
 -- One rule number after another.
-use Prim.Native.Nat.{ℕ, _+_, _*_, _/_, _%_, _-_, _≤_, _<_}
+use Prim.Native.Nat.{ℕ, _+_, _*_, _-_, _≤_, _<_}
 use mathlib.Core.List.{List, _++_, append-assoc}
 use mathlib.Core.Option.{none}
 use mathlib.Core.Path.{_≡_, refl, ap, ap₂, sym, _∙_, subst}
 use native.Mathlib.Omega.{arith}
-use lib.ListN.{length, getD, take, drop, set, replicate, length-set, length-replicate}
-use lib.Seq.{getD-set-same, getD-set-other, length-take-le, drop-drop}
+use lib.ListN.{length, getD, take, drop, replicate, length-replicate}
+use lib.Seq.{length-take-le, drop-drop}
 use borrow.Rule.Slice.PartMut.{putMid, midOf, mid-len, same-len-mid}
 use Rattle.lists.specs.Choice.{by-size}
 use Rattle.octets.specs.Splice.{splice}
@@ -20,36 +20,21 @@ use Rattle.rules.specs.declared.numbered.FoundRule.the-variants as fd
 use Rattle.rules.specs.Numbered.{ruleRoom}
 use Rattle.prepared.specs.Sections.{builtinCount, ruleCount, placesAt, rulesAt, fileAt, cellAt, builtinAt, bodyLength, placeBase, placeLimit}
 use Rattle.prepared.specs.Prepared.{placeAt}
+use Rattle.prepared.specs.Pairs.{paired-other, pair-read}
 use Rattle.prepared.specs.Filling.{Source, placed, Row, written, in-file, missing, Unplaced, NoPlaces, Kept, Enters, Rows}
 use Rattle.prepared.specs.Filling.Lists.{splice-lies, lies-kept}
 
 -- ── a place written ──
-module _ (p : List ℕ) (n v : ℕ) where
-  place-other : (i : ℕ) → (i ≡ cellAt n → ⊥) → (i ≡ cellAt n + 1 → ⊥) → getD (placed p n v) i 0 ≡ getD p i 0
-  place-other i h k =
-      getD-set-other (set p (cellAt n) (v / placeBase)) (cellAt n + 1) i (v % placeBase) 0 k
-      ∙ getD-set-other p (cellAt n) i (v / placeBase) 0 h
+module _ (p : List ℕ) (n v : ℕ) (small : n < ruleCount) (long : length p ≡ bodyLength) where
+  pub place-read : placeAt (placed p n v) n ≡ v
+  place-read = pair-read p (cellAt n) v (omega arith)
 
-  module _ (small : n < ruleCount) (long : length p ≡ bodyLength) where
-    high-byte : getD (placed p n v) (cellAt n) 0 ≡ v / placeBase
-    high-byte =
-        getD-set-other (set p (cellAt n) (v / placeBase)) (cellAt n + 1) (cellAt n) (v % placeBase) 0 (λ e. omega arith)
-        ∙ getD-set-same p (cellAt n) (v / placeBase) 0 (omega arith)
-
-    low-byte : getD (placed p n v) (cellAt n + 1) 0 ≡ v % placeBase
-    low-byte =
-        getD-set-same (set p (cellAt n) (v / placeBase)) (cellAt n + 1) (v % placeBase) 0
-        (omega (arith, length-set p (cellAt n) (v / placeBase)))
-
-    pub place-read : placeAt (placed p n v) n ≡ v
-    place-read = ap₂ (λ (a b : ℕ). a * placeBase + b) high-byte low-byte ∙ omega arith
-
-    place-kept : Kept p (placed p n v) n
-    place-kept = record {
-      low = λ i h. place-other i (λ e. omega arith) (λ e. omega arith);
-      between = λ i h k. place-other i (λ e. omega arith) (λ e. omega arith);
-      high = λ i h k. place-other i (λ e. omega arith) (λ e. omega arith);
-    }
+  place-kept : Kept p (placed p n v) n
+  place-kept = record {
+    low = λ i h. paired-other p (cellAt n) v i (λ e. omega arith) (λ e. omega arith);
+    between = λ i h k. paired-other p (cellAt n) v i (λ e. omega arith) (λ e. omega arith);
+    high = λ i h k. paired-other p (cellAt n) v i (λ e. omega arith) (λ e. omega arith);
+  }
 
 -- ── no place ──
 module _ (p zeros : List ℕ) (long : length p ≡ bodyLength) (cleared : zeros ≡ replicate (length (midOf placesAt (rulesAt - placesAt) p)) 0) where
@@ -168,7 +153,7 @@ module _ {arities places : List ℕ} {nr : ℕ} (f : Source arities places nr) w
           record {
             row = written (w .its) (w .is) (w .low) (place-read p₁ n (builtinAt n) small n₁) l
                 (lies-kept p₁ (builtinAt n) q (placed p₁ n (builtinAt n))
-                (λ j m. place-other p₁ n (builtinAt n) (builtinAt n + j) (λ e. omega arith) (λ e. omega arith))
+                (λ j m. paired-other p₁ (cellAt n) (builtinAt n) (builtinAt n + j) (λ e. omega arith) (λ e. omega arith))
                 (splice-lies p (builtinAt n) q (omega arith)));
             kept = record {
               low = λ i m. k .low i m ∙ splice-before p (builtinAt n) q (omega arith) 0 i (omega arith);

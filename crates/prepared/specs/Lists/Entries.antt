@@ -1,10 +1,9 @@
 -- One entry of the table, the facts of a list, one list.
-use Prim.Native.Nat.{ℕ, _+_, _-_, _*_, _/_, _%_, _≤_, _<_}
+use Prim.Native.Nat.{ℕ, _+_, _-_, _*_, _≤_, _<_}
 use mathlib.Core.List.{List}
 use mathlib.Core.Path.{_≡_, refl, ap, ap₂, sym, _∙_, subst}
 use native.Mathlib.Omega.{arith}
-use lib.ListN.{length, getD, set, length-set, length-append}
-use lib.Seq.{getD-set-same, getD-set-other}
+use lib.ListN.{length, getD, length-append}
 use Rattle.protocol.specs.Figures.{mostFacts, factLimit}
 use Rattle.lists.specs.Asks.{Asks}
 use Rattle.lists.specs.Choice.{by-size}
@@ -18,37 +17,25 @@ use Rattle.protocol.specs.Protocol.{Fact, noFact, encodeFact}
 use Rattle.protocol.specs.Protocol.Exact.{fact-exact, facts-exact}
 use Rattle.protocol.specs.Places.{Here, At, placeOf, valueOf}
 use Rattle.protocol.specs.Places.Laws.{count-law, fact-law, fact-next, facts-end}
-use Rattle.prepared.specs.Sections.{bodyLength, entryCount, placeCount, factRow, tableLength, placeBase, placeLimit}
-use Rattle.prepared.specs.Prepared.{slotsOf, aritiesOf, entryAt, factIn, factsIn, factPlaceIn}
+use Rattle.prepared.specs.Sections.{bodyLength, preparedLength, entryCount, placeCount, entryPlace, factRow, placeBase, placeLimit}
+use Rattle.prepared.specs.Pairs.{paired-other, paired-front, pair-read}
+use Rattle.prepared.specs.Prepared.{slotsOf, aritiesOf, bodyOf, entryAt, factIn, factsIn, factPlaceIn}
 use Rattle.prepared.specs.Prepared.Laws.{arities-length, list-few}
 use Rattle.prepared.specs.Prepared.Longer.{list-some}
 use Rattle.prepared.specs.Lists.{FirstFacts, entered, FactsEntered, ListEntered}
 
 -- ── one entry ──
-module _ (t : List ℕ) (k v : ℕ) (small : k < placeCount) (long : length t ≡ tableLength) where
-  abbrev t′ : List ℕ
-  t′ = entered t k v
+module _ (p : List ℕ) (k v : ℕ) where
+  entered-body : bodyOf (entered p k v) ≡ bodyOf p
+  entered-body = paired-front p (entryPlace k) v bodyLength (omega arith)
 
-  other : (i : ℕ) → (i ≡ 2 * k → ⊥) → (i ≡ 2 * k + 1 → ⊥) → getD t′ i 0 ≡ getD t i 0
-  other i a b =
-      getD-set-other (set t (2 * k) (v / placeBase)) (2 * k + 1) i (v % placeBase) 0 (λ e. b (omega arith))
-      ∙ getD-set-other t (2 * k) i (v / placeBase) 0 (λ e. a (omega arith))
+  entry-read : k < placeCount → length p ≡ preparedLength → entryAt (entered p k v) k ≡ v
+  entry-read small long = pair-read p (entryPlace k) v (omega arith)
 
-  pub entry-read : entryAt (entered t k v) 0 k ≡ v
-  entry-read =
-      let a : getD t′ (0 + 2 * k) 0 ≡ v / placeBase =
-      ap (λ (i : ℕ). getD t′ i 0) (omega arith)
-      ∙ getD-set-other (set t (2 * k) (v / placeBase)) (2 * k + 1) (2 * k) (v % placeBase) 0 (λ e. omega arith)
-      ∙ getD-set-same t (2 * k) (v / placeBase) 0 (omega arith) in
-      let b : getD t′ (0 + 2 * k + 1) 0 ≡ v % placeBase =
-      ap (λ (i : ℕ). getD t′ i 0) (omega arith)
-      ∙ getD-set-same (set t (2 * k) (v / placeBase)) (2 * k + 1) (v % placeBase) 0 (omega (arith, length-set t (2 * k) (v / placeBase))) in
-      ap₂ (λ (x y : ℕ). x * placeBase + y) a b ∙ omega arith
-
-  pub entry-kept : (j : ℕ) → (j ≡ k → ⊥) → entryAt (entered t k v) 0 j ≡ entryAt t 0 j
+  entry-kept : (j : ℕ) → (j ≡ k → ⊥) → entryAt (entered p k v) j ≡ entryAt p j
   entry-kept j ne =
-      ap₂ (λ (x y : ℕ). x * placeBase + y) (other (0 + 2 * j) (λ e. ne (omega arith)) (λ e. omega arith))
-      (other (0 + 2 * j + 1) (λ e. omega arith) (λ e. ne (omega arith)))
+      ap₂ (λ (x y : ℕ). x * placeBase + y) (paired-other p (entryPlace k) v (entryPlace j) (λ e. ne (omega arith)) (λ e. omega arith))
+      (paired-other p (entryPlace k) v (entryPlace j + 1) (λ e. omega arith) (λ e. ne (omega arith)))
 
 -- ── the facts of the list at a place ──
 module _ (q : List ℕ) (bytes : Bytes q) (long : length q ≡ bodyLength) where
@@ -80,24 +67,25 @@ module _ (q : List ℕ) (bytes : Bytes q) (long : length q ≡ bodyLength) where
         he ∙ ap (λ (k : ℕ). placeOf (factIn q k)) ha
         ∙ sym (fact-next q (slotsOf q) (aritiesOf q) list (x .0) (x .1 .here) i (omega (arith, x .1 .enough)))
 
-module _ (q : List ℕ) (list : ℕ) (t : List ℕ) (row : ℕ) where
-  pub facts-none : FactsEntered q list t t row 0
-  facts-none = record { each = λ i l. absurd (omega arith); before = λ j l. refl }
+module _ (list : ℕ) (p : List ℕ) (row : ℕ) where
+  pub facts-none : FactsEntered list p p row 0
+  facts-none = record { body = refl; each = λ i l. absurd (omega arith); before = λ j l. refl }
 
   pub facts-more :
-      (t₁ t₂ : List ℕ) (i at : ℕ) → length t₁ ≡ tableLength → row + i < placeCount → FactsEntered q list t t₁ row i → at ≡ factPlaceIn q list i
-      → t₂ ≡ entered t₁ (row + i) at → FactsEntered q list t t₂ row (i + 1)
-  facts-more t₁ t₂ i at long inside done is h =
-      let kept : (j : ℕ) → (j ≡ row + i → ⊥) → entryAt t₂ 0 j ≡ entryAt t₁ 0 j =
-      λ j ne. ap (λ (s : List ℕ). entryAt s 0 j) h ∙ entry-kept t₁ (row + i) at inside long j ne in
+      (p₁ p₂ : List ℕ) (i at : ℕ) → length p₁ ≡ preparedLength → row + i < placeCount → FactsEntered list p p₁ row i → at ≡ factPlaceIn (bodyOf p) list i
+      → p₂ ≡ entered p₁ (row + i) at → FactsEntered list p p₂ row (i + 1)
+  facts-more p₁ p₂ i at long inside done is h =
+      let kept : (j : ℕ) → (j ≡ row + i → ⊥) → entryAt p₂ j ≡ entryAt p₁ j =
+      λ j ne. ap (λ (s : List ℕ). entryAt s j) h ∙ entry-kept p₁ (row + i) at j ne in
       record {
+        body = ap bodyOf h ∙ entered-body p₁ (row + i) at ∙ done .body;
         each = λ j m.
             by-size j i
             (λ b. kept (row + j) (λ e. omega arith) ∙ done .each j b)
             (λ b.
             let z : j ≡ i = omega arith in
-            ap (λ (n : ℕ). entryAt t₂ 0 (row + n)) z ∙ ap (λ (s : List ℕ). entryAt s 0 (row + i)) h
-            ∙ entry-read t₁ (row + i) at inside long ∙ is ∙ ap (factPlaceIn q list) (sym z));
+            ap (λ (n : ℕ). entryAt p₂ (row + n)) z ∙ ap (λ (s : List ℕ). entryAt s (row + i)) h
+            ∙ entry-read p₁ (row + i) at inside long ∙ is ∙ ap (factPlaceIn (bodyOf p) list) (sym z));
         before = λ j m. kept j (λ e. omega arith) ∙ done .before j m;
       }
 
@@ -120,26 +108,33 @@ module _ (q : List ℕ) (list count : ℕ) (counted : count ≡ valueOf (below q
   pub list-behind : Asks (At (factsIn q) list) → (r : ℕ) → r ≡ factPlaceIn q list count → r ≡ placeOf (factsIn q list)
   list-behind (fs, h) r e = e ∙ ap (factPlaceIn q list) (count-is fs h) ∙ facts-end q (slotsOf q) (aritiesOf q) list fs h
 
-  module _ (t t₁ : List ℕ) (k : ℕ) (small : k < entryCount) (long : length t ≡ tableLength) (h₁ : t₁ ≡ entered t k list) where
-    kept : (j : ℕ) → (j ≡ k → ⊥) → entryAt t₁ 0 j ≡ entryAt t 0 j
-    kept j ne = ap (λ (s : List ℕ). entryAt s 0 j) h₁ ∙ entry-kept t k list (omega arith) long j ne
+-- entry k, and then the facts
+module _ (list count : ℕ) (p p₁ : List ℕ) (counted : count ≡ valueOf (below (bodyOf p) factLimit list)) (k : ℕ) (small : k < entryCount)
+    (long : length p ≡ preparedLength)
+    (h₁ : p₁ ≡ entered p k list) where
+  pub first-body : bodyOf p₁ ≡ bodyOf p
+  first-body = ap bodyOf h₁ ∙ entered-body p k list
 
-    pub list-entered : (t₂ : List ℕ) → FactsEntered q list t₁ t₂ (factRow k) count → ListEntered q list t t₂ k
-    list-entered t₂ f = record {
-      is = f .before k (omega arith) ∙ ap (λ (s : List ℕ). entryAt s 0 k) h₁ ∙ entry-read t k list (omega arith) long;
-      each = λ fs h i l. f .each i (omega (arith, count-is fs h));
-      lists-kept = λ j l. f .before j (omega arith) ∙ kept j (λ e. omega arith);
-      facts-kept = λ j a b. f .before j b ∙ kept j (λ e. omega arith);
-    }
+  kept : (j : ℕ) → (j ≡ k → ⊥) → entryAt p₁ j ≡ entryAt p j
+  kept j ne = ap (λ (s : List ℕ). entryAt s j) h₁ ∙ entry-kept p k list j ne
 
-    -- it has no facts
-    pub list-empty : count ≡ 0 → ListEntered q list t t₁ k
-    list-empty z = list-entered t₁ record { each = λ i l. absurd (omega arith); before = λ j l. refl }
+  pub list-entered : (p₂ : List ℕ) → FactsEntered list p₁ p₂ (factRow k) count → ListEntered list p p₂ k
+  list-entered p₂ f = record {
+    body = f .body ∙ first-body;
+    is = f .before k (omega arith) ∙ ap (λ (s : List ℕ). entryAt s k) h₁ ∙ entry-read p k list (omega arith) long;
+    each = λ fs h i l. f .each i (omega (arith, count-is (bodyOf p) list count counted fs h)) ∙ ap (λ (q : List ℕ). factPlaceIn q list i) first-body;
+    lists-kept = λ j l. f .before j (omega arith) ∙ kept j (λ e. omega arith);
+    facts-kept = λ j a b. f .before j b ∙ kept j (λ e. omega arith);
+  }
 
-    -- the last fact is entered by itself
-    pub list-last :
-        (t₂ t₃ : List ℕ) (rest last : ℕ) → length t₂ ≡ tableLength → rest + 1 ≡ count → count ≤ mostFacts → FactsEntered q list t₁ t₂ (factRow k) rest
-        → last ≡ factPlaceIn q list rest → t₃ ≡ entered t₂ (factRow k + rest) last → ListEntered q list t t₃ k
-    list-last t₂ t₃ rest last long₂ all few f is h =
-        list-entered t₃
-        (subst (FactsEntered q list t₁ t₃ (factRow k)) all (facts-more q list t₁ (factRow k) t₂ t₃ rest last long₂ (omega arith) f is h))
+  -- it has no facts
+  pub list-empty : count ≡ 0 → ListEntered list p p₁ k
+  list-empty z = list-entered p₁ (subst (FactsEntered list p₁ p₁ (factRow k)) (sym z) (facts-none list p₁ (factRow k)))
+
+  -- the last fact is entered by itself
+  pub list-last :
+      (p₂ p₃ : List ℕ) (rest last : ℕ) → length p₂ ≡ preparedLength → rest + 1 ≡ count → count ≤ mostFacts → FactsEntered list p₁ p₂ (factRow k) rest
+      → last ≡ factPlaceIn (bodyOf p₁) list rest → p₃ ≡ entered p₂ (factRow k + rest) last → ListEntered list p p₃ k
+  list-last p₂ p₃ rest last long₂ all few f is h =
+      list-entered p₃
+      (subst (FactsEntered list p₁ p₃ (factRow k)) all (facts-more list p₁ (factRow k) p₂ p₃ rest last long₂ (omega arith) f is h))

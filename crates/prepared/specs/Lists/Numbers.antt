@@ -2,7 +2,7 @@
 use Prim.Native.Nat.{ℕ, _+_, _-_, _*_, _/_, _%_, _≤_, _<_}
 use mathlib.Core.List.{List}
 use mathlib.Core.Option.{Option, some, none, Option·none-ne-some}
-use mathlib.Core.Path.{_≡_, refl, ap, sym, _∙_, subst}
+use mathlib.Core.Path.{_≡_, refl, ap, ap₂, sym, _∙_, subst, subst₂}
 use native.Mathlib.Omega.{arith}
 use lib.ListN.{length}
 use Rattle.protocol.specs.Figures.{listCount, mostRules}
@@ -18,10 +18,10 @@ use Rattle.rules.specs.Numbered.Found.{of-own}
 use Rattle.prepared.specs.declared.finding.Found.{Found}
 use Rattle.prepared.specs.declared.finding.Found.the-variants as fd
 use Rattle.prepared.specs.Sections.{ruleCount, builtinCount, bodyLength, entryCount, factRow}
-use Rattle.prepared.specs.Prepared.{slotsOf, aritiesOf, placeAt, Entry, Body, entryAt, factsIn, ListAt, factPlaceIn}
+use Rattle.prepared.specs.Prepared.{slotsOf, aritiesOf, placeAt, Entry, Body, bodyOf, entryAt, factsIn, ListAt, factPlaceIn}
 use Rattle.prepared.specs.Prepared.Laws.{list-few}
 use Rattle.prepared.specs.Finding.{Finds, found-here}
-use Rattle.prepared.specs.Lists.{ListsOf, RulesIn, ListEntered, ListIn, Listing}
+use Rattle.prepared.specs.Lists.{ListsOf, RulesIn, ListEntered, ListIn, Listing, NumberEntered}
 
 -- ── where the lists of a rule stand ──
 -- at a place, in whatever protocol
@@ -74,52 +74,63 @@ module _ (q : List ℕ) (ready : Asks (Body q)) (n : ℕ) {found : Found} (x : (
 
 -- ── one list more ──
 module _ (q : List ℕ) (bytes : Bytes q) (long : length q ≡ bodyLength) where
-  list-kept : (t t′ : List ℕ) (k r : ℕ) → ListEntered q r t t′ k → (u : Rule) (j : ℕ) → j < k → ListIn q t u j → ListIn q t′ u j
-  list-kept t t′ k r h u j l x =
+  list-kept :
+      (p p′ : List ℕ) (k r : ℕ) → bodyOf p ≡ q → ListEntered r p p′ k → (u : Rule) (j : ℕ) → j < k → ListIn p u j → ListIn p′ u j
+  list-kept p p′ k r e h u j l x =
       let same = h .lists-kept j l in
+      let few = list-few q bytes (omega arith) (entryAt p j) (listOf (j % listCount) u)
+      (subst (λ (b : List ℕ). ListAt b u (j % listCount) (entryAt p j)) e (x .here)) in
       record {
-        here = subst (ListAt q u (j % listCount)) (sym same) (x .here);
+        here = subst₂ (λ (b : List ℕ) (a : ℕ). ListAt b u (j % listCount) a) (sym (h .body)) (sym same) (x .here);
         each = λ i m.
-            let few = list-few q bytes (omega arith) (entryAt t 0 j) (listOf (j % listCount) u) (x .here) in
-            h .facts-kept (factRow j + i) (omega arith) (omega (arith, few)) ∙ x .each i m ∙ ap (λ (a : ℕ). factPlaceIn q a i) (sym same);
+            h .facts-kept (factRow j + i) (omega arith) (omega (arith, few)) ∙ x .each i m
+            ∙ ap₂ (λ (b : List ℕ) (a : ℕ). factPlaceIn b a i) (sym (h .body)) (sym same);
       }
 
-  list-right : (t t′ : List ℕ) (k r : ℕ) → ListEntered q r t t′ k → (u : Rule) → ListAt q u (k % listCount) r → ListIn q t′ u k
-  list-right t t′ k r h u x = record {
-    here = subst (ListAt q u (k % listCount)) (sym (h .is)) x;
-    each = λ i m. h .each (listOf (k % listCount) u) x i m ∙ ap (λ (a : ℕ). factPlaceIn q a i) (sym (h .is));
+  list-right : (p p′ : List ℕ) (k r : ℕ) → ListEntered r p p′ k → (u : Rule) → ListAt (bodyOf p) u (k % listCount) r → ListIn p′ u k
+  list-right p p′ k r h u x = record {
+    here = subst₂ (λ (b : List ℕ) (a : ℕ). ListAt b u (k % listCount) a) (sym (h .body)) (sym (h .is)) x;
+    each = λ i m. h .each (listOf (k % listCount) u) x i m ∙ ap₂ (λ (b : List ℕ) (a : ℕ). factPlaceIn b a i) (sym (h .body)) (sym (h .is));
   }
 
   listing-more :
-      (t t′ : List ℕ) (n list k r : ℕ) → k / listCount ≡ n → k % listCount ≡ list → ListOf q n list r → ListEntered q r t t′ k → Listing q t k
-      → Listing q t′ (k + 1)
-  listing-more t t′ n list k r d m x h l j b P u f is =
+      (p p′ : List ℕ) (n list k r : ℕ) → bodyOf p ≡ q → k / listCount ≡ n → k % listCount ≡ list → ListOf q n list r → ListEntered r p p′ k → Listing p k
+      → Listing p′ (k + 1)
+  listing-more p p′ n list k r e d m x h l j b P u f is =
+      let g : Body (bodyOf p) P = subst (λ (c : List ℕ). Body c P) (h .body) f in
       by-size j k
-      (λ a. list-kept t t′ k r h u j a (l j a P u f is))
+      (λ a. list-kept p p′ k r e h u j a (l j a P u g is))
       (λ a.
       let z : k ≡ j = omega arith in
-      subst (ListIn q t′ u) z
-      (list-right t t′ k r h u
-      (subst (λ (i : ℕ). ListAt q u i r) (sym m) (x P u f (ap (ruleOf P) (sym d ∙ ap (λ (i : ℕ). i / 3) z) ∙ is)))))
+      let y : ListAt q u list r = x P u (subst (λ (c : List ℕ). Body c P) e g) (ap (ruleOf P) (sym d ∙ ap (λ (i : ℕ). i / 3) z) ∙ is) in
+      subst (ListIn p′ u) z (list-right p p′ k r h u (subst₂ (λ (c : List ℕ) (i : ℕ). ListAt c u i r) (sym e) (sym m) y)))
 
   -- ── one rule more ──
   pub lists-more :
-      (n a b c : ℕ) → ListOf q n 0 a → ListOf q n 1 b → ListOf q n 2 c → (t t₁ t₂ t₃ : List ℕ)
-      → ListEntered q a t t₁ (listCount * n) → ListEntered q b t₁ t₂ (listCount * n + 1) → ListEntered q c t₂ t₃ (listCount * n + 2)
-      → Listing q t (listCount * n) → Listing q t₃ (listCount * (n + 1))
-  lists-more n a b c x y z t t₁ t₂ t₃ h₁ h₂ h₃ l =
-      let l₁ : Listing q t₁ (3 * n + 1) = listing-more t t₁ n 0 (3 * n) a (omega arith) (omega arith) x h₁ l in
-      let l₂ : Listing q t₂ (3 * n + 1 + 1) = listing-more t₁ t₂ n 1 (3 * n + 1) b (omega arith) (omega arith) y h₂ l₁ in
-      let l₂′ : Listing q t₂ (3 * n + 2) = (let e : 3 * n + 1 + 1 ≡ 3 * n + 2 = omega arith in subst (Listing q t₂) e l₂) in
-      let l₃ : Listing q t₃ (3 * n + 2 + 1) = listing-more t₂ t₃ n 2 (3 * n + 2) c (omega arith) (omega arith) z h₃ l₂′ in
-      (let e : 3 * n + 2 + 1 ≡ 3 * (n + 1) = omega arith in subst (Listing q t₃) e l₃)
+      (n a b c : ℕ) → ListOf q n 0 a → ListOf q n 1 b → ListOf q n 2 c → (p p₁ p₂ p₃ : List ℕ) → bodyOf p ≡ q
+      → ListEntered a p p₁ (listCount * n) → ListEntered b p₁ p₂ (listCount * n + 1) → ListEntered c p₂ p₃ (listCount * n + 2)
+      → NumberEntered p p₃ n
+  lists-more n a b c x y z p p₁ p₂ p₃ e h₁ h₂ h₃ =
+      let e₁ : bodyOf p₁ ≡ q = h₁ .body ∙ e in
+      let e₂ : bodyOf p₂ ≡ q = h₂ .body ∙ e₁ in
+      record {
+        body = h₃ .body ∙ h₂ .body ∙ h₁ .body;
+        more = λ l.
+            let l₁ : Listing p₁ (3 * n + 1) = listing-more p p₁ n 0 (3 * n) a e (omega arith) (omega arith) x h₁ l in
+            let l₂ : Listing p₂ (3 * n + 1 + 1) = listing-more p₁ p₂ n 1 (3 * n + 1) b e₁ (omega arith) (omega arith) y h₂ l₁ in
+            let l₂′ : Listing p₂ (3 * n + 2) = (let k : 3 * n + 1 + 1 ≡ 3 * n + 2 = omega arith in subst (Listing p₂) k l₂) in
+            let l₃ : Listing p₃ (3 * n + 2 + 1) = listing-more p₂ p₃ n 2 (3 * n + 2) c e₂ (omega arith) (omega arith) z h₃ l₂′ in
+            (let k : 3 * n + 2 + 1 ≡ 3 * (n + 1) = omega arith in subst (Listing p₃) k l₃);
+      }
 
-pub lists-none :
-    (q t : List ℕ) (n : ℕ) → ((P : Protocol) → Body q P → ruleOf P n ≡ none) → Listing q t (listCount * n) → Listing q t (listCount * (n + 1))
-lists-none q t n h l j m P u f is =
-    by-size j (3 * n)
-    (λ b. l j b P u f is)
-    (λ b. let d : j / 3 ≡ n = omega arith in absurd (Option·none-ne-some u (sym (ap (ruleOf P) d ∙ h P f) ∙ is)))
+pub lists-none : (p : List ℕ) (n : ℕ) → ((P : Protocol) → Body (bodyOf p) P → ruleOf P n ≡ none) → NumberEntered p p n
+lists-none p n h = record {
+  body = refl;
+  more = λ l j m P u f is.
+      by-size j (3 * n)
+      (λ b. l j b P u f is)
+      (λ b. let d : j / 3 ≡ n = omega arith in absurd (Option·none-ne-some u (sym (ap (ruleOf P) d ∙ h P f) ∙ is)));
+}
 
 -- ── the numbers behind the rules of the file have no rule ──
 no-place : (q : List ℕ) (m : ℕ) (u : Option Rule) → Entry q m u → placeAt q m ≡ 0 → u ≡ none
@@ -136,8 +147,10 @@ module _ (q : List ℕ) (nr : ℕ) (ready : Asks (RulesIn q nr)) where
       let none-there : ruleOf Q m ≡ none = of-own Q m (omega arith) ∙ at-outside (Q .rules) (m - builtinCount) (omega (arith, g .count)) in
       no-place q m (ruleOf P m) (f .rules m l) (subst (Entry q m) none-there (g .body .rules m l))
 
-  pub listing-all : (t : List ℕ) (n : ℕ) → builtinCount + nr ≤ n → Listing q t (listCount * n) → Listing q t entryCount
-  listing-all t n all l j h P u f is =
+  pub listing-all : (p : List ℕ) (n : ℕ) → bodyOf p ≡ q → builtinCount + nr ≤ n → Listing p (listCount * n) → Listing p entryCount
+  listing-all p n e all l j h P u f is =
       by-size j (3 * n)
       (λ b. l j b P u f is)
-      (λ b. absurd (Option·none-ne-some u (sym (none-more (j / 3) (omega arith) (omega arith) P f) ∙ is)))
+      (λ b.
+      let f′ : Body q P = subst (λ (c : List ℕ). Body c P) e f in
+      absurd (Option·none-ne-some u (sym (none-more (j / 3) (omega arith) (omega arith) P f′) ∙ is)))

@@ -22,11 +22,8 @@ use Rattle.protocol.specs.Places.{Here, placeOf, factPlace}
 use Rattle.protocol.specs.Places.Ends.{fact-got}
 use Rattle.rules.specs.Numbered.{ruleOf}
 use Rattle.prepared.specs.Sections.{slotCount, ruleCount, aritiesAt, linearsAt, cellAt, bodyLength, placeBase}
-use Rattle.prepared.specs.Prepared.{slotsOf, aritiesOf, placeAt, RuleAt, Some, Entry, Body, factsIn, ListAt, factPlaceIn}
+use Rattle.prepared.specs.Prepared.{slotsOf, aritiesOf, placeAt, RuleAt, Some, Entry, Body, bodyOf, factsIn, ListAt, factPlaceIn}
 use Rattle.prepared.specs.Prepared.Laws.{arities-length}
-
-abbrev pub bodyOf : List ℕ → List ℕ
-bodyOf p = take bodyLength p
 
 -- ── what reads in a list reads in a longer one ──
 module _ {A : Type 0} (p : List ℕ) (n : ℕ) (q r : ℕ → Read A) (Good : A → Type 0) (code : A → List ℕ) (here : Exact (take n p) q Good code)
@@ -67,15 +64,15 @@ rule-some u =
     )
 
 -- ── the body ──
-module _ (p : List ℕ) (bytes : Bytes p) (long : bodyLength ≤ length p) (P : Protocol) (f : Body (bodyOf p) P) where
-  pub front-bytes : Bytes (bodyOf p)
-  front-bytes i =
-      by-size i bodyLength
-      (λ h. omega (arith, getD-take bodyLength p i 0 h, bytes i))
-      (λ h.
-      let l : length (bodyOf p) ≤ i = omega (arith, length-take-le bodyLength p long) in
-      omega (arith, List·getD-eq-default (bodyOf p) 0 l))
+pub front-bytes : (p : List ℕ) → Bytes p → bodyLength ≤ length p → Bytes (bodyOf p)
+front-bytes p bytes long i =
+    by-size i bodyLength
+    (λ h. omega (arith, getD-take bodyLength p i 0 h, bytes i))
+    (λ h.
+    let l : length (bodyOf p) ≤ i = omega (arith, length-take-le bodyLength p long) in
+    omega (arith, List·getD-eq-default (bodyOf p) 0 l))
 
+module _ (p : List ℕ) (bytes : Bytes p) (long : bodyLength ≤ length p) (P : Protocol) (f : Body (bodyOf p) P) where
   slots-same : slotsOf (bodyOf p) ≡ slotsOf p
   slots-same = take-take slotCount bodyLength p (omega arith)
 
@@ -89,7 +86,7 @@ module _ (p : List ℕ) (bytes : Bytes p) (long : bodyLength ≤ length p) (P : 
   rule-longer u place h =
       subst₂ (λ (a b : List ℕ). Here (rule p a b) u place) slots-same arities-same
       (here-longer p bodyLength (rule (bodyOf p) (slotsOf (bodyOf p)) (aritiesOf (bodyOf p))) (rule p (slotsOf (bodyOf p)) (aritiesOf (bodyOf p))) _ encodeRule
-      (rule-exact (bodyOf p) front-bytes (slotsOf (bodyOf p)) (aritiesOf (bodyOf p)) (omega (arith, few)))
+      (rule-exact (bodyOf p) (front-bytes p bytes long) (slotsOf (bodyOf p)) (aritiesOf (bodyOf p)) (omega (arith, few)))
       (rule-exact p bytes (slotsOf (bodyOf p)) (aritiesOf (bodyOf p)) (omega (arith, few))) u (rule-some u) place h)
 
   pub list-longer : (u : Rule) (list place : ℕ) → ListAt (bodyOf p) u list place → ListAt p u list place
@@ -97,7 +94,7 @@ module _ (p : List ℕ) (bytes : Bytes p) (long : bodyLength ≤ length p) (P : 
       subst₂ (λ (a b : List ℕ). Here (facts p a b) (listOf list u) place) slots-same arities-same
       (here-longer p bodyLength (facts (bodyOf p) (slotsOf (bodyOf p)) (aritiesOf (bodyOf p))) (facts p (slotsOf (bodyOf p)) (aritiesOf (bodyOf p))) _
       (listed encodeFact)
-      (facts-exact (bodyOf p) front-bytes (slotsOf (bodyOf p)) (aritiesOf (bodyOf p)) (omega (arith, few)))
+      (facts-exact (bodyOf p) (front-bytes p bytes long) (slotsOf (bodyOf p)) (aritiesOf (bodyOf p)) (omega (arith, few)))
       (facts-exact p bytes (slotsOf (bodyOf p)) (aritiesOf (bodyOf p)) (omega (arith, few))) (listOf list u) (list-some (listOf list u)) place h)
 
   -- a fact of a list stands at the same place
@@ -109,15 +106,16 @@ module _ (p : List ℕ) (bytes : Bytes p) (long : bodyLength ≤ length p) (P : 
       let a : List ℕ = slotsOf q in
       let b : List ℕ = aritiesOf q in
       cut-got (below q factLimit place) _ (h .reads) (λ n d hn hm.
-      let s = below-exact q front-bytes factLimit .form n place d hn .1 in
+      let s = below-exact q (front-bytes p bytes long) factLimit .form n place d hn .1 in
       let inside : d ≤ length q = stands-within s (groups-some n) in
       let there : below p factLimit place ≡ got n d =
-      reads-longer p bodyLength (below q factLimit) (below p factLimit) _ groups (below-exact q front-bytes factLimit) (below-exact p bytes factLimit) n place d
+      reads-longer p bodyLength (below q factLimit) (below p factLimit) _ groups (below-exact q (front-bytes p bytes long) factLimit)
+      (below-exact p bytes factLimit) n place d
       (omega (arith, s .ends)) hn in
       let r = many-nth (fact q a b) n d (h .next) i fs hm (omega (arith, many-length (fact q a b) n d (h .next) fs hm)) in
       let before : many (fact p a b) i d ≡ got (r .front) (r .place) =
       reads-longer p bodyLength (many (fact q a b) i) (many (fact p a b) i) _ (flat encodeFact)
-      (many-exact q (fact q a b) _ encodeFact (fact-exact q front-bytes a b (omega (arith, few))) i)
+      (many-exact q (fact q a b) _ encodeFact (fact-exact q (front-bytes p bytes long) a b (omega (arith, few))) i)
       (many-exact p (fact p a b) _ encodeFact (fact-exact p bytes a b (omega (arith, few))) i) (r .front) d (r .place) inside (r .before) in
       fact-got q a b place i hn ∙ ap placeOf (r .before) ∙ sym (fact-got p a b place i there ∙ ap placeOf before)
       ∙ ap₂ (λ (x y : List ℕ). factPlace p x y place i) slots-same arities-same)

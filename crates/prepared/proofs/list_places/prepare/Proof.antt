@@ -1,11 +1,12 @@
--- The body is prepared in the slice's front and the table copied behind it, so both stand; the verdict is the body's.
-use Rattle.prepared.specs.Lists.Whole.{joined-long, joined-part, joined-as, joined-ready, all-prepared}
-use Rattle.prepared.specs.Sections.{bodyLength}
-use Rattle.rules.specs.Fit.Laws.{verdictOf}
-use lib.Seq.{length-take-le}
-use native.Mathlib.Omega.{arith}
-use mathlib.Core.Path.{refl, ap, sym, _∙_}
+-- The body is prepared in the slice's front and the table entered behind it, which leaves the body; the verdict is the body's.
 use denote.Ref.{now}
+use mathlib.Core.Path.{ap, sym, _∙_, subst}
+use native.Mathlib.Omega.{arith}
+use lib.Seq.{length-take-le}
+use Rattle.rules.specs.Fit.Laws.{verdictOf}
+use Rattle.prepared.specs.Sections.{bodyLength}
+use Rattle.prepared.specs.Filling.{BodyAs}
+use Rattle.prepared.specs.Lists.Whole.{joined-long, joined-as, joined-ready, all-prepared}
 use borrow.Author.Needs.{needs}
 use Rattle.prepared.proofs.list_places.prepare.Statement.{statement}
 use Rattle.prepared.proofs.list_places.prepare.Tie as tie
@@ -15,55 +16,27 @@ slice-relend-prefix-prepare-body c = search needs
 
 slice-aggregate-prepare-body : tie.Need-slice-aggregate-prepare-body
 slice-aggregate-prepare-body c =
-    sym (length-take-le bodyLength (now (c .before .before .before .args .p)) (omega arith))
+    let c3 = c .before .before .before in
+    sym (length-take-le bodyLength (now (c3 .args .p)) (omega (arith, c3 .pre .1)))
 
 prepare-body-requires : tie.Need-prepare-body-requires
 prepare-body-requires c κs =
     let c3 = c .before .before .before in
-    (c3 .pre .0, length-take-le bodyLength (now (c3 .args .p)) (omega arith))
+    (c3 .pre .0, length-take-le bodyLength (now (c3 .args .p)) (omega (arith, c3 .pre .1)))
 
 enum-known-ns : tie.Need-enum-known-ns
 enum-known-ns c = search needs
 
-slice-reshare-prefix-list-table : tie.Need-slice-reshare-prefix-list-table
-slice-reshare-prefix-list-table c = search needs
-
-slice-aggregate-list-table : tie.Need-slice-aggregate-list-table
-slice-aggregate-list-table c =
+enter-table-requires : tie.Need-enter-table-requires
+enter-table-requires c κs =
     let c6 = c .before .before .before .before .before .before in
     let c10 = c6 .before .before .before .before in
-    joined-part (c6 .prepare-body .last .1 .0) (now (c10 .args .p)) (omega (
-      arith,
-      c6 .prepare-body .kept .1 .0,
-      length-take-le bodyLength (now (c10 .args .p))
-          (omega arith),
-    )) (c10 .pre .1)
-
-slice-aggregate-list-table-2 : tie.Need-slice-aggregate-list-table-2
-slice-aggregate-list-table-2 c = search needs
-
-list-table-requires : tie.Need-list-table-requires
-list-table-requires c κs =
-    let c3 = c .before .before .before in
-    let c7 = c3 .before .before .before .before in
-    let c11 = c7 .before .before .before .before in
-    let n = joined-part (c7 .prepare-body .last .1 .0) (now (c11 .args .p)) (omega
-    (arith, c7 .prepare-body .kept .1 .0, length-take-le bodyLength (now (c11 .args .p)) (omega arith))) (c11 .pre .1) in (
-      joined-ready (c7 .prepare-body .last .1 .0) (now (c11 .args .p)) (omega (
-        arith,
-        c7 .prepare-body .kept .1 .0,
-        length-take-le bodyLength
-            (now (c11 .args .p)) (omega arith),
-      )) (c11 .pre .1) (now (c11 .args .file)) (c3 .ns .given .1) (c7 .prepare-body .ensures .1),
-      sym n,
-      refl,
+    let q = c6 .prepare-body .last .1 .0 in let n = length-take-le bodyLength (now (c10 .args .p)) (omega (arith, c10 .pre .1)) in (
+      joined-ready q (now (c10 .args .p)) (omega (arith, c6 .prepare-body .kept .1 .0, n)) (c10 .pre .1) (now (c10 .args .file))
+          (c .before .before .ns .given .1) (c6 .prepare-body .ensures .1),
+      joined-long q (now (c10 .args .p)) (omega (arith, c6 .prepare-body .kept .1 .0, n))
+          (c10 .pre .1),
     )
-
-slice-aggregate-copy-into : tie.Need-slice-aggregate-copy-into
-slice-aggregate-copy-into c = search needs
-
-copy-into-requires : tie.Need-copy-into-requires
-copy-into-requires c κs = search needs
 
 enum-known-k : tie.Need-enum-known-k
 enum-known-k c = search needs
@@ -76,25 +49,17 @@ same-length c = search needs
 
 returns : tie.Need-returns
 returns c =
-    let c6 = c .before .before .before .before .before .before in
-    let c10 = c6 .before .before .before .before in
-    let c14 = c10 .before .before .before .before in
-    let c18 = c14 .before .before .before .before in (
-      sym (ap verdictOf (c10 .ns .given .1)) ∙ c14 .prepare-body .ensures .0,
-      all-prepared (now (c18 .args .file)) _ _ _ _
-          (joined-long (c14 .prepare-body .last .1 .0) (now (c18 .args .p)) (omega (
-            arith,
-            c14 .prepare-body .kept .1 .0,
-            length-take-le bodyLength
-                (now (c18 .args .p)) (omega arith),
-          )) (c18 .pre .1)) refl (search needs) (c6 .list-table .ensures) (c .before .before .copy-into .ensures .1)
-          (joined-as (c14 .prepare-body .last .1 .0) (now (c18 .args .p)) (omega (
-            arith,
-            c14 .prepare-body .kept .1 .0,
-            length-take-le bodyLength
-                (now (c18 .args .p)) (omega arith),
-          )) (c18 .pre .1) (now (c18 .args .file)) (c10 .ns .given .1) (c14 .prepare-body .ensures .1))
-          (λ k. c .slice-known3 .given k .fits),
+    let c5 = c .before .before .before .before .before in
+    let c9 = c5 .before .before .before .before in
+    let c13 = c9 .before .before .before .before in
+    let q = c9 .prepare-body .last .1 .0 in let n = length-take-le bodyLength (now (c13 .args .p)) (omega (arith, c13 .pre .1)) in let l = joined-long q
+    (now (c13 .args .p)) (omega (arith, c9 .prepare-body .kept .1 .0, n)) (c13 .pre .1) in (
+      sym (ap verdictOf (c5 .ns .given .1)) ∙ c9 .prepare-body .ensures .0,
+      all-prepared (now (c13 .args .file)) _
+          (omega (arith, c .before .before .enter-table .kept, l)) (λ k. c .slice-known3 .given k .fits)
+          (subst (BodyAs (now (c13 .args .file)) _) (sym (c .before .before .enter-table .ensures .body))
+          (joined-as q (now (c13 .args .p)) (omega (arith, c9 .prepare-body .kept .1 .0, n)) (c13 .pre .1) (now (c13 .args .file)) (c5 .ns .given .1)
+          (c9 .prepare-body .ensures .1))) (c .before .before .enter-table .ensures .all),
     )
 
 same-length-2 : tie.Need-same-length-2
@@ -119,12 +84,7 @@ prepare-spec =
     slice-aggregate-prepare-body
     prepare-body-requires
     enum-known-ns
-    slice-reshare-prefix-list-table
-    slice-aggregate-list-table
-    slice-aggregate-list-table-2
-    list-table-requires
-    slice-aggregate-copy-into
-    copy-into-requires
+    enter-table-requires
     enum-known-k
     enum-told
     same-length
