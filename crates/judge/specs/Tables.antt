@@ -73,10 +73,3 @@ pub record Of (starts : List ℕ) (node e : ℕ) : Type 0 where
   pub inside : node + 1 < length starts
   pub begun : getD starts node 0 ≤ e
   pub before : e < getD starts (node + 1) 0
-
--- r is the first entry of that symbol from e on, or the count where there is none
-pub record Next (symbols : List ℕ) (symbol e count r : ℕ) : Type 0 where
-  pub later : e ≤ r
-  pub within : r ≤ count
-  pub others : (i : ℕ) → e ≤ i → i < r → ¬ (getD symbols i 0 ≡ symbol)
-  pub here : r < count → getD symbols r 0 ≡ symbol

@@ -2,7 +2,8 @@
 ghost use mathlib.Core.Path.{_≡_};
 ghost use Prim.Native.Nat.{_≤_, _<_};
 ghost use lib.ListN.{length};
-ghost use Rattle.judge.specs.Tables.{total, Past, Of, Next};
+ghost use Rattle.lists.specs.Scan.{Next};
+ghost use Rattle.judge.specs.Tables.{total, Past, Of};
 use crate::reading;
 
 // How many there are.

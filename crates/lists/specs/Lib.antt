@@ -11,6 +11,8 @@ pub mod All
 pub mod Some
 -- a test of the numbers below a bound: whether it holds of all, and the least of which it holds
 pub mod Below
+-- the next place that has a number
+pub mod Scan
 -- what a contract asks and promises of the trees at a place
 pub mod Asks
 -- answers that decide a statement

@@ -1,15 +1,17 @@
 // The free conclusions of the nodes so far, an entry each: 0 where none is free, else the fact's mark and one.
 ghost use mathlib.Core.Path.{_≡_};
 ghost use mathlib.Core.List.{List};
-ghost use Prim.Native.Nat.{ℕ, _*_, _+_, _<_};
+ghost use Prim.Native.Nat.{ℕ, _*_, _+_, _≤_, _<_};
 ghost use lib.ListN.{length, set};
 ghost use Rattle.lists.specs.Asks.{Asks₂, Promises₂, Asks₃, Promises₃};
 ghost use Rattle.lists.specs.Choice.{pick};
+ghost use Rattle.lists.specs.Scan.{Next};
 ghost use Rattle.protocol.specs.Protocol.{Protocol};
 ghost use Rattle.steps.specs.Nodes.{Node};
 ghost use Rattle.steps.specs.Facts.{isLinear};
 ghost use Rattle.facts.specs.Writing.{factRoom};
 ghost use Rattle.facts.specs.Calls.{Room, ListedFact, factAt};
+ghost use Rattle.graph.specs.Uses.{countTable};
 ghost use Rattle.writer.specs.Free.{entryId};
 ghost use Rattle.writer.specs.Search.{Searching, Found, AtNode, Entered};
 use facts::compare;
@@ -45,6 +47,21 @@ fn conclusion_of(entry: usize) -> FactId
     }
 }
 
+// The next entry of a number, from a place on; the end if there is none.
+fn next_marked(free: &[u32], wanted: u32, from: usize, end: usize) -> usize
+    requires { ⌜ (from ≤ end) × (end ≤ length (now free)) × (end ≤ countTable) ⌝ }
+    ensures { λ r. ⌜ Next (now (free .entry)) wanted from end r ⌝ }
+{
+    let mut v = from;
+    while v < end {
+        if free[v] == wanted {
+            return v;
+        }
+        v += 1;
+    }
+    v
+}
+
 // The first free conclusion of an earlier node that is the same fact as x, which is kept in the work slice. Facts are compared only where their
 // marks agree.
 pub fn find_source(
@@ -61,14 +78,12 @@ pub fn find_source(
 {
     let end = figures::MOST_FACTS * x.node;
     let wanted = kept.mark + 1;
-    let mut v: usize = 0;
+    let mut v = next_marked(free, wanted, 0, end);
     while v < end {
-        if free[v] == wanted {
-            if compare::same_as_kept(work, p, s, nodes, kept, conclusion_of(v)) {
-                return Source::At(v);
-            }
+        if compare::same_as_kept(work, p, s, nodes, kept, conclusion_of(v)) {
+            return Source::At(v);
         }
-        v += 1;
+        v = next_marked(free, wanted, v + 1, end);
     }
     Source::Nothing
 }

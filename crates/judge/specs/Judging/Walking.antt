@@ -19,7 +19,8 @@ use Rattle.judge.specs.declared.reading.Coded.{Coded}
 use Rattle.judge.specs.declared.reading.Guard.{Guard}
 use Rattle.judge.specs.declared.matching.Matched.{Matched}
 use Rattle.judge.specs.declared.judging.Judged.{Judged}
-use Rattle.judge.specs.Tables.{entryOf, rest, total, Shape, Past, Of, Next}
+use Rattle.judge.specs.Tables.{entryOf, rest, total, Shape, Past, Of}
+use Rattle.lists.specs.Scan.{Next}
 use Rattle.judge.specs.Tables.Entries.{rest-begins, rest-at, rest-ends, rest-next}
 use Rattle.judge.specs.Bindings.{bound}
 use Rattle.judge.specs.Folding.{join, join-assoc, join-unit, join-begin, over, over-any, over-all, over-miss, over-hit}

@@ -9,10 +9,11 @@ use lib.ListN.{length, getD, drop}
 use lib.Seq.{drop-append-add, drop-nil}
 use Rattle.lists.specs.Choice.{by-size}
 use Rattle.lists.specs.Lists.{row}
+use Rattle.lists.specs.Scan.{Next}
 use Rattle.lists.specs.Lists.Laws.{row-same}
 use Rattle.property.specs.Meaning.{Fact, Entry, Trace}
 use Rattle.property.specs.Judge.{entriesFrom}
-use Rattle.judge.specs.Tables.{factOf, factsAt, traceOf, entryOf, rest, total, Shape, Past, Of, Next}
+use Rattle.judge.specs.Tables.{factOf, factsAt, traceOf, entryOf, rest, total, Shape, Past, Of}
 
 -- the places from s on ascend
 abbrev Ascends : ℕ → List ℕ → Type 0
@@ -222,28 +223,3 @@ node-next p l h = record { inside = node-inside p l; begun = h }
 
 pub node-found : {starts : List ℕ} {node e : ℕ} → Past starts node e → e < total starts → e < getD starts (node + 1) 0 → Of starts node e
 node-found p l h = record { inside = node-inside p l; begun = p .begun; before = h }
-
--- a scan from a place has passed entries of other symbols only
-pub record Scanning (symbols : List ℕ) (symbol from count e : ℕ) : Type 0 where
-  pub later : from ≤ e
-  pub within : e ≤ count
-  pub others : (i : ℕ) → from ≤ i → i < e → ¬ (getD symbols i 0 ≡ symbol)
-
-module _ {symbols : List ℕ} {symbol from count : ℕ} where
-  pub scanning-begins : from ≤ count → Scanning symbols symbol from count from
-  scanning-begins l = record { later = omega arith; within = l; others = λ i a b. absurd (omega arith) }
-
-  pub scanning-next :
-      {e : ℕ} → e < count → Scanning symbols symbol from count e → ¬ (getD symbols e 0 ≡ symbol)
-      → Scanning symbols symbol from count (e + 1)
-  scanning-next {e} l w d = record {
-    later = omega (arith, w .later);
-    within = omega arith;
-    others = λ i a b. by-size i e (λ h. w .others i a h) (λ h. let z : i ≡ e = omega arith in λ q. d (ap (λ (j : ℕ). getD symbols j 0) (sym z) ∙ q));
-  }
-
-  pub scanning-found : {e : ℕ} → e < count → Scanning symbols symbol from count e → getD symbols e 0 ≡ symbol → Next symbols symbol from count e
-  scanning-found l w q = record { later = w .later; within = w .within; others = w .others; here = λ _. q }
-
-  pub scanning-ends : {e : ℕ} → ¬ (e < count) → Scanning symbols symbol from count e → Next symbols symbol from count e
-  scanning-ends l w = record { later = w .later; within = w .within; others = w .others; here = λ h. absurd (l h) }

@@ -1,5 +1,5 @@
 -- The loops that look for a source and that enter conclusions, turn by turn.
-use Prim.Native.Nat.{ℕ, suc, zero, _+_, _*_, _/_, _%_, _≤_, _<_}
+use Prim.Native.Nat.{ℕ, suc, zero, _+_, _-_, _*_, _/_, _%_, _≤_, _<_}
 use mathlib.Core.List.{List, [], _∷_, _++_, append-assoc, append-nil}
 use mathlib.Core.Bool.{Bool, true, false}
 use mathlib.Core.Path.{_≡_, refl, ap, ap₂, sym, _∙_, subst, subst₂}
@@ -7,6 +7,7 @@ use native.Mathlib.Omega.{arith}
 use lib.ListN.{length, getD, set, take, length-set}
 use lib.Seq.{getD-set-same, getD-set-other, take-suc, take-all, length-take-le}
 use Rattle.lists.specs.Choice.{by-order}
+use Rattle.lists.specs.Scan.{Next}
 use Rattle.lists.specs.Asks.{Promises₃}
 use Rattle.lists.specs.All.Laws.{all-inside}
 use Rattle.rewriting.specs.Places.{Placed, placed}
@@ -68,7 +69,7 @@ module _ {p s nodes free : List ℕ} {a : FactId} {work : List ℕ} {kept : Kept
   search-end = omega (arith, h .inside, h .right .stand .few)
 
   -- an entry with another mark
-  pub pass-over : (v : ℕ) → (getD free v 0 ≡ mark + 1 → ⊥) → None v → None (v + 1)
+  pass-over : (v : ℕ) → (getD free v 0 ≡ mark + 1 → ⊥) → None v → None (v + 1)
   pass-over v n none = next v (go (getD free v 0) refl)
     where
       go : (m : ℕ) → getD free v 0 ≡ m → None (suc v)
@@ -77,6 +78,15 @@ module _ {p s nodes free : List ℕ} {a : FactId} {work : List ℕ} {kept : Kept
           none-differs (entryPlaced P xs) (isSame P xs a) free v
           (marks-differ (factIn P xs a) (entryFact P xs v)
           (λ same. n (let d : mark ≡ m = h .keeps .mark-is ∙ same ∙ sym (h .marked .each v m e .mark) in omega (arith, e)))) none
+
+  -- up to the next one with its mark
+  pub pass-to : (v r end : ℕ) → Next free (mark + 1) v end r → None v → None r
+  pass-to v r end n none = let e : (r - v) + v ≡ r = omega (arith, n .later) in subst None e (go (r - v) (omega (arith, n .later)))
+    where
+      go : (k : ℕ) → k + v ≤ r → None (k + v)
+      go zero l = let e : v ≡ 0 + v = omega arith in subst None e none
+      go (suc k) l = let e : k + v + 1 ≡ suc k + v = omega arith in subst None e (pass-over (k + v) (n .others (k + v) (omega arith) (omega arith))
+          (go k (omega arith)))
 
   module _ (v : ℕ) (agree : getD free v 0 ≡ mark + 1) where
     marked-entry : getD free v 0 ≡ suc mark

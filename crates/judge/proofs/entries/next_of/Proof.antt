@@ -1,6 +1,6 @@
 -- The invariant is that no entry between `from` and e has the symbol.
 use borrow.Author.Needs.{needs}
-use Rattle.judge.specs.Tables.Entries.{Scanning, scanning-begins, scanning-next, scanning-found, scanning-ends}
+use Rattle.lists.specs.Scan.{Scanning, scanning-begins, scanning-next, scanning-found, scanning-ends}
 use native.Mathlib.Omega.{arith}
 use Prim.Native.Nat.{_-_}
 use mathlib.Core.Path.{sym, _∙_}

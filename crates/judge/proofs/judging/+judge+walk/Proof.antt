@@ -2,7 +2,8 @@
 use Rattle.judge.specs.Judging.Returns.{body-formed, body-fits, body-ends}
 use Rattle.judge.specs.Judging.Returns.{fits-inside, says-false, says-atom, fits-left, fits-right, says-pair, fits-body, says-quant}
 use Rattle.judge.specs.Judging.Walking.{Walking, walking-begins, walking-behind, walking-ends, walking-miss, walking-match}
-use Rattle.judge.specs.Tables.{total, Next}
+use Rattle.judge.specs.Tables.{total}
+use Rattle.lists.specs.Scan.{Next}
 use lib.ListN.{length}
 use native.Mathlib.Omega.{arith}
 use Prim.Native.Nat.{ℕ, _<_, _+_, _-_, _*_}

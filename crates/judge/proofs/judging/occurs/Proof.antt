@@ -1,6 +1,7 @@
 -- The invariant is that `found` tells of the entries before e; entries of another symbol cannot be the fact.
 use Rattle.judge.specs.Judging.Walking.{Occurring, occurring-begins, occurring-next, occurring-ends}
-use Rattle.judge.specs.Tables.{total, Next}
+use Rattle.judge.specs.Tables.{total}
+use Rattle.lists.specs.Scan.{Next}
 use native.Mathlib.Omega.{arith}
 use Prim.Native.Nat.{ℕ, _+_, _-_}
 use mathlib.Core.Path.{subst}
