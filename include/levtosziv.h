@@ -4,7 +4,7 @@
  * A slice is a pointer and a length; a length of 0 may come with any pointer. The slices of one call do not overlap, and nothing else
  * reads or writes them while the call runs. A work area of 65,536 bytes is long enough for every call.
  *
- * Stack that a call was measured to need at most (./bench): check 765 KB, draw 277 KB, canonical form 111 KB. A thread needs that much.
+ * Stack that a call was measured to need at most (./bench): check 573 KB, draw 281 KB, canonical form 111 KB. A thread needs that much.
  *
  * The answer packs the outcome. Bits 56 up: 0 refused, 1 attack, 2 run, 3 written. Refused: bits 32 to 39 the number of document 01's
  * refusal table, bits 0 to 31 the item. Attack and run: bits 32 to 47 the nodes, bits 16 to 31 the nodes with an action, bits 0 to 15
