@@ -4,6 +4,7 @@ use mathlib.Core.List.{List}
 use mathlib.Core.Path.{_≡_, refl, ap, ap₂, sym, _∙_, subst}
 use native.Mathlib.Omega.{arith}
 use lib.ListN.{length, getD, length-append}
+use lib.Seq.{length-take-le}
 use Rattle.protocol.specs.Figures.{mostFacts, factLimit}
 use Rattle.lists.specs.Asks.{Asks}
 use Rattle.lists.specs.Choice.{by-size}
@@ -21,7 +22,7 @@ use Rattle.prepared.specs.Sections.{bodyLength, preparedLength, entryCou
 use Rattle.prepared.specs.Pairs.{paired-other, paired-front, pair-read}
 use Rattle.prepared.specs.Prepared.{slotsOf, aritiesOf, bodyOf, entryAt, factIn, factsIn, factPlaceIn}
 use Rattle.prepared.specs.Prepared.Laws.{arities-length, list-few}
-use Rattle.prepared.specs.Prepared.Longer.{list-some}
+use Rattle.prepared.specs.Prepared.Longer.{front-bytes, list-some}
 use Rattle.prepared.specs.Lists.{FirstFacts, entered, FactsEntered, ListEntered}
 
 -- ── one entry ──
@@ -38,9 +39,18 @@ module _ (p : List ℕ) (k v : ℕ) where
       (paired-other p (entryPlace k) v (entryPlace j + 1) (λ e. omega arith) (λ e. ne (omega arith)))
 
 -- ── the facts of the list at a place ──
-module _ (q : List ℕ) (bytes : Bytes q) (long : length q ≡ bodyLength) where
+module _ (p : List ℕ) (bytes : Bytes p) (long : length p ≡ preparedLength) where
+  abbrev q : List ℕ
+  q = bodyOf p
+
+  front : Bytes q
+  front = front-bytes p bytes (omega arith)
+
+  front-long : length q ≡ bodyLength
+  front-long = length-take-le bodyLength p (omega arith)
+
   few : length (aritiesOf q) ≤ 256
-  few = omega (arith, arities-length q (omega arith))
+  few = omega (arith, arities-length q (omega (arith, front-long)))
 
   fact-some : (f : Fact) → 0 < length (encodeFact f)
   fact-some f = omega (arith, groups-some (f .symbol), length-append (groups (f .symbol)) (flat encode (f .terms)))
@@ -48,14 +58,14 @@ module _ (q : List ℕ) (bytes : Bytes q) (long : length q ≡ bodyLength) where
   module _ (list : ℕ) (fs : List Fact) (h : Here (factsIn q) fs list) where
     pub list-small : list < placeLimit
     list-small =
-        let s = facts-exact q bytes (slotsOf q) (aritiesOf q) few .form fs list (h .next) (h .reads) .1 in
-        omega (arith, s .ends, stands-within s (list-some fs))
+        let s = facts-exact q front (slotsOf q) (aritiesOf q) few .form fs list (h .next) (h .reads) .1 in
+        omega (arith, front-long, s .ends, stands-within s (list-some fs))
 
     fact-small : (i : ℕ) → i < length fs → factPlaceIn q list i < placeLimit
     fact-small i l =
         let x = fact-law q (slotsOf q) (aritiesOf q) list fs h i l in
-        let s = fact-exact q bytes (slotsOf q) (aritiesOf q) few .form (getD fs i noFact) (factPlaceIn q list i) (x .next) (x .reads) .1 in
-        omega (arith, s .ends, stands-within s (fact-some (getD fs i noFact)))
+        let s = fact-exact q front (slotsOf q) (aritiesOf q) few .form (getD fs i noFact) (factPlaceIn q list i) (x .next) (x .reads) .1 in
+        omega (arith, front-long, s .ends, stands-within s (fact-some (getD fs i noFact)))
 
   -- a loop over them
   module _ (list count : ℕ) (x : Asks (FirstFacts q list count)) where
@@ -90,23 +100,27 @@ module _ (list : ℕ) (p : List ℕ) (row : ℕ) where
       }
 
 -- ── one list ──
-module _ (q : List ℕ) (list count : ℕ) (counted : count ≡ valueOf (below q factLimit list)) where
-  count-is : (fs : List Fact) → Here (factsIn q) fs list → count ≡ length fs
-  count-is fs h = counted ∙ count-law q (slotsOf q) (aritiesOf q) list fs h
+module _ (p : List ℕ) (list count : ℕ) (counted : count ≡ valueOf (below (bodyOf p) factLimit list)) where
+  abbrev b : List ℕ
+  b = bodyOf p
 
-  pub first-facts : Asks (At (factsIn q) list) → (n : ℕ) → n ≤ count → Asks (FirstFacts q list n)
+  count-is : (fs : List Fact) → Here (factsIn b) fs list → count ≡ length fs
+  count-is fs h = counted ∙ count-law b (slotsOf b) (aritiesOf b) list fs h
+
+  pub first-facts : Asks (At (factsIn b) list) → (n : ℕ) → n ≤ count → Asks (FirstFacts b list n)
   first-facts (fs, h) n l = (fs, record { here = h; enough = omega (arith, count-is fs h) })
 
-  pub count-few : Bytes q → length q ≡ bodyLength → Asks (At (factsIn q) list) → count ≤ mostFacts
-  count-few bytes long (fs, h) = omega (arith, count-is fs h, list-few q bytes (omega arith) list fs h)
+  pub list-behind : Asks (At (factsIn b) list) → (r : ℕ) → r ≡ factPlaceIn b list count → r ≡ placeOf (factsIn b list)
+  list-behind (fs, h) r e = e ∙ ap (factPlaceIn b list) (count-is fs h) ∙ facts-end b (slotsOf b) (aritiesOf b) list fs h
 
-  pub last-small :
-      Bytes q → length q ≡ bodyLength → Asks (At (factsIn q) list) → (rest last : ℕ) → last ≡ factPlaceIn q list rest → rest < count → last < placeLimit
-  last-small bytes long x rest last e l =
-      omega (arith, facts-small q bytes long list count (first-facts x count (omega arith)) rest l)
+  module _ (bytes : Bytes p) (long : length p ≡ preparedLength) (x : Asks (At (factsIn b) list)) where
+    pub count-few : count ≤ mostFacts
+    count-few =
+        let (fs, h) = x in
+        omega (arith, count-is fs h, list-few b (front p bytes long) (omega (arith, front-long p bytes long)) list fs h)
 
-  pub list-behind : Asks (At (factsIn q) list) → (r : ℕ) → r ≡ factPlaceIn q list count → r ≡ placeOf (factsIn q list)
-  list-behind (fs, h) r e = e ∙ ap (factPlaceIn q list) (count-is fs h) ∙ facts-end q (slotsOf q) (aritiesOf q) list fs h
+    pub last-small : (rest last : ℕ) → last ≡ factPlaceIn b list rest → rest < count → last < placeLimit
+    last-small rest last e l = omega (arith, facts-small p bytes long list count (first-facts x count (omega arith)) rest l)
 
 -- entry k, and then the facts
 module _ (list count : ℕ) (p p₁ : List ℕ) (counted : count ≡ valueOf (below (bodyOf p) factLimit list)) (k : ℕ) (small : k < entryCount)
@@ -122,7 +136,7 @@ module _ (list count : ℕ) (p p₁ : List ℕ) (counted : count ≡ valueOf (be
   list-entered p₂ f = record {
     body = f .body ∙ first-body;
     is = f .before k (omega arith) ∙ ap (λ (s : List ℕ). entryAt s k) h₁ ∙ entry-read p k list (omega arith) long;
-    each = λ fs h i l. f .each i (omega (arith, count-is (bodyOf p) list count counted fs h)) ∙ ap (λ (q : List ℕ). factPlaceIn q list i) first-body;
+    each = λ fs h i l. f .each i (omega (arith, count-is p list count counted fs h)) ∙ ap (λ (q : List ℕ). factPlaceIn q list i) first-body;
     lists-kept = λ j l. f .before j (omega arith) ∙ kept j (λ e. omega arith);
     facts-kept = λ j a b. f .before j b ∙ kept j (λ e. omega arith);
   }

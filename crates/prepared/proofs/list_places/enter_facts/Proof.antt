@@ -10,7 +10,6 @@ use mathlib.Core.List.{List}
 use Prim.Native.Nat.{_-_, _≤_}
 use Rattle.protocol.specs.Places.{placeOf}
 use Rattle.prepared.specs.Sections.{bodyLength, preparedLength}
-use Rattle.prepared.specs.Prepared.Longer.{front-bytes}
 use Rattle.prepared.specs.Prepared.{bodyOf, factIn, factPlaceIn}
 use Rattle.prepared.specs.Lists.Entries.{facts-none, facts-small, facts-next, facts-more}
 use Rattle.prepared.specs.Lists.{FactsEntered}
@@ -51,9 +50,8 @@ put-entry-requires c κs =
       omega (
         arith,
         c .before .before .loop .inv .2,
-        facts-small (bodyOf (now (c6 .args .p)))
-            (front-bytes (now (c6 .args .p)) (λ k. c5 .slice-known .given k .fits) (omega (arith, c6 .pre .1)))
-            (length-take-le bodyLength (now (c6 .args .p)) (omega (arith, c6 .pre .1))) _ _ (c6 .pre .2) _ (c .before .loop-test .taken),
+        facts-small (now (c6 .args .p)) (λ k. c5 .slice-known .given k .fits) (c6 .pre .1) _ _ (c6 .pre .2) _
+            (c .before .loop-test .taken),
       ),
     )
 
@@ -90,9 +88,8 @@ loop-again c =
     (c4 .put-entry .ensures) in (
       omega (arith, c6 .loop-test .taken),
       omega (arith, c4 .put-entry .kept, c7 .loop .inv .1),
-      facts-next
-          (bodyOf (now (c11 .args .p))) (front-bytes (now (c11 .args .p)) (λ k. c10 .slice-known .given k .fits) (omega (arith, c11 .pre .1)))
-          (length-take-le bodyLength (now (c11 .args .p)) (omega (arith, c11 .pre .1))) _ _ (c11 .pre .2) _ _ _ (c6 .loop-test .taken) (c7 .loop .inv .2)
+      facts-next (now (c11 .args .p))
+          (λ k. c10 .slice-known .given k .fits) (c11 .pre .1) _ _ (c11 .pre .2) _ _ _ (c6 .loop-test .taken) (c7 .loop .inv .2)
           (c .fact-end .ensures ∙ ap (λ (b : List ℕ). placeOf (factIn b (c7 .loop .at))) (f .body)),
       f,
     )

@@ -7,8 +7,7 @@ use mathlib.Core.List.{List}
 use Prim.Native.Nat.{ℕ}
 use Rattle.lists.specs.Asks.{Asks}
 use Rattle.prepared.specs.Sections.{bodyLength}
-use Rattle.prepared.specs.Prepared.Longer.{front-bytes}
-use Rattle.prepared.specs.Prepared.{bodyOf, factPlaceIn}
+use Rattle.prepared.specs.Prepared.{factPlaceIn}
 use Rattle.prepared.specs.Lists.Entries.{list-small, count-few, first-facts, first-body, list-behind, list-entered}
 use Rattle.prepared.specs.Lists.{FirstFacts}
 use borrow.Author.Needs.{needs}
@@ -28,13 +27,8 @@ count-of-requires c κs = search needs
 put-entry-requires : tie.Need-put-entry-requires
 put-entry-requires c κs =
     let c3 = c .before .before .before in
-    let c4 = c3 .before in (
-      omega (arith, c4 .pre .0),
-      c4 .pre .1,
-      list-small (bodyOf (now (c4 .args .p)))
-          (front-bytes (now (c4 .args .p)) (λ k. c3 .slice-known .given k .fits) (omega (arith, c4 .pre .1)))
-          (length-take-le bodyLength (now (c4 .args .p)) (omega (arith, c4 .pre .1))) _ (c4 .pre .2 .0) (c4 .pre .2 .1),
-    )
+    let c4 = c3 .before in
+    (omega (arith, c4 .pre .0), c4 .pre .1, list-small (now (c4 .args .p)) (λ k. c3 .slice-known .given k .fits) (c4 .pre .1) _ (c4 .pre .2 .0) (c4 .pre .2 .1))
 
 mul-enter-facts : tie.Need-mul-enter-facts
 mul-enter-facts c = search needs
@@ -48,14 +42,13 @@ enter-facts-requires c κs =
     let c5 = c3 .before .before in
     let c7 = c5 .before .before in
     let c8 = c7 .before in
-    let n = count-few (bodyOf (now (c8 .args .p))) _ _ (c5 .count-of .ensures) (front-bytes (now (c8 .args .p)) (λ k. c7 .slice-known .given k .fits)
-    (omega (arith, c8 .pre .1))) (length-take-le bodyLength (now (c8 .args .p)) (omega (arith, c8 .pre .1))) (c8 .pre .2) in (
+    let n = count-few (now (c8 .args .p)) _ _ (c5 .count-of .ensures) (λ k. c7 .slice-known .given k .fits) (c8 .pre .1) (c8 .pre .2) in (
       omega (arith, c8 .pre .0, n),
       omega (arith, c3 .put-entry .kept, c8 .pre .1),
       subst
           (λ (b : List ℕ). Asks (FirstFacts b (c8 .args .list) (c5 .count-of .result)))
           (sym (first-body _ _ (now (c8 .args .p)) _ (c5 .count-of .ensures) _ (c8 .pre .0) (c8 .pre .1) (c3 .put-entry .ensures)))
-          (first-facts (bodyOf (now (c8 .args .p))) _ _ (c5 .count-of .ensures) (c8 .pre .2) _ (omega arith)),
+          (first-facts (now (c8 .args .p)) _ _ (c5 .count-of .ensures) (c8 .pre .2) _ (omega arith)),
     )
 
 same-length : tie.Need-same-length
@@ -67,7 +60,7 @@ returns c =
     let c8 = c6 .before .before in
     let c11 = c8 .before .before .before in
     let e = first-body _ _ (now (c11 .args .p)) _ (c8 .count-of .ensures) _ (c11 .pre .0) (c11 .pre .1) (c6 .put-entry .ensures) in (
-      list-behind (bodyOf (now (c11 .args .p))) _ _ (c8 .count-of .ensures) (c11 .pre .2) _
+      list-behind (now (c11 .args .p)) _ _ (c8 .count-of .ensures) (c11 .pre .2) _
           (c .before .before .enter-facts .ensures .0 ∙ ap (λ (b : List ℕ). factPlaceIn b (c11 .args .list) (c8 .count-of .result)) e),
       list-entered _ _
           (now (c11 .args .p)) _ (c8 .count-of .ensures) _ (c11 .pre .0) (c11 .pre .1) (c6 .put-entry .ensures) _ (c .before .before .enter-facts .ensures .1),
