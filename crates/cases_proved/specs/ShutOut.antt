@@ -30,7 +30,8 @@ use Rattle.checker.specs.Check.{Checked, checkOutcome}
 use Rattle.checker.specs.Check.Laws.{Answers, passed-answers}
 use Rattle.checker.specs.Canonical.{canonicalOutcome, canonicalOutput}
 use Rattle.cases_proved.specs.Messages.{fn, Form, form-canon, inverse-one}
-use Rattle.cases_proved.specs.Lines.{areBytes, bytes-of, attack, run, Line, printed-protocol, printed-property, printed-graph, without-last-edge, three-nodes}
+use Rattle.cases_proved.specs.Lines.{areBytes, bytes-of, attack, run, Line}
+use Rattle.cases_proved.specs.Lines.{printed-protocol, printed-property, printed-graph, without-last-edge, three-nodes}
 use Rattle.cases_proved.specs.Lines.{facts-differ, not-earlier, received-twice, its-protocol, printed-bytes, printed-fit}
 use Rattle.cases_proved.specs.Lines as lines
 use Rattle.cases_proved.specs.Forms as forms

@@ -14,7 +14,7 @@ use Rattle.rules.specs.declared.fit.FitVerdict.{FitVerdict}
 use Rattle.rules.specs.declared.fit.FitVerdict.the-variants as jd
 use Rattle.prepared.specs.Sections.{entryCount, entryPlace, factRow}
 use Rattle.prepared.specs.Pairs.{paired}
-use Rattle.prepared.specs.Prepared.{Body, bodyOf, entryAt, factsIn, ListAt, factPlaceIn, Prepared}
+use Rattle.prepared.specs.Prepared.{Body, bodyOf, entryAt, preparedFacts, ListAt, factPlaceIn, Prepared}
 use Rattle.prepared.specs.Finding.{RuleFound}
 -- one entry, one list
 pub mod Entries
@@ -26,7 +26,7 @@ pub mod Whole
 -- ── what is asked ──
 -- so many facts are the first of the list at a place
 pub record FirstFacts (q : List ℕ) (list count : ℕ) (fs : List Fact) : Type 0 where
-  pub here : Here (factsIn q) fs list
+  pub here : Here (preparedFacts q) fs list
   pub enough : count ≤ length fs
 
 -- the rule of a number stands at a place
@@ -54,7 +54,7 @@ pub record FactsEntered (list : ℕ) (p p′ : List ℕ) (row count : ℕ) : Typ
 pub record ListEntered (list : ℕ) (p p′ : List ℕ) (k : ℕ) : Type 0 where
   pub body : bodyOf p′ ≡ bodyOf p
   pub is : entryAt p′ k ≡ list
-  pub each : (fs : List Fact) → Here (factsIn (bodyOf p)) fs list → (i : ℕ) → i < length fs → entryAt p′ (factRow k + i) ≡ factPlaceIn (bodyOf p) list i
+  pub each : (fs : List Fact) → Here (preparedFacts (bodyOf p)) fs list → (i : ℕ) → i < length fs → entryAt p′ (factRow k + i) ≡ factPlaceIn (bodyOf p) list i
   pub lists-kept : (j : ℕ) → j < k → entryAt p′ j ≡ entryAt p j
   pub facts-kept : (j : ℕ) → entryCount ≤ j → j < factRow k → entryAt p′ j ≡ entryAt p j
 

@@ -15,9 +15,6 @@ abbrev pub paired : List ℕ → ℕ → ℕ → List ℕ
 paired p at v = set (set p at (v / placeBase)) (at + 1) (v % placeBase)
 
 module _ (p : List ℕ) (at v : ℕ) where
-  pub paired-long : length (paired p at v) ≡ length p
-  paired-long = length-set (set p at (v / placeBase)) (at + 1) (v % placeBase) ∙ length-set p at (v / placeBase)
-
   -- no other byte changes
   pub paired-other : (i : ℕ) → (i ≡ at → ⊥) → (i ≡ at + 1 → ⊥) → getD (paired p at v) i 0 ≡ getD p i 0
   paired-other i a b =

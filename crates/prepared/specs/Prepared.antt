@@ -78,14 +78,14 @@ abbrev pub factEntry : List ℕ → ℕ → ℕ → ℕ → ℕ
 factEntry p n list i = entryAt p (factRow (listCount * n + list) + i)
 
 -- a fact, or the list, reads at a place under the arities that p has
-abbrev pub factIn : List ℕ → ℕ → Read Fact
-factIn p = fact p (slotsOf p) (aritiesOf p)
+abbrev pub preparedFact : List ℕ → ℕ → Read Fact
+preparedFact p = fact p (slotsOf p) (aritiesOf p)
 
-abbrev pub factsIn : List ℕ → ℕ → Read (List Fact)
-factsIn p = facts p (slotsOf p) (aritiesOf p)
+abbrev pub preparedFacts : List ℕ → ℕ → Read (List Fact)
+preparedFacts p = facts p (slotsOf p) (aritiesOf p)
 
 abbrev pub ListAt : List ℕ → Rule → ℕ → ℕ → Type 0
-ListAt p u list place = Here (factsIn p) (listOf list u) place
+ListAt p u list place = Here (preparedFacts p) (listOf list u) place
 
 -- the place of fact i of the list at a place
 abbrev pub factPlaceIn : List ℕ → ℕ → ℕ → ℕ

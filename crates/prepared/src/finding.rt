@@ -9,7 +9,7 @@ ghost use Rattle.protocol.specs.Figures.{symbolCount};
 ghost use Rattle.protocol.specs.Protocol.{Protocol};
 ghost use Rattle.protocol.specs.Places.{placeOf, valueOf, listPlace, termPlace};
 ghost use Rattle.prepared.specs.Sections.{ruleCount, bodyLength};
-ghost use Rattle.prepared.specs.Prepared.{slotsOf, aritiesOf, placeAt, Body, factIn, factPlaceIn};
+ghost use Rattle.prepared.specs.Prepared.{slotsOf, aritiesOf, placeAt, Body, preparedFact, factPlaceIn};
 ghost use Rattle.prepared.specs.Finding.{Finds};
 use crate::pairs;
 use crate::sections;
@@ -67,7 +67,7 @@ pub fn first_fact(p: &[u8], list: usize) -> usize
 // The place behind the fact at a place.
 pub fn fact_end(p: &[u8], fact: usize) -> usize
     requires { ⌜ (bodyLength ≤ length (now p)) × (length (now p) ≤ longest) ⌝ }
-    ensures { λ r. ⌜ r ≡ placeOf (factIn (now (p .entry)) fact) ⌝ }
+    ensures { λ r. ⌜ r ≡ placeOf (preparedFact (now (p .entry)) fact) ⌝ }
 {
     protocol::places::fact_end(
         p,

@@ -9,7 +9,7 @@ ghost use Rattle.protocol.specs.Places.{placeOf, At};
 ghost use Rattle.rules.specs.Fit.{judged};
 ghost use Rattle.rules.specs.Fit.Laws.{verdictOf};
 ghost use Rattle.prepared.specs.Sections.{ruleCount, entryCount, placeCount, fileLimit, preparedLength, placeLimit};
-ghost use Rattle.prepared.specs.Prepared.{Body, bodyOf, entryAt, listEntry, factEntry, factsIn, factPlaceIn};
+ghost use Rattle.prepared.specs.Prepared.{Body, bodyOf, entryAt, listEntry, factEntry, preparedFacts, factPlaceIn};
 ghost use Rattle.prepared.specs.Lists.{FirstFacts, ListsOf, RulesIn, entered, FactsEntered, ListEntered, NumberEntered, Tabled, WherePrepared};
 use crate::filling;
 use crate::finding;
@@ -45,8 +45,8 @@ fn enter_facts(p: &mut [u8], list: usize, count: usize, row: usize) -> usize
 
 // The list at a place has entry k; its facts have their row. The place behind the list.
 fn enter_list(p: &mut [u8], list: usize, k: usize) -> usize
-    requires { ⌜ (k < entryCount) × (length (now p) ≡ preparedLength) × Asks (At (factsIn (bodyOf (now p))) list) ⌝ }
-    ensures behind { λ r. ⌜ r ≡ placeOf (factsIn (bodyOf (now (p .entry))) list) ⌝ }
+    requires { ⌜ (k < entryCount) × (length (now p) ≡ preparedLength) × Asks (At (preparedFacts (bodyOf (now p))) list) ⌝ }
+    ensures behind { λ r. ⌜ r ≡ placeOf (preparedFacts (bodyOf (now (p .entry))) list) ⌝ }
     ensures done { λ r. ⌜ ListEntered list (now (p .entry)) (now (p .exit)) k ⌝ }
 {
     let count = protocol::places::count_of(&p[..sections::BODY], list);
@@ -61,7 +61,7 @@ fn enter_list(p: &mut [u8], list: usize, k: usize) -> usize
 
 // The same for a list behind which nothing is looked for: its last fact is not walked.
 fn enter_last(p: &mut [u8], list: usize, k: usize)
-    requires { ⌜ (k < entryCount) × (length (now p) ≡ preparedLength) × Asks (At (factsIn (bodyOf (now p))) list) ⌝ }
+    requires { ⌜ (k < entryCount) × (length (now p) ≡ preparedLength) × Asks (At (preparedFacts (bodyOf (now p))) list) ⌝ }
     ensures { λ r. ⌜ ListEntered list (now (p .entry)) (now (p .exit)) k ⌝ }
 {
     let count = protocol::places::count_of(&p[..sections::BODY], list);

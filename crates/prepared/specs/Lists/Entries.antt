@@ -20,7 +20,7 @@ use Rattle.protocol.specs.Places.{Here, At, placeOf, valueOf}
 use Rattle.protocol.specs.Places.Laws.{count-law, fact-law, fact-next, facts-end}
 use Rattle.prepared.specs.Sections.{bodyLength, preparedLength, entryCount, placeCount, entryPlace, factRow, placeBase, placeLimit}
 use Rattle.prepared.specs.Pairs.{paired-other, paired-front, pair-read}
-use Rattle.prepared.specs.Prepared.{slotsOf, aritiesOf, bodyOf, entryAt, factIn, factsIn, factPlaceIn}
+use Rattle.prepared.specs.Prepared.{slotsOf, aritiesOf, bodyOf, entryAt, preparedFact, preparedFacts, factPlaceIn}
 use Rattle.prepared.specs.Prepared.Laws.{arities-length, list-few}
 use Rattle.prepared.specs.Prepared.Longer.{front-bytes, list-some}
 use Rattle.prepared.specs.Lists.{FirstFacts, entered, FactsEntered, ListEntered}
@@ -55,7 +55,7 @@ module _ (p : List ℕ) (bytes : Bytes p) (long : length p ≡ preparedLength) w
   fact-some : (f : Fact) → 0 < length (encodeFact f)
   fact-some f = omega (arith, groups-some (f .symbol), length-append (groups (f .symbol)) (flat encode (f .terms)))
 
-  module _ (list : ℕ) (fs : List Fact) (h : Here (factsIn q) fs list) where
+  module _ (list : ℕ) (fs : List Fact) (h : Here (preparedFacts q) fs list) where
     pub list-small : list < placeLimit
     list-small =
         let s = facts-exact q front (slotsOf q) (aritiesOf q) few .form fs list (h .next) (h .reads) .1 in
@@ -72,9 +72,9 @@ module _ (p : List ℕ) (bytes : Bytes p) (long : length p ≡ preparedLength) w
     pub facts-small : (i : ℕ) → i < count → factPlaceIn q list i < placeLimit
     facts-small i l = fact-small list (x .0) (x .1 .here) i (omega (arith, x .1 .enough))
 
-    pub facts-next : (i at e : ℕ) → i < count → at ≡ factPlaceIn q list i → e ≡ placeOf (factIn q at) → e ≡ factPlaceIn q list (i + 1)
+    pub facts-next : (i at e : ℕ) → i < count → at ≡ factPlaceIn q list i → e ≡ placeOf (preparedFact q at) → e ≡ factPlaceIn q list (i + 1)
     facts-next i at e l ha he =
-        he ∙ ap (λ (k : ℕ). placeOf (factIn q k)) ha
+        he ∙ ap (λ (k : ℕ). placeOf (preparedFact q k)) ha
         ∙ sym (fact-next q (slotsOf q) (aritiesOf q) list (x .0) (x .1 .here) i (omega (arith, x .1 .enough)))
 
 module _ (list : ℕ) (p : List ℕ) (row : ℕ) where
@@ -104,16 +104,16 @@ module _ (p : List ℕ) (list count : ℕ) (counted : count ≡ valueOf (below (
   abbrev b : List ℕ
   b = bodyOf p
 
-  count-is : (fs : List Fact) → Here (factsIn b) fs list → count ≡ length fs
+  count-is : (fs : List Fact) → Here (preparedFacts b) fs list → count ≡ length fs
   count-is fs h = counted ∙ count-law b (slotsOf b) (aritiesOf b) list fs h
 
-  pub first-facts : Asks (At (factsIn b) list) → (n : ℕ) → n ≤ count → Asks (FirstFacts b list n)
+  pub first-facts : Asks (At (preparedFacts b) list) → (n : ℕ) → n ≤ count → Asks (FirstFacts b list n)
   first-facts (fs, h) n l = (fs, record { here = h; enough = omega (arith, count-is fs h) })
 
-  pub list-behind : Asks (At (factsIn b) list) → (r : ℕ) → r ≡ factPlaceIn b list count → r ≡ placeOf (factsIn b list)
+  pub list-behind : Asks (At (preparedFacts b) list) → (r : ℕ) → r ≡ factPlaceIn b list count → r ≡ placeOf (preparedFacts b list)
   list-behind (fs, h) r e = e ∙ ap (factPlaceIn b list) (count-is fs h) ∙ facts-end b (slotsOf b) (aritiesOf b) list fs h
 
-  module _ (bytes : Bytes p) (long : length p ≡ preparedLength) (x : Asks (At (factsIn b) list)) where
+  module _ (bytes : Bytes p) (long : length p ≡ preparedLength) (x : Asks (At (preparedFacts b) list)) where
     pub count-few : count ≤ mostFacts
     count-few =
         let (fs, h) = x in

@@ -18,7 +18,7 @@ use Rattle.rules.specs.Numbered.Found.{of-own}
 use Rattle.prepared.specs.declared.finding.Found.{Found}
 use Rattle.prepared.specs.declared.finding.Found.the-variants as fd
 use Rattle.prepared.specs.Sections.{ruleCount, builtinCount, bodyLength, entryCount, factRow}
-use Rattle.prepared.specs.Prepared.{slotsOf, aritiesOf, placeAt, Entry, Body, bodyOf, entryAt, factsIn, ListAt, factPlaceIn}
+use Rattle.prepared.specs.Prepared.{slotsOf, aritiesOf, placeAt, Entry, Body, bodyOf, entryAt, preparedFacts, ListAt, factPlaceIn}
 use Rattle.prepared.specs.Prepared.Laws.{list-few}
 use Rattle.prepared.specs.Finding.{Finds, found-here}
 use Rattle.prepared.specs.Lists.{ListsOf, RulesIn, ListEntered, ListIn, Listing, NumberEntered}
@@ -37,28 +37,28 @@ module _ {q : List ℕ} {n place : ℕ} (x : ListsOf q n place) where
 
   -- the next one stands behind it
   next-place :
-      (list : ℕ) → list + 1 < listCount → (l r : ℕ) → l ≡ listPlace q (slotsOf q) (aritiesOf q) place list → r ≡ placeOf (factsIn q l)
+      (list : ℕ) → list + 1 < listCount → (l r : ℕ) → l ≡ listPlace q (slotsOf q) (aritiesOf q) place list → r ≡ placeOf (preparedFacts q l)
       → r ≡ listPlace q (slotsOf q) (aritiesOf q) place (list + 1)
   next-place list small l r hl hr =
       let (P, f) = x .some-protocol in
       let g = x .found P f in
       let u = rule-layout q (slotsOf q) (aritiesOf q) place (g .its) (g .here) in
-      hr ∙ ap (λ (i : ℕ). placeOf (factsIn q i)) hl
+      hr ∙ ap (λ (i : ℕ). placeOf (preparedFacts q i)) hl
       ∙ sym (list-next q (slotsOf q) (aritiesOf q) place (g .its) u list small)
 
   module _ (a : ℕ) (ha : a ≡ listPlace q (slotsOf q) (aritiesOf q) place 0) where
     pub premises-of : ListOf q n 0 a
     premises-of = list-found 0 (omega arith) a ha
 
-    module _ (b : ℕ) (hb : b ≡ placeOf (factsIn q a)) where
+    module _ (b : ℕ) (hb : b ≡ placeOf (preparedFacts q a)) where
       pub actions-of : ListOf q n 1 b
       actions-of = list-found 1 (omega arith) b (next-place 0 (omega arith) a b ha hb)
 
-      pub conclusions-of : (c : ℕ) → c ≡ placeOf (factsIn q b) → ListOf q n 2 c
+      pub conclusions-of : (c : ℕ) → c ≡ placeOf (preparedFacts q b) → ListOf q n 2 c
       conclusions-of c hc = list-found 2 (omega arith) c (next-place 1 (omega arith) b c (next-place 0 (omega arith) a b ha hb) hc)
 
   -- some list stands there
-  pub list-asked : (list r : ℕ) → ListOf q n list r → Asks (At (factsIn q) r)
+  pub list-asked : (list r : ℕ) → ListOf q n list r → Asks (At (preparedFacts q) r)
   list-asked list r l =
       let (P, f) = x .some-protocol in
       let g = x .found P f in

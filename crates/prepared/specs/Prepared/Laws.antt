@@ -13,7 +13,7 @@ use Rattle.protocol.specs.Protocol.Exact.{facts-exact}
 use Rattle.protocol.specs.Places.{Here}
 use Rattle.protocol.specs.Figures.{symbolCount, mostFacts}
 use Rattle.prepared.specs.Sections.{slotCount, aritiesAt, linearsAt, bodyLength}
-use Rattle.prepared.specs.Prepared.{slotsOf, aritiesOf, linears, Body, factsIn}
+use Rattle.prepared.specs.Prepared.{slotsOf, aritiesOf, linears, Body, preparedFacts}
 
 -- ── a list with 255 behind it ──
 pub length-padded : (n : ℕ) (l : List ℕ) → length (padded n l) ≡ n
@@ -62,6 +62,6 @@ module _ (p : List ℕ) (P : Protocol) (f : Body p P) (y : ℕ) (known : y < len
       ∙ padded-in symbolCount (linears (P .symbols)) y (omega (arith, few)) (omega arith)
 
 -- ── a list has eight facts at most ──
-pub list-few : (p : List ℕ) → Bytes p → bodyLength ≤ length p → (place : ℕ) (fs : List Fact) → Here (factsIn p) fs place → length fs ≤ mostFacts
+pub list-few : (p : List ℕ) → Bytes p → bodyLength ≤ length p → (place : ℕ) (fs : List Fact) → Here (preparedFacts p) fs place → length fs ≤ mostFacts
 list-few p bytes long place fs h =
     facts-exact p bytes (slotsOf p) (aritiesOf p) (omega (arith, arities-length p long)) .form fs place (h .next) (h .reads) .0 .few

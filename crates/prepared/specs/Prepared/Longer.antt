@@ -22,7 +22,7 @@ use Rattle.protocol.specs.Places.{Here, placeOf, factPlace}
 use Rattle.protocol.specs.Places.Ends.{fact-got}
 use Rattle.rules.specs.Numbered.{ruleOf}
 use Rattle.prepared.specs.Sections.{slotCount, ruleCount, aritiesAt, linearsAt, cellAt, bodyLength, placeBase}
-use Rattle.prepared.specs.Prepared.{slotsOf, aritiesOf, placeAt, RuleAt, Some, Entry, Body, bodyOf, factsIn, ListAt, factPlaceIn}
+use Rattle.prepared.specs.Prepared.{slotsOf, aritiesOf, placeAt, RuleAt, Some, Entry, Body, bodyOf, preparedFacts, ListAt, factPlaceIn}
 use Rattle.prepared.specs.Prepared.Laws.{arities-length}
 
 -- ── what reads in a list reads in a longer one ──
@@ -99,7 +99,7 @@ module _ (p : List ℕ) (bytes : Bytes p) (long : bodyLength ≤ length p) (P : 
 
   -- a fact of a list stands at the same place
   pub fact-longer :
-      (fs : List Fact) (place i : ℕ) → Here (factsIn (bodyOf p)) fs place → i < length fs → factPlaceIn (bodyOf p) place i ≡ factPlaceIn p place i
+      (fs : List Fact) (place i : ℕ) → Here (preparedFacts (bodyOf p)) fs place → i < length fs → factPlaceIn (bodyOf p) place i ≡ factPlaceIn p place i
   unfolding facts counted
   fact-longer fs place i h l =
       let q : List ℕ = bodyOf p in

@@ -2,7 +2,7 @@
 use Prim.Native.Nat.{ℕ, _+_, _≤_, _<_}
 use mathlib.Core.List.{List}
 use mathlib.Core.Bool.{Bool, true, false, _||_, not}
-use mathlib.Core.Path.{_≡_, refl, ap, ap₂, sym, _∙_, subst}
+use mathlib.Core.Path.{_≡_, ap, ap₂, sym, _∙_, subst}
 use native.Mathlib.Omega.{arith}
 use lib.ListN.{length, getD, take}
 use lib.Dec.{eqb}
@@ -10,6 +10,7 @@ use borrow.Author.Tests.{eq-eqb, ne-eqb}
 use Rattle.number.specs.Groups.{numberLimit}
 use Rattle.protocol.specs.Figures.{listCount}
 use Rattle.lists.specs.Choice.{clash}
+use Rattle.lists.specs.Tests.{or-right}
 use Rattle.number.specs.Reading.{Read, got, fault, seen}
 use Rattle.lists.specs.Lists.{anyBy}
 use Rattle.number.specs.declared.Seen.{Seen}
@@ -38,13 +39,6 @@ hit-is q r h k = ap hitOf (h ∙ ap (seen q) k)
 -- the rule at a place, whatever rule that is, has this property
 abbrev pub OfRule : List ℕ → List ℕ → List ℕ → ℕ → (Rule → Type 0) → Type 0
 OfRule file arities ars at P = (r : Rule) → Here (layout file arities ars) r at → P r
-
-or-first : (b c : Bool) → b ≡ true → true ≡ (b || c)
-or-first b c h = ap (λ (x : Bool). x || c) (sym h)
-
-or-second : (a b c : Bool) → b ≡ true → true ≡ (a || (b || c))
-or-second true b c h = refl
-or-second false b c h = or-first b c h
 
 -- the places of a rule's premises and of its conclusions
 pub record Located (file arities ars : List ℕ) (x : RulePlaces) : Type 0 where
@@ -83,12 +77,16 @@ module _ (file arities ars : List ℕ) (at : ℕ) where
     sort-is r h l = hm ∙ sort-law file arities ars at r h v l
 
     pub bound-public : m ≡ 2 → OfRule file arities ars at (λ r. v < length (r .sorts) → true ≡ bound r v)
-    bound-public e r h l = or-first _ _ (eq-eqb (getD (r .sorts) v 0) 2 (sym (sort-is r h l) ∙ e))
+    bound-public e r h l =
+        sym (ap (λ (x : Bool). x || (anyBy (asks 0 v (v + 1)) (premises r) || not (anyBy (asks 0 v (v + 1)) (conclusions r))))
+        (eq-eqb (getD (r .sorts) v 0) 2 (sym (sort-is r h l) ∙ e)))
 
     module _ (a : Bool) (ha : OfRule file arities ars at (λ r. a ≡ anyBy (asks 0 v (v + 1)) (premises r))) where
       pub bound-above : a ≡ true → OfRule file arities ars at (λ r. v < length (r .sorts) → true ≡ bound r v)
       bound-above e r h l =
-          or-second (eqb (getD (r .sorts) v 0) 2) (anyBy (asks 0 v (v + 1)) (premises r)) (not (anyBy (asks 0 v (v + 1)) (conclusions r))) (sym (ha r h) ∙ e)
+          let none-below : Bool = not (anyBy (asks 0 v (v + 1)) (conclusions r)) in
+          sym (or-right (eqb (getD (r .sorts) v 0) 2) (anyBy (asks 0 v (v + 1)) (premises r) || none-below)
+          (ap (λ (x : Bool). x || none-below) (sym (ha r h) ∙ e)))
 
       pub bound-below :
           (c : Bool) → OfRule file arities ars at (λ r. c ≡ anyBy (asks 0 v (v + 1)) (conclusions r)) → (m ≡ 2 → ⊥) → a ≡ false

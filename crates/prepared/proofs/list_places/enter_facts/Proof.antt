@@ -10,7 +10,7 @@ use mathlib.Core.List.{List}
 use Prim.Native.Nat.{_-_, _≤_}
 use Rattle.protocol.specs.Places.{placeOf}
 use Rattle.prepared.specs.Sections.{bodyLength, preparedLength}
-use Rattle.prepared.specs.Prepared.{bodyOf, factIn, factPlaceIn}
+use Rattle.prepared.specs.Prepared.{bodyOf, preparedFact, factPlaceIn}
 use Rattle.prepared.specs.Lists.Entries.{facts-none, facts-small, facts-next, facts-more}
 use Rattle.prepared.specs.Lists.{FactsEntered}
 use Rattle.prepared.proofs.list_places.enter_facts.Statement.{statement}
@@ -90,7 +90,7 @@ loop-again c =
       omega (arith, c4 .put-entry .kept, c7 .loop .inv .1),
       facts-next (now (c11 .args .p))
           (λ k. c10 .slice-known .given k .fits) (c11 .pre .1) _ _ (c11 .pre .2) _ _ _ (c6 .loop-test .taken) (c7 .loop .inv .2)
-          (c .fact-end .ensures ∙ ap (λ (b : List ℕ). placeOf (factIn b (c7 .loop .at))) (f .body)),
+          (c .fact-end .ensures ∙ ap (λ (b : List ℕ). placeOf (preparedFact b (c7 .loop .at))) (f .body)),
       f,
     )
 

@@ -9,7 +9,7 @@ use Rattle.lists.specs.Asks.{Asks}
 use Rattle.protocol.specs.Places.{At, placeOf}
 use Rattle.prepared.specs.Sections.{bodyLength}
 use Rattle.prepared.specs.Prepared.Longer.{front-bytes}
-use Rattle.prepared.specs.Prepared.{bodyOf, factsIn}
+use Rattle.prepared.specs.Prepared.{bodyOf, preparedFacts}
 use Rattle.prepared.specs.Lists.Numbers.{premises-of, actions-of, conclusions-of, list-asked, lists-more}
 use borrow.Author.Needs.{needs}
 use Rattle.prepared.proofs.list_places.enter_lists.Statement.{statement}
@@ -44,7 +44,7 @@ enter-list-requires-2 c κs =
     let c8 = c5 .before .before .before in (
       omega (arith, c8 .pre .0),
       omega (arith, c3 .enter-list .kept, c8 .pre .1),
-      subst (λ (b : List ℕ). Asks (At (factsIn b) (c3 .enter-list .result)))
+      subst (λ (b : List ℕ). Asks (At (preparedFacts b) (c3 .enter-list .result)))
           (sym (c3 .enter-list .ensures .1 .body)) (list-asked (c8 .pre .2) 1 _ (actions-of (c8 .pre .2) _ (c5 .list-at .ensures) _
           (c3 .enter-list .ensures .0))),
     )
@@ -62,9 +62,9 @@ enter-last-requires c κs =
       omega (arith, c12 .pre .0),
       omega (arith, c7 .enter-list .kept, c3 .enter-list2 .kept, c12 .pre .1),
       subst
-          (λ (b : List ℕ). Asks (At (factsIn b) (c3 .enter-list2 .result))) (sym (c3 .enter-list2 .ensures .1 .body ∙ e))
+          (λ (b : List ℕ). Asks (At (preparedFacts b) (c3 .enter-list2 .result))) (sym (c3 .enter-list2 .ensures .1 .body ∙ e))
           (list-asked (c12 .pre .2) 2 _ (conclusions-of (c12 .pre .2) _ (c9 .list-at .ensures) _ (c7 .enter-list .ensures .0) _
-          (c3 .enter-list2 .ensures .0 ∙ ap (λ (b : List ℕ). placeOf (factsIn b (c7 .enter-list .result))) e))),
+          (c3 .enter-list2 .ensures .0 ∙ ap (λ (b : List ℕ). placeOf (preparedFacts b (c7 .enter-list .result))) e))),
     )
 
 same-length : tie.Need-same-length
@@ -82,7 +82,7 @@ returns c =
     (length-take-le bodyLength (now (c15 .args .p)) (omega (arith, c15 .pre .1))) (c15 .args .n) _ _ _
     (premises-of (c15 .pre .2) _ (c12 .list-at .ensures)) (actions-of (c15 .pre .2) _ (c12 .list-at .ensures) _ (c10 .enter-list .ensures .0))
     (conclusions-of (c15 .pre .2) _ (c12 .list-at .ensures) _ (c10 .enter-list .ensures .0) _
-    (c6 .enter-list2 .ensures .0 ∙ ap (λ (b : List ℕ). placeOf (factsIn b (c10 .enter-list .result))) e)) (now (c15 .args .p)) _ _ _ refl
+    (c6 .enter-list2 .ensures .0 ∙ ap (λ (b : List ℕ). placeOf (preparedFacts b (c10 .enter-list .result))) e)) (now (c15 .args .p)) _ _ _ refl
     (c10 .enter-list .ensures .1) (c6 .enter-list2 .ensures .1) (c .before .before .enter-last .ensures)
 
 pub enter-lists-spec : {M : Type 1} → statement M

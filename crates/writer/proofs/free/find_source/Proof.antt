@@ -1,4 +1,4 @@
--- The scan goes from one entry with the mark to the next, and the kept fact stays; none before is the same, since another mark is another fact and the rest were compared.
+-- The scan goes from mark to mark, and the kept fact stays; none before is the same: another mark is another fact, and the rest were compared.
 use borrow.Author.Needs.{needs}
 use Rattle.writer.specs.Search.Laws.{searched, search-end, mark-room, pass-to, fact-there, other-fact, found-here}
 use Rattle.writer.specs.Search.{Searching, isSame}
