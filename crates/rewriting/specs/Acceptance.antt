@@ -8,7 +8,7 @@ use native.Mathlib.Omega.{arith}
 use lib.Dec.{leb, eqb}
 use Rattle.lists.specs.Tests.{by-bool, by-option, true-false, eqb-eq, leb-le, leb-gt}
 use Rattle.lists.specs.Lists.Laws.{mem-nth, nth-mem}
-use Rattle.rewriting.specs.Facts.{Facts}
+use Rattle.rewriting.specs.Facts.{Facts, Tested}
 use Rattle.rewriting.specs.Graph.{Node, Edge, into, outOf, premiseAt, conclusionAt, Accepted}
 use Rattle.rewriting.specs.Table.{Ruling, passed, Absent, Ruled}
 use Rattle.rewriting.specs.Table.Laws.{ruled, passed-absent, absent-passed}
@@ -20,7 +20,7 @@ use Rattle.rewriting.specs.Refusals.{graphPasses}
 module _ (F : Facts) (nodes : List (Node (F .Fact))) (edges : List Edge) where
   open Facts F using (Fact, same, linear)
 
-  absent-accepted : Absent (graphRows F nodes edges) → Accepted F nodes edges
+  absent-accepted : Absent (graphRows (Tested F) linear nodes edges) → Accepted F nodes edges
   absent-accepted (names, (ends, (facts, (fed, (spent, _))))) = record {
     joins = λ e m.
         let (i, s) = mem-nth edges e m in
@@ -41,7 +41,7 @@ module _ (F : Facts) (nodes : List (Node (F .Fact))) (edges : List Edge) where
           facts-same =
               by-bool (same f g)
               (λ t. t)
-              (λ n. absurd (facts i (record { edge = e; stands = s; from = f; to = g; has-source = p; has-target = q; differ = n })));
+              (λ n. absurd (facts i (record { edge = e; stands = s; from = f; to = g; has-source = p; has-target = q; differ = λ t. true-false (same f g) t n })));
         }));
     one-into = λ a f p.
         by-bool (eqb (into a edges) 1)
@@ -54,7 +54,7 @@ module _ (F : Facts) (nodes : List (Node (F .Fact))) (edges : List Edge) where
     names-once = names-once nodes (absent-none nodes names);
   }
 
-  accepted-absent : Accepted F nodes edges → Absent (graphRows F nodes edges)
+  accepted-absent : Accepted F nodes edges → Absent (graphRows (Tested F) linear nodes edges)
   accepted-absent acc = (
     none-absent nodes (once-names nodes (acc .names-once)),
     (
@@ -69,7 +69,7 @@ module _ (F : Facts) (nodes : List (Node (F .Fact))) (edges : List Edge) where
             let j = acc .joins (h .edge) (nth-mem edges (h .edge) k (h .stands)) in
             let p : h .from ≡ j .from = Option·some-injective _ _ (sym (h .has-source) ∙ j .has-source) in
             let q : h .to ≡ j .to = Option·some-injective _ _ (sym (h .has-target) ∙ j .has-target) in
-            true-false (same (j .from) (j .to)) (j .facts-same) (ap (λ g. same g (j .to)) (sym p) ∙ (ap (same (h .from)) (sym q) ∙ h .differ))),
+            h .differ (ap (λ g. same g (h .to)) p ∙ (ap (same (j .from)) q ∙ j .facts-same))),
         (
           (λ k h. h .wrong (acc .one-into (record { node = k; index = h .index }) (h .fact) (h .stands))),
           (
@@ -82,22 +82,22 @@ module _ (F : Facts) (nodes : List (Node (F .Fact))) (edges : List Edge) where
   )
 
   -- "a graph is accepted exactly when": no row of 9 to 13 applies to the accepted graphs, and to no other.
-  pub absent-exactly : Absent (graphRows F nodes edges) ↔ Accepted F nodes edges
+  pub absent-exactly : Absent (graphRows (Tested F) linear nodes edges) ↔ Accepted F nodes edges
   absent-exactly = (absent-accepted, accepted-absent)
 
   module _ {A : Type 0} (a : A) where
     -- The passes answer what the table says, and the value that they hand on is good if it is good of an accepted graph.
-    pub check-table : (Good : A → Type 0) → (Accepted F nodes edges → Good a) → Ruled (graphRows F nodes edges) Good (checkGraph F nodes edges a)
+    pub check-table : (Good : A → Type 0) → (Accepted F nodes edges → Good a) → Ruled (graphRows (Tested F) linear nodes edges) Good (checkGraph F nodes edges a)
     check-table Good h = ruled Good (graphPasses F nodes edges) a (λ n. h (absent-accepted n))
 
     -- The passes let through just the accepted graphs.
     pub check-accepted : (checkGraph F nodes edges a ≡ passed a) ↔ Accepted F nodes edges
     check-accepted = (
-      (λ e. absent-accepted (passed-absent (λ b. b ≡ a) (graphRows F nodes edges) (checkGraph F nodes edges a) a table e)),
+      (λ e. absent-accepted (passed-absent (λ b. b ≡ a) (graphRows (Tested F) linear nodes edges) (checkGraph F nodes edges a) a table e)),
       (λ acc.
-          let (b, g, e) = absent-passed (λ b. b ≡ a) (graphRows F nodes edges) (checkGraph F nodes edges a) table (accepted-absent acc) in
+          let (b, g, e) = absent-passed (λ b. b ≡ a) (graphRows (Tested F) linear nodes edges) (checkGraph F nodes edges a) table (accepted-absent acc) in
           e ∙ ap {B = Ruling A} passed g),
     )
       where
-        table : Ruled (graphRows F nodes edges) (λ b. b ≡ a) (checkGraph F nodes edges a)
+        table : Ruled (graphRows (Tested F) linear nodes edges) (λ b. b ≡ a) (checkGraph F nodes edges a)
         table = check-table (λ b. b ≡ a) (λ acc. refl)

@@ -17,6 +17,10 @@ pub record Facts : Type 1 where
   pub same-trans : (f g h : Fact) → same f g ≡ true → same g h ≡ true → same f h ≡ true
   pub same-linear : (f g : Fact) → same f g ≡ true → linear f ≡ linear g
 
+-- The test says that two facts are the same.
+abbrev pub Tested : (F : Facts) → F .Fact → F .Fact → Type 0
+Tested F f g = F .same f g ≡ true
+
 -- The multiplicity of a fact in a list: "equal facts count as the same fact".
 abbrev pub count : (F : Facts) → F .Fact → List (F .Fact) → ℕ
 count F f l = countBy (λ g. F .same f g) l

@@ -7,6 +7,8 @@ pub mod Facts
 pub mod Graph
 -- the machine, and what a run is
 pub mod Machine
+-- the same by a statement of equality: what a node takes from the state and leaves
+pub mod Rewriting
 -- the refusal table as data: rows, what they say of an answer, passes
 pub mod Table
 -- causes 9 to 14, in the table's words, and the rows of a graph and of a drawing

@@ -10,7 +10,7 @@ use lib.Dec.{leb, ltb}
 use Rattle.lists.specs.Tests.{by-bool, by-option, true-false, not-true, eqb-eq, leb-gt, gt-leb}
 use Rattle.lists.specs.Lists.{allBy, nth}
 use Rattle.lists.specs.Lists.Laws.{all-fails, fails-all}
-use Rattle.rewriting.specs.Facts.{Facts}
+use Rattle.rewriting.specs.Facts.{Facts, Tested}
 use Rattle.rewriting.specs.Graph.{Node, Edge, inNode, factAt, outOf, premiseAt, conclusionAt}
 use Rattle.rewriting.specs.Table.{Fails, Pass}
 use Rattle.rewriting.specs.Table.Passes.{restated, leastPass}
@@ -62,7 +62,7 @@ module _ (F : Facts) (nodes : List (Node (F .Fact))) (edges : List Edge) where
   two-false true b = and-false b
   two-false false b = refl
 
-  pub fails-end : (k : ℕ) → Fails (λ k e. endsOk F nodes e) edges k → EndMissing F nodes edges k
+  pub fails-end : (k : ℕ) → Fails (λ k e. endsOk F nodes e) edges k → EndMissing nodes edges k
   fails-end k h =
       let f = h .is-false in
       record {
@@ -77,7 +77,7 @@ module _ (F : Facts) (nodes : List (Node (F .Fact))) (edges : List Edge) where
             omega (arith, leb-gt (suc (h .which .source .node)) (h .which .target .node) c)))));
       }
 
-  pub end-fails : (k : ℕ) → EndMissing F nodes edges k → Fails (λ k e. endsOk F nodes e) edges k
+  pub end-fails : (k : ℕ) → EndMissing nodes edges k → Fails (λ k e. endsOk F nodes e) edges k
   end-fails k h = record {
     which = h .edge;
     stands = h .stands;
@@ -93,7 +93,7 @@ module _ (F : Facts) (nodes : List (Node (F .Fact))) (edges : List Edge) where
   }
 
   abbrev pub endsPass : Pass
-  endsPass = restated (leastPass 10 (λ k e. endsOk F nodes e) edges) (EndMissing F nodes edges) fails-end end-fails
+  endsPass = restated (leastPass 10 (λ k e. endsOk F nodes e) edges) (EndMissing nodes edges) fails-end end-fails
 
   -- 11.
   disagree : (o p : Option Fact) → agree F o p ≡ false → (f : Fact) × (g : Fact) × (o ≡ some f) × (p ≡ some g) × (same f g ≡ false)
@@ -101,23 +101,23 @@ module _ (F : Facts) (nodes : List (Node (F .Fact))) (edges : List Edge) where
   disagree (some f) none h = true-false true refl h
   disagree (some f) (some g) h = (f, g, refl, refl, h)
 
-  pub fails-facts : (k : ℕ) → Fails (λ k e. factsOk F nodes e) edges k → FactsDiffer F nodes edges k
+  pub fails-facts : (k : ℕ) → Fails (λ k e. factsOk F nodes e) edges k → FactsDiffer (Tested F) linear nodes edges k
   fails-facts k h =
       let (from, to, p, q, d) = disagree (conclusionAt nodes (h .which .source)) (premiseAt nodes (h .which .target)) (h .is-false) in
-      record { edge = h .which; stands = h .stands; from = from; to = to; has-source = p; has-target = q; differ = d }
+      record { edge = h .which; stands = h .stands; from = from; to = to; has-source = p; has-target = q; differ = λ t. true-false (same from to) t d }
 
   abbrev pub factsPass : Pass
-  factsPass = restated (leastPass 11 (λ k e. factsOk F nodes e) edges) (FactsDiffer F nodes edges) fails-facts
-      (λ k h. record { which = h .edge; stands = h .stands; is-false = rw (h .has-source, h .has-target) (h .differ) })
+  factsPass = restated (leastPass 11 (λ k e. factsOk F nodes e) edges) (FactsDiffer (Tested F) linear nodes edges) fails-facts
+      (λ k h. record { which = h .edge; stands = h .stands; is-false = rw (h .has-source, h .has-target) (not-true (same (h .from) (h .to)) (h .differ)) })
 
   -- 12.
   abbrev pub premisesPass : Pass
-  premisesPass = restated (partPass (λ x. x .premises) (oneInto F edges) nodes 12) (NotOneEdge F nodes edges)
+  premisesPass = restated (partPass (λ x. x .premises) (oneInto F edges) nodes 12) (NotOneEdge nodes edges)
       (λ k h. record { index = h .index; fact = h .fact; stands = h .stands; wrong = λ e. let f = h .is-false in true-false true refl (rw e at f) })
       (λ k h. record { index = h .index; fact = h .fact; stands = h .stands; is-false = not-true _ (λ t. h .wrong (eqb-eq _ 1 t)) })
 
   -- 13.
-  pub fails-used : (k : ℕ) → FactFails (λ x. x .conclusions) (oneOut F edges) nodes k → UsedTwice F nodes edges k
+  pub fails-used : (k : ℕ) → FactFails (λ x. x .conclusions) (oneOut F edges) nodes k → UsedTwice nodes edges linear k
   fails-used k h =
       let f = h .is-false in
       by-bool (linear (h .fact))
@@ -127,7 +127,7 @@ module _ (F : Facts) (nodes : List (Node (F .Fact))) (edges : List Edge) where
       (λ l. true-false true refl (rw l at f))
 
   abbrev pub conclusionsPass : Pass
-  conclusionsPass = restated (partPass (λ x. x .conclusions) (oneOut F edges) nodes 13) (UsedTwice F nodes edges) fails-used
+  conclusionsPass = restated (partPass (λ x. x .conclusions) (oneOut F edges) nodes 13) (UsedTwice nodes edges linear) fails-used
       (λ k h. record {
         index = h .index;
         fact = h .fact;

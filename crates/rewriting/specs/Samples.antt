@@ -6,17 +6,17 @@ use Prim.Native.Nat.{ℕ, _<_}
 use lib.Dec.{eqb, ltb}
 use lib.ListN.{length}
 use Rattle.lists.specs.Tests.{eqb-eq, eqb-self}
-use Rattle.rewriting.specs.Facts.{Facts}
+use Rattle.rewriting.specs.Facts.{Facts, Tested}
 use Rattle.rewriting.specs.Graph.{Node, Edge, Accepted}
 use Rattle.rewriting.specs.Machine.{failed, run, IsRun}
 use Rattle.rewriting.specs.Table.{Ruling, passed, refused, fixedRow, Ruled, rulingThen, rulingOf, andThen, rowsAfter}
 use Rattle.rewriting.specs.Table.Laws.{ruled, ruled-then, ruled-and-then}
 use Rattle.rewriting.specs.Table.Passes.{lessPass, needPass}
-use Rattle.rewriting.specs.Causes.{graphRows, drawRows}
+use Rattle.rewriting.specs.Causes.{graphRows}
 use Rattle.rewriting.specs.Writer.{draw}
 use Rattle.rewriting.specs.Checker.{checkGraph}
 use Rattle.rewriting.specs.Acceptance.{check-table}
-use Rattle.rewriting.specs.Whole.{draw-table}
+use Rattle.rewriting.specs.Whole.{machineRows, draw-table}
 
 abbrev Numbers : Facts
 Numbers = record {
@@ -151,10 +151,10 @@ no-nodes-edge = refl
 
 -- Other rows in front of a graph's: the answer is ruled by all of them, and a graph that passes is accepted.
 in-front : (F : Facts) (nodes : List (Node (F .Fact))) (edges : List Edge) (work n : ℕ) →
-    Ruled (fixedRow 1 0 (work < 65536) ∷ graphRows F nodes edges) (λ (m : ℕ). (m ≡ n) × Accepted F nodes edges)
+    Ruled (fixedRow 1 0 (work < 65536) ∷ graphRows (Tested F) (F .linear) nodes edges) (λ (m : ℕ). (m ≡ n) × Accepted F nodes edges)
     (rulingThen (lessPass 1 0 work 65536 ∷ []) (checkGraph F nodes edges n))
 in-front F nodes edges work n =
-    ruled-then (λ (m : ℕ). (m ≡ n) × Accepted F nodes edges) (lessPass 1 0 work 65536 ∷ []) (graphRows F nodes edges) (checkGraph F nodes edges n)
+    ruled-then (λ (m : ℕ). (m ≡ n) × Accepted F nodes edges) (lessPass 1 0 work 65536 ∷ []) (graphRows (Tested F) (F .linear) nodes edges) (checkGraph F nodes edges n)
     (λ h. check-table F nodes edges n (λ (m : ℕ). (m ≡ n) × Accepted F nodes edges) (λ acc. (refl, acc)))
 
 -- "Drawing: .. 9, 14, 15" and the length written, for any length of a list of edges.
@@ -162,10 +162,10 @@ module _ (F : Facts) (nodes : List (Node (F .Fact))) (size : List Edge → ℕ) 
   abbrev written : Ruling ℕ
   written = andThen (draw F nodes) (λ es. rulingOf (needPass 15 room (size es) ∷ []) (size es))
 
-  written-ruled : Ruled (drawRows F nodes ++ rowsAfter (draw F nodes) (λ es. fixedRow 15 (size es) (room < size es) ∷ []))
+  written-ruled : Ruled (machineRows F nodes ++ rowsAfter (draw F nodes) (λ es. fixedRow 15 (size es) (room < size es) ∷ []))
       (λ n. (es : List Edge) × Accepted F nodes es × (n ≡ size es)) written
   written-ruled =
-      ruled-and-then (Accepted F nodes) (λ n. (es : List Edge) × Accepted F nodes es × (n ≡ size es)) (drawRows F nodes) (draw F nodes)
+      ruled-and-then (Accepted F nodes) (λ n. (es : List Edge) × Accepted F nodes es × (n ≡ size es)) (machineRows F nodes) (draw F nodes)
       (λ es. fixedRow 15 (size es) (room < size es) ∷ []) (λ es. rulingOf (needPass 15 room (size es) ∷ []) (size es)) (draw-table F nodes)
       (λ es acc e. ruled (λ n. (fs : List Edge) × Accepted F nodes fs × (n ≡ size fs)) (needPass 15 room (size es) ∷ []) (size es) (λ h. (es, acc, refl)))
 

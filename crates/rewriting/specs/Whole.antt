@@ -6,15 +6,15 @@ use mathlib.Core.List.{List, [], _∷_, _++_}
 use mathlib.Core.Option.{Option, none, some}
 use Prim.Native.Nat.{ℕ, suc}
 use Rattle.lists.specs.Tests.{by-bool}
-use Rattle.lists.specs.Lists.{before, leaves, scan}
+use Rattle.lists.specs.Lists.{nth, before, leaves, scan}
 use Rattle.rewriting.specs.Facts.{Facts}
 use Rattle.rewriting.specs.Graph.{Node, Edge, NamesOnce, Accepted}
-use Rattle.rewriting.specs.Machine.{State, start, madeAlready, lacks, fails, after, run, IsRun}
+use Rattle.rewriting.specs.Machine.{State, start, ran, madeAlready, lacks, fails, after, run, IsRun}
 use Rattle.rewriting.specs.Machine.Laws.{stop, stop-scan, clear-ran, ran-left, made-left}
-use Rattle.rewriting.specs.Table.{Ruling, passed, refused, row, Least, Ruled, Says, Finds}
+use Rattle.rewriting.specs.Table.{Ruling, passed, refused, Row, row, Least, Ruled, Says, Finds}
 use Rattle.rewriting.specs.Table.Laws.{refused-passed, finds-least, ruled-then, ruled-says}
 use Rattle.rewriting.specs.Table.Scans.{Hit, scan-finds, least-clear}
-use Rattle.rewriting.specs.Causes.{NameTwice, PremisesMissing, drawRows}
+use Rattle.rewriting.specs.Causes.{NameTwice}
 use Rattle.rewriting.specs.Places.{Placed}
 use Rattle.rewriting.specs.Writer.{addNode, edgesInto, freeAfter, drawFrom, draw}
 use Rattle.rewriting.specs.Names.{already-earlier, names-once, absent-none, namePass, run-names}
@@ -23,11 +23,22 @@ use Rattle.rewriting.specs.Draws.{Agree, from-agrees, drawn-accepted, dr
 module _ (F : Facts) where
   open Facts F using (Fact)
 
+  -- 14 as the machine finds it: it has gone through the nodes before `k`, and its state lacks a premise of `k`.
+  pub record Lacking (nodes : List (Node Fact)) (k : ℕ) : Type 0 where
+    pub node : Node Fact
+    pub state : State Fact
+    pub stands : nth nodes k ≡ some node
+    pub reached : run F (before k nodes) ≡ ran state
+    pub missing : lacks F state (node .premises) ≡ true
+
+  abbrev pub machineRows : List (Node Fact) → List Row
+  machineRows nodes = row 9 (NameTwice nodes) ∷ row 14 (Lacking nodes) ∷ []
+
   -- Where no name is made twice, the machine stops at the first node whose premises are missing.
-  stops : (nodes : List (Node Fact)) → ((k : ℕ) → NameTwice nodes k → ⊥) → Finds (PremisesMissing F nodes) (stop F (run F nodes))
+  stops : (nodes : List (Node Fact)) → ((k : ℕ) → NameTwice nodes k → ⊥) → Finds (Lacking nodes) (stop F (run F nodes))
   stops nodes once =
       rw (stop-scan F 1 start nodes)
-      (finds-least (Hit bad (after F) start nodes) (PremisesMissing F nodes) to fro (scan bad (after F) 1 start nodes) (scan-finds bad (after F) start nodes))
+      (finds-least (Hit bad (after F) start nodes) (Lacking nodes) to fro (scan bad (after F) 1 start nodes) (scan-finds bad (after F) start nodes))
     where
       bad : ℕ → State Fact → Node Fact → Bool
       bad k s x = fails F s x
@@ -35,7 +46,7 @@ module _ (F : Facts) where
       left : ℕ → State Fact
       left k = leaves (after F) start (before k nodes)
 
-      to : (k : ℕ) → Least (Hit bad (after F) start nodes) k → PremisesMissing F nodes k
+      to : (k : ℕ) → Least (Hit bad (after F) start nodes) k → Lacking nodes k
       to k h =
           let g = h .here in
           by-bool (lacks F (left k) (g .which .premises))
@@ -52,7 +63,7 @@ module _ (F : Facts) where
           absurd (once k (already-earlier nodes k (g .which) (g .stands) (ap (λ m. madeAlready m (g .which .makes)) (sym (made-left F start (before k nodes)))
           ∙ a))))
 
-      fro : (k : ℕ) → PremisesMissing F nodes k → Hit bad (after F) start nodes k
+      fro : (k : ℕ) → Lacking nodes k → Hit bad (after F) start nodes k
       fro k h =
           let l : lacks F (left k) (h .node .premises) ≡ true = ap (λ s. lacks F s (h .node .premises))
           (ran-left F 1 start (before k nodes) (h .state) (h .reached)) ∙ h .missing in
@@ -72,13 +83,13 @@ module _ (F : Facts) where
 
   -- "Drawing: .. 9, 14": the writer's answer is what the table says, 9 over the whole list before 14, the first such node;
   -- and what it draws is accepted.
-  pub draw-table : (nodes : List (Node Fact)) → Ruled (drawRows F nodes) (Accepted F nodes) (draw F nodes)
+  pub draw-table : (nodes : List (Node Fact)) → Ruled (machineRows nodes) (Accepted F nodes) (draw F nodes)
   draw-table nodes =
-      ruled-then (Accepted F nodes) (namePass nodes ∷ []) (row 14 (PremisesMissing F nodes) ∷ []) (drawFrom F 1 [] nodes)
+      ruled-then (Accepted F nodes) (namePass nodes ∷ []) (row 14 (Lacking nodes) ∷ []) (drawFrom F 1 [] nodes)
       (λ n. premises (n .0) (drawFrom F 1 [] nodes) refl (from-agrees F nodes (absent-none nodes (n .0))))
     where
       premises : ((k : ℕ) → NameTwice nodes k → ⊥) → (d : Ruling (List Edge)) → drawFrom F 1 [] nodes ≡ d → Agree F d (run F nodes) →
-          Ruled (row 14 (PremisesMissing F nodes) ∷ []) (Accepted F nodes) d
+          Ruled (row 14 (Lacking nodes) ∷ []) (Accepted F nodes) d
       premises n (passed es) e (s, r) = let f = stops nodes n in inl (
         (rw r at f),
         (es, drawn-accepted F nodes es (names-once nodes (absent-none nodes n)) e, refl),
@@ -102,14 +113,14 @@ module _ (F : Facts) where
     pub number : ℕ
     pub item : ℕ
     pub is-refused : draw F nodes ≡ refused number item
-    pub says : Says (drawRows F nodes) number item
+    pub says : Says (machineRows nodes) number item
     pub no-run : IsRun F nodes → ⊥
     pub no-graph : (edges : List Edge) → Accepted F nodes edges → ⊥
 
   pub whole : (nodes : List (Node Fact)) → IsDrawn nodes ⊎ IsRefused nodes
   whole nodes = go (draw F nodes) refl (draw-table nodes)
     where
-      go : (d : Ruling (List Edge)) → draw F nodes ≡ d → Ruled (drawRows F nodes) (Accepted F nodes) d → IsDrawn nodes ⊎ IsRefused nodes
+      go : (d : Ruling (List Edge)) → draw F nodes ≡ d → Ruled (machineRows nodes) (Accepted F nodes) d → IsDrawn nodes ⊎ IsRefused nodes
       go (passed es) e t =
           let r = draws-exactly F nodes .0 (es, e) in
           inl (record { edges = es; is-drawn = e; is-run = r; no-name-twice = run-names F nodes r; is-accepted = drawn-accepts F nodes es e })
@@ -118,7 +129,7 @@ module _ (F : Facts) where
             number = n;
             item = k;
             is-refused = e;
-            says = ruled-says (Accepted F nodes) (drawRows F nodes) n k t;
+            says = ruled-says (Accepted F nodes) (machineRows nodes) n k t;
             no-run = refused-no-run F nodes n k e;
             no-graph = refused-none F nodes n k e;
           })

@@ -11,7 +11,7 @@ use Rattle.steps.specs.Facts.{factsOf, madeName, sameFact, isLinear}
 use Rattle.steps.specs.Facts.Laws.{fact-refl, fact-sym, fact-trans, fact-linear}
 -- the theorems of crate rewriting at these facts
 pub mod Theorems
--- an accepted graph by the ten equations
+-- runs, accepted graphs and the table's rows by the ten equations
 pub mod Equations
 -- the machine's counts by any test of facts that decides the equations
 pub mod AnyTest

@@ -1,14 +1,14 @@
 -- What holds of a condition of all elements of a list.
 use Prim.Native.Nat.{ℕ, zero, suc, _<_}
-use mathlib.Core.List.{List, [], _∷_, map}
+use mathlib.Core.List.{List, [], _∷_, _++_, map}
 use mathlib.Core.Bool.{Bool, false}
 use mathlib.Core.Option.{some, Option·none-ne-some, Option·some-injective}
 use mathlib.Core.Path.{_≡_, refl, subst}
 use native.Mathlib.Omega.{arith}
-use lib.ListN.{length, getD}
-use Rattle.lists.specs.Lists.{anyBy, nth}
+use lib.ListN.{length, getD, take}
+use Rattle.lists.specs.Lists.{anyBy, keepBy, nth}
 use Rattle.lists.specs.All.{All}
-use Rattle.lists.specs.Tests.{or-split}
+use Rattle.lists.specs.Tests.{by-bool, or-split}
 
 module _ {A : Type 0} (P Q : A → Type 0) where
   pub all-map : ((x : A) → P x → Q x) → (xs : List A) → All P xs → All Q xs
@@ -46,6 +46,20 @@ module _ {A : Type 0} (P : A → Type 0) where
       later : (k : ℕ) (y : A) → nth xs k ≡ some y → P y
       later zero y e = absurd (Option·none-ne-some y e)
       later (suc k) y e = h (suc (suc k)) y e
+
+  -- of two lists one behind the other, of those that pass a test, of the first ones
+  pub all-append : (xs ys : List A) → All P xs → All P ys → All P (xs ++ ys)
+  all-append [] ys a b = b
+  all-append (x ∷ xs) ys a b = (a .0, all-append xs ys (a .1) b)
+
+  pub all-keep : (q : A → Bool) (xs : List A) → All P xs → All P (keepBy q xs)
+  all-keep q [] a = tt
+  all-keep q (x ∷ xs) a = by-bool (q x) (λ t. rw t (a .0, all-keep q xs (a .1))) (λ f. rw f (all-keep q xs (a .1)))
+
+  pub all-take : (k : ℕ) (xs : List A) → All P xs → All P (take k xs)
+  all-take zero xs a = tt
+  all-take (suc k) [] a = tt
+  all-take (suc k) (x ∷ xs) a = (a .0, all-take k xs (a .1))
 
 module _ {A B : Type 0} (P : A → Type 0) (Q : B → Type 0) (g : A → B) where
   pub map-all : ((x : A) → P x → Q (g x)) → (xs : List A) → All P xs → All Q (map g xs)

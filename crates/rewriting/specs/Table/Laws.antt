@@ -1,6 +1,6 @@
 -- A list of passes answers what its rows say; the answer is unique; it passes just where no row applies.
 use mathlib.Core.Path.{_≡_, refl, sym, _∙_, ap, subst}
-use mathlib.Core.Logic.{inl, inr}
+use mathlib.Core.Logic.{_↔_, inl, inr}
 use mathlib.Core.List.{List, [], _∷_, _++_}
 use mathlib.Core.Option.{Option, none, some}
 use Prim.Native.Nat.{ℕ, suc}
@@ -99,3 +99,45 @@ pub ruled-and-then : {A B : Type 0} (Good : A → Type 0) (Fine : B → Type 0) 
 ruled-and-then Good Fine [] r ds f (a, g, e) h = rw e (h a g e)
 ruled-and-then Good Fine (c ∷ cs) r ds f (inl (n, g)) h = inl (n, ruled-and-then Good Fine cs r ds f g h)
 ruled-and-then Good Fine (c ∷ cs) r ds f (inr (k, l, e)) h = inr (k, l, ap (λ q. andThen q f) e)
+
+-- Rows that say the same of each item, in other words.
+abbrev pub Restate : Row → Row → Type 0
+Restate c d = (c .number ≡ d .number) × ((k : ℕ) → c .has k ↔ d .has k)
+
+abbrev pub RestateAll : List Row → List Row → Type 0
+RestateAll [] [] = Unit {0}
+RestateAll [] (d ∷ ds) = ⊥
+RestateAll (c ∷ cs) [] = ⊥
+RestateAll (c ∷ cs) (d ∷ ds) = Restate c d × RestateAll cs ds
+
+-- A row as it stands.
+pub as-it-stands : (c : Row) → Restate c c
+as-it-stands c = (refl, λ k. ((λ h. h), (λ h. h)))
+
+nowhere-restated : (c d : Row) → Restate c d → Nowhere c → Nowhere d
+nowhere-restated c d (n, h) a k q = a k (h k .1 q)
+
+pub ruled-restated : {A : Type 0} (Good : A → Type 0) (cs ds : List Row) (r : Ruling A) → RestateAll cs ds → Ruled cs Good r → Ruled ds Good r
+ruled-restated Good [] [] r w g = g
+ruled-restated Good [] (d ∷ ds) r w g = absurd w
+ruled-restated Good (c ∷ cs) [] r w g = absurd w
+ruled-restated Good (c ∷ cs) (d ∷ ds) r w (inl (n, g)) = inl (nowhere-restated c d (w .0) n, ruled-restated Good cs ds r (w .1) g)
+ruled-restated {A} Good (c ∷ cs) (d ∷ ds) r w (inr (k, l, e)) =
+    let (n, h) = w .0 in
+    inr (
+      k,
+      record { here = h k .0 (l .here); below = λ j m q. l .below j m (h j .1 q) },
+      e ∙ ap {B = Ruling A} (λ m. refused m k) n,
+    )
+
+pub absent-restated : (cs ds : List Row) → RestateAll cs ds → Absent cs → Absent ds
+absent-restated [] [] w a = tt
+absent-restated [] (d ∷ ds) w a = absurd w
+absent-restated (c ∷ cs) [] w a = absurd w
+absent-restated (c ∷ cs) (d ∷ ds) w a = (nowhere-restated c d (w .0) (a .0), absent-restated cs ds (w .1) (a .1))
+
+pub restate-back : (cs ds : List Row) → RestateAll cs ds → RestateAll ds cs
+restate-back [] [] w = tt
+restate-back [] (d ∷ ds) w = absurd w
+restate-back (c ∷ cs) [] w = absurd w
+restate-back (c ∷ cs) (d ∷ ds) w = let (n, h) = w .0 in ((sym n, λ k. (h k .1, h k .0)), restate-back cs ds (w .1))

@@ -10,7 +10,7 @@ use lib.Dec.{eqb}
 use Rattle.lists.specs.Choice.{pick, cut-lt, cut-eq, clash}
 use Rattle.number.specs.Groups.{numberLimit}
 use Rattle.lists.specs.All.{All}
-use Rattle.lists.specs.All.Laws.{all-nth}
+use Rattle.lists.specs.All.Laws.{all-append, all-nth}
 use borrow.Author.Tests.{lt-ltb}
 use Rattle.lists.specs.Lists.{anyBy}
 use Rattle.term.specs.Term.{Term, leaf, app, variable, count, symbolss, Formeds, InRanges}
@@ -26,10 +26,6 @@ use Rattle.rules.specs.Numbered.{first, fixed, variables, known, applies
 pub data Slot (a : ℕ) : Type 0 where
   takes : a ≤ 4 → Slot a
   empty : a ≡ undeclared → Slot a
-
-all-append : {A : Type 0} (P : A → Type 0) (xs ys : List A) → All P xs → All P ys → All P (xs ++ ys)
-all-append P [] ys a b = b
-all-append P (x ∷ xs) ys a b = (a .0, all-append P xs ys (a .1) b)
 
 pub all-at : {A : Type 0} (P : A → Type 0) (d : A) (xs : List A) (i : ℕ) → P d → All P xs → P (getD xs i d)
 all-at P d [] i h a = h

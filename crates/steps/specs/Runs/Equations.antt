@@ -1,5 +1,5 @@
--- An accepted graph by the equations: the two facts of an edge are of one symbol, and the ten equations make their arguments equal. For nodes
--- within the limits this is what the test of facts says, so that nobody has to believe canonical forms.
+-- Runs, accepted graphs and the rows of the table by the equations: two facts are the same where they are of one symbol and the ten equations
+-- make their arguments equal. For nodes within the limits this is what the test of facts says, so that nobody has to believe canonical forms.
 use Prim.Native.Nat.{ℕ, _≤_, _<_}
 use mathlib.Core.List.{List}
 use mathlib.Core.Bool.{true}
@@ -9,9 +9,19 @@ use mathlib.Core.Path.{_≡_, refl, sym, _∙_, ap}
 use Rattle.lists.specs.Lists.{_∈_, nth}
 use Rattle.lists.specs.Lists.Laws.{map-nth}
 use Rattle.lists.specs.All.{All}
-use Rattle.lists.specs.All.Laws.{all-nth}
+use Rattle.lists.specs.All.Laws.{all-nth, map-all}
 use Rattle.rewriting.specs.Graph as graph
 use Rattle.rewriting.specs.Graph.{Place, Edge, Joins, into, outOf, inNode, premiseAt, conclusionAt}
+use Rattle.rewriting.specs.Facts.{Tested}
+use Rattle.rewriting.specs.Table.{Row, Absent, Ruled}
+use Rattle.rewriting.specs.Table.Laws.{RestateAll, ruled-restated, absent-restated, restate-back}
+use Rattle.rewriting.specs.Rewriting.{Rewrites}
+use Rattle.rewriting.specs.Rewriting.Laws.{GoodNode}
+use Rattle.rewriting.specs.Rewriting.Laws as machines
+use Rattle.rewriting.specs.Causes.{graphRows, drawRows}
+use Rattle.rewriting.specs.Causes.Laws as causes
+use Rattle.rewriting.specs.Checker.{checkGraph}
+use Rattle.rewriting.specs.Whole.{machineRows}
 use Rattle.term.specs.Arity.{arity, tagArities}
 use Rattle.protocol.specs.Figures.{premiseList, conclusionList}
 use Rattle.protocol.specs.Protocol.{Fact, Protocol}
@@ -19,9 +29,25 @@ use Rattle.protocol.specs.Protocol.Limits.{Within}
 use Rattle.steps.specs.Nodes.{Node, NodeWithin}
 use Rattle.steps.specs.Facts.{factsOf, SameFact, isLinear}
 use Rattle.steps.specs.Facts.Formed.{FactFormed, facts-formed, formed-decides}
-use Rattle.steps.specs.Runs.{protocolFacts, rewritten, rewrittens, Accepted, NamesOnce}
+use Rattle.steps.specs.Runs.{protocolFacts, rewritten, rewrittens, IsRun, Accepted, NamesOnce}
+use Rattle.steps.specs.Runs.Theorems.{absent-exactly, check-table, drawn, draw-table}
 
 module _ (p : Protocol) (xs : List Node) where
+  -- "equal facts count as the same fact"
+  abbrev pub EqualFacts : Fact → Fact → Type 0
+  EqualFacts = SameFact (arity (tagArities (p .functions)))
+
+  -- "The nodes are a run exactly when none fails"
+  abbrev pub RunSame : Type 0
+  RunSame = Rewrites EqualFacts (isLinear p) (rewrittens p xs)
+
+  -- 9 to 13 of a graph, and 9 and 14 of a drawing
+  abbrev pub graphRowsSame : List Edge → List Row
+  graphRowsSame edges = graphRows EqualFacts (isLinear p) (rewrittens p xs) edges
+
+  abbrev pub drawRowsSame : List Row
+  drawRowsSame = drawRows EqualFacts (isLinear p) (rewrittens p xs)
+
   -- "each edge from an earlier node, its two facts equal"
   pub record JoinsSame (e : Edge) : Type 0 where
     pub from : Fact
@@ -87,3 +113,42 @@ module _ (p : Protocol) (fit : Within p) (xs : List Node) (within : All (NodeWit
     λ g. record { joins = λ e m. joins-same e (g .joins e m); one-into = g .one-into; one-out = g .one-out; names-once = g .names-once },
     λ g. record { joins = λ e m. same-joins e (g .joins e m); one-into = g .one-into; one-out = g .one-out; names-once = g .names-once },
   )
+
+  -- ── runs, and the rows ──
+  node-good : (x : Node) → NodeWithin p x → GoodNode (FactFormed p) (rewritten p x)
+  node-good x w = record { premises = facts-formed p fit x w premiseList; conclusions = facts-formed p fit x w conclusionList }
+
+  nodes-good : All (GoodNode (FactFormed p)) (rewrittens p xs)
+  nodes-good = map-all (NodeWithin p) (GoodNode (FactFormed p)) (rewritten p) node-good xs within
+
+  pub run-exactly : IsRun p xs ↔ RunSame p xs
+  run-exactly = machines.run-exactly (protocolFacts p) (EqualFacts p xs) (FactFormed p) (formed-decides p fit) (rewrittens p xs) nodes-good
+
+  graph-rows : (edges : List Edge) → RestateAll (graphRows (Tested (protocolFacts p)) (isLinear p) (rewrittens p xs) edges) (graphRowsSame p xs edges)
+  graph-rows edges =
+      causes.graph-rows (protocolFacts p) (EqualFacts p xs) (rewrittens p xs)
+      (λ a b f g h k. formed-decides p fit f g (source-formed a f h) (target-formed b g k)) edges
+
+  -- 9 to 13 are absent just where the graph is accepted
+  pub absent-same : (edges : List Edge) → Absent (graphRowsSame p xs edges) ↔ AcceptedSame p xs edges
+  absent-same edges =
+      let rows = graph-rows edges in
+      let tested = graphRows (Tested (protocolFacts p)) (isLinear p) (rewrittens p xs) edges in (
+        (λ a. accepted-exactly edges .0
+            (absent-exactly p xs edges .0 (absent-restated (graphRowsSame p xs edges) tested (restate-back tested (graphRowsSame p xs edges) rows) a))),
+        (λ g. absent-restated tested (graphRowsSame p xs edges) rows (absent-exactly p xs edges .1 (accepted-exactly edges .1 g))),
+      )
+
+  -- the passes of 9 to 13 answer what the table says
+  pub check-table-same :
+      {A : Type 0} (edges : List Edge) (a : A) (Good : A → Type 0) → (AcceptedSame p xs edges → Good a)
+      → Ruled (graphRowsSame p xs edges) Good (checkGraph (protocolFacts p) (rewrittens p xs) edges a)
+  check-table-same edges a Good h =
+      ruled-restated Good (graphRows (Tested (protocolFacts p)) (isLinear p) (rewrittens p xs) edges) (graphRowsSame p xs edges) _ (graph-rows edges)
+      (check-table p xs edges a Good (λ g. h (accepted-exactly edges .0 g)))
+
+  -- "Drawing: .. 9, 14", and what is drawn is accepted
+  pub draw-table-same : Ruled (drawRowsSame p xs) (Accepted p xs) (drawn p xs)
+  draw-table-same =
+      ruled-restated (Accepted p xs) (machineRows (protocolFacts p) (rewrittens p xs)) (drawRowsSame p xs) (drawn p xs)
+      (causes.draw-rows (protocolFacts p) (EqualFacts p xs) (FactFormed p) (formed-decides p fit) (rewrittens p xs) nodes-good) (draw-table p xs)

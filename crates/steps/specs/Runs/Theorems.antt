@@ -1,4 +1,4 @@
--- The theorems of crate rewriting at the facts of a protocol.
+-- The theorems of crate rewriting at the facts of a protocol, by the test of facts; by the equations they are in Equations.antt.
 use Prim.Native.Nat.{ℕ}
 use mathlib.Core.List.{List}
 use mathlib.Core.Logic.{_⊎_, _↔_}
@@ -6,7 +6,8 @@ use mathlib.Core.Path.{_≡_}
 use lib.ListN.{length}
 use Rattle.rewriting.specs.Graph.{Edge}
 use Rattle.rewriting.specs.Table.{Ruling, passed, refused, Absent, Ruled}
-use Rattle.rewriting.specs.Causes.{graphRows, drawRows}
+use Rattle.rewriting.specs.Facts.{Tested}
+use Rattle.rewriting.specs.Causes.{graphRows}
 use Rattle.rewriting.specs.Checker.{checkGraph}
 use Rattle.rewriting.specs.Writer.{draw}
 use Rattle.rewriting.specs.Runs as runs
@@ -17,6 +18,7 @@ use Rattle.rewriting.specs.Whole as whole
 use Rattle.rewriting.specs.Size as size
 use Rattle.protocol.specs.Protocol.{Protocol}
 use Rattle.steps.specs.Nodes.{Node}
+use Rattle.steps.specs.Facts.{isLinear}
 use Rattle.steps.specs.Runs.{protocolFacts, rewrittens, IsRun, Accepted, NamesOnce}
 
 module _ (p : Protocol) (xs : List Node) where
@@ -29,13 +31,13 @@ module _ (p : Protocol) (xs : List Node) where
   run-names r = names.run-names (protocolFacts p) (rewrittens p xs) r
 
   -- 9 to 13 are absent just where the graph is accepted
-  pub absent-exactly : (edges : List Edge) → Absent (graphRows (protocolFacts p) (rewrittens p xs) edges) ↔ Accepted p xs edges
+  pub absent-exactly : (edges : List Edge) → Absent (graphRows (Tested (protocolFacts p)) (isLinear p) (rewrittens p xs) edges) ↔ Accepted p xs edges
   absent-exactly edges = acceptance.absent-exactly (protocolFacts p) (rewrittens p xs) edges
 
   -- the passes of 9 to 13 answer what the table says, and let through just the accepted graphs
   pub check-table :
       {A : Type 0} (edges : List Edge) (a : A) (Good : A → Type 0) → (Accepted p xs edges → Good a)
-      → Ruled (graphRows (protocolFacts p) (rewrittens p xs) edges) Good (checkGraph (protocolFacts p) (rewrittens p xs) edges a)
+      → Ruled (graphRows (Tested (protocolFacts p)) (isLinear p) (rewrittens p xs) edges) Good (checkGraph (protocolFacts p) (rewrittens p xs) edges a)
   check-table edges a Good h = acceptance.check-table (protocolFacts p) (rewrittens p xs) edges a Good h
 
   pub check-accepted :
@@ -52,7 +54,7 @@ module _ (p : Protocol) (xs : List Node) where
   drawn = draw (protocolFacts p) (rewrittens p xs)
 
   -- "Drawing: .. 9, 14", and what is drawn is accepted
-  pub draw-table : Ruled (drawRows (protocolFacts p) (rewrittens p xs)) (Accepted p xs) drawn
+  pub draw-table : Ruled (whole.machineRows (protocolFacts p) (rewrittens p xs)) (Accepted p xs) drawn
   draw-table = whole.draw-table (protocolFacts p) (rewrittens p xs)
 
   -- "draws a graph exactly when the whole list is such a run"
