@@ -19,7 +19,7 @@ use Rattle.steps.specs.Values.{NodeRight}
 use Rattle.steps.specs.Facts.{factsOf, sameFact, SameFact}
 use Rattle.steps.specs.Facts.Formed.{FactFormed, facts-formed, formed-decides}
 use Rattle.steps.specs.Runs.{IsRun, NamesOnce}
-use Rattle.steps.specs.Runs.Equations.{accepted-exactly}
+use Rattle.steps.specs.Runs.Equations.{RunSame, accepted-exactly, run-exactly}
 use Rattle.steps.specs.Runs.Theorems.{accepted-runs, run-names}
 use Rattle.graph.specs.Graph.{Graph}
 use Rattle.graph.specs.Causes.{DependencyGraph}
@@ -35,7 +35,10 @@ use Rattle.term.specs.Sizes.{mostSymbols}
 use Rattle.checker.specs.Answer.{workNeed}
 use Rattle.checker.specs.Files.{termLimit}
 use Rattle.checker.specs.Files.Terms.{IsTerm}
-use Rattle.checker.specs.Canonical.{need, canonicalOutcome, canonicalRows}
+use Rattle.checker.specs.Canonical.{need, canonicalOutcome, canonicalRows, canonicalOutput, canonicalWork}
+use Rattle.checker.specs.Canonical.Cases as forms
+use Rattle.checker.specs.Canonical.Inside as inside
+use Rattle.checker.specs.Canonical.Meaning.{FormWritten, written-meaning}
 use Rattle.checker.specs.Canonical.Laws.{Length, canonical-ruled}
 use Rattle.checker.specs.Canonical.Back.{canonical-unique, canonical-back}
 use Rattle.checker.specs.Files.Fit.{FitFile, fit-within}
@@ -64,11 +67,15 @@ TraceHolds p fit f {file} {g} d = NodesHold p fit f (g .nodes) (d .within .0 .ea
 
 -- "a run of the multiset rewriting from the empty state, no fresh name made twice"
 pub record SuchRun (p : Protocol) (xs : List Node) : Type 0 where
-  pub run : IsRun p xs
+  pub run : RunSame p xs
   pub names-once : NamesOnce p xs
 
-pub such-run : (p : Protocol) (xs : List Node) → IsRun p xs → SuchRun p xs
-such-run p xs r = record { run = r; names-once = run-names p xs r }
+-- it is what the machine runs through
+pub such-run-exactly : (p : Protocol) → Within p → (xs : List Node) → All (NodeWithin p) xs → IsRun p xs ↔ SuchRun p xs
+such-run-exactly p fit xs within = (
+  (λ r. record { run = run-exactly p fit xs within .0 r; names-once = run-names p xs r }),
+  (λ s. run-exactly p fit xs within .1 (s .run)),
+)
 
 -- an answer that decides a statement is false just where the statement fails
 fails-exactly : {P : Type 0} {b : Bool} → Reflects P b → (b ≡ false) ↔ ¬ P
@@ -98,21 +105,40 @@ facts-equal p fit x y a b i j f g m n = formed-decides p fit f g (formed x a i f
 
 -- ── 1, for canonical form: a length or one refusal, which the table alone fixes; and files that hold a fit protocol and a term of it, with
 -- room and work enough, give the length of the canonical form ──
-module _ (protocol term : List ℕ) where
+module _ (protocol term : List ℕ) (bytes : Bytes protocol) (term-bytes : Bytes term) where
   pub form-any-bytes :
       (output work : ℕ) → Ruled (canonicalRows protocol term output work) (Length protocol term) (canonicalOutcome protocol term output work)
-  form-any-bytes = canonical-ruled protocol term
+  form-any-bytes = canonical-ruled protocol term bytes
 
   pub form-one-outcome :
       (output work : ℕ) (r : Ruling ℕ) → Ruled (canonicalRows protocol term output work) (Length protocol term) r
       → r ≡ canonicalOutcome protocol term output work
-  form-one-outcome = canonical-unique protocol term
+  form-one-outcome = canonical-unique protocol term bytes
 
   pub form-written :
-      Bytes protocol → Bytes term → (p : Protocol) → FitFile protocol p → (t : Term) → IsTerm (tagArities (p .functions)) term t
+      (p : Protocol) → FitFile protocol p → (t : Term) → IsTerm (tagArities (p .functions)) term t
       → symbols t ≤ mostSymbols → length term ≤ termLimit → (output work : ℕ) → workNeed ≤ work → need t ≤ output
       → canonicalOutcome protocol term output work ≡ passed (need t)
-  form-written = canonical-back protocol term
+  form-written = canonical-back protocol term bytes term-bytes
+
+  -- a refusal leaves the output; else the canonical term of that length starts it, and "Output past what was written never changes"
+  pub form-output-left :
+      (output : List ℕ) (work : ℕ)
+      → ((n k : ℕ) → canonicalOutcome protocol term (length output) work ≡ refused n k → canonicalOutput protocol term output work ≡ output)
+      × ((n : ℕ) → canonicalOutcome protocol term (length output) work ≡ passed n → FormWritten protocol term output work n)
+  form-output-left output work = (
+    (λ n k e. sym (forms.output-kept protocol term output work n k e)),
+    written-meaning protocol term output work bytes term-bytes,
+  )
+
+  pub form-work-left :
+      (output : ℕ) (work : List ℕ)
+      → (length work < workNeed → canonicalWork protocol term output work ≡ work)
+      × (workNeed ≤ length work → canonicalWork protocol term output work ≡ replicate (length work) 0)
+  form-work-left output work = (
+    (λ l. sym (forms.work-kept protocol term work output l)),
+    (λ l. sym (inside.work-cleared protocol term output work l)),
+  )
 
 -- ── 1, for drawing: a length or one refusal, which the table alone fixes, and the lent memory as the table says ──
 module _ (protocol steps : List ℕ) (bytes : Bytes protocol) (steps-bytes : Bytes steps) where
@@ -230,7 +256,7 @@ module _ (protocol property graph : List ℕ) (bytes : Bytes protocol) (property
       let acc = accepted-exactly p fit (g .nodes) (d .within .0 .each) (g .edges) .1 (d .accepted) in
       record {
         its = a;
-        run = such-run p (g .nodes) (accepted-runs p (g .nodes) (g .edges) acc);
+        run = such-run-exactly p fit (g .nodes) (d .within .0 .each) .0 (accepted-runs p (g .nodes) (g .edges) acc);
         attack = subst (λ (b : Checked). (b .holds ≡ false) ↔ ¬ TraceHolds p fit (a .is-property) d) (sym (a .answer))
             (attack-exactly p (h .fit) (a .is-property) (h .fit-property) d);
       }

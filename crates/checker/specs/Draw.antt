@@ -5,12 +5,11 @@ use mathlib.Core.List.{List, [], _∷_, _++_}
 use lib.ListN.{length}
 use Rattle.rewriting.specs.Table.{Ruling, passed, Row, Pass, rulingThen, rowsThen, andThen, rowsAfter}
 use Rattle.rewriting.specs.Table.Passes.{lessPass}
-use Rattle.rewriting.specs.Causes as theory
 use Rattle.protocol.specs.Protocol.{Protocol}
 use Rattle.steps.specs.Nodes.{Node}
 use Rattle.steps.specs.Nodes as nodes
 use Rattle.steps.specs.Values.{valueRows}
-use Rattle.steps.specs.Runs.{protocolFacts, rewrittens}
+use Rattle.steps.specs.Runs.Equations.{drawRowsSame}
 use Rattle.steps.specs.Runs.Theorems.{drawn}
 use Rattle.steps.specs.Causes.{stepsItem, readRows, readRuling, valueRuling}
 use Rattle.steps.specs.WellFormed.{stepsLimit}
@@ -45,7 +44,7 @@ abbrev pub nodesUnder : Protocol → List Node → Ruling Graph
 nodesUnder p xs = valueRuling p xs (graphOf p xs)
 
 abbrev pub nodesUnderRows : Protocol → List Node → List Row
-nodesUnderRows p xs = valueRows p xs ++ theory.drawRows (protocolFacts p) (rewrittens p xs)
+nodesUnderRows p xs = valueRows p xs ++ drawRowsSame p xs
 
 -- "steps 3 and 6, 7, 8, 9, 14"
 unfoldable pub stepsUnder : Protocol → List ℕ → Ruling Graph

@@ -2,21 +2,24 @@
 use Prim.Native.Nat.{ℕ, _<_}
 use mathlib.Core.List.{List, [], _∷_, _++_}
 use mathlib.Core.Bool.{not, _&&_}
+use mathlib.Core.Option.{some}
 use mathlib.Core.Path.{_≡_}
 use lib.ListN.{length}
 use lib.Dec.{eqb}
 use Rattle.term.specs.Sizes.{mostSymbols}
 use Rattle.lists.specs.Choice.{pick}
+use Rattle.lists.specs.Lists.{nth}
 use Rattle.number.specs.Groups.{numberLimit}
 use Rattle.number.specs.Reading.{Read, got, fault}
 use Rattle.number.specs.Reading as reading
 use Rattle.term.specs.Term.{Term, symbols}
 use Rattle.term.specs.Reader.{term}
 use Rattle.term.specs.Walk.{holds}
-use Rattle.rewriting.specs.Table.{Ruling, passed, refused, Row, row, fixedRow, Fails, rulingOf, andThen, rowsAfter}
+use Rattle.rewriting.specs.Table.{Ruling, passed, refused, Row, row, fixedRow, rulingOf, andThen, rowsAfter}
 use Rattle.rewriting.specs.Table.Passes.{leastPass, lessPass}
-use Rattle.protocol.specs.Protocol.{Protocol, protocol}
+use Rattle.protocol.specs.Protocol.{Rule, Protocol, protocol}
 use Rattle.rules.specs.Fit.{fits}
+use Rattle.rules.specs.Fit.Meaning as conditions
 -- what the table says of each
 pub mod Laws
 -- a term file is read exactly
@@ -54,8 +57,14 @@ layoutRows item r = fixedRow 3 item (r ≡ fault) ∷ []
 abbrev pub fitRuling : Protocol → Ruling Protocol
 fitRuling p = rulingOf (leastPass 4 (λ k r. fits r) (p .rules) ∷ []) p
 
+-- "P1 to P4 broken", 4, "rule, from 1"
+pub record Unfit (rules : List Rule) (k : ℕ) : Type 0 where
+  pub which : Rule
+  pub stands : nth rules k ≡ some which
+  pub not-fit : ¬ conditions.Fit which
+
 abbrev pub fitRows : Protocol → List Row
-fitRows p = row 4 (Fails (λ k r. fits r) (p .rules)) ∷ []
+fitRows p = row 4 (Unfit (p .rules)) ∷ []
 
 abbrev pub protocolRuling : List ℕ → Ruling Protocol
 protocolRuling file = andThen (layout protocolItem (protocol file)) fitRuling

@@ -4,12 +4,11 @@ use mathlib.Core.List.{List, _++_}
 use mathlib.Core.Path.{_≡_}
 use Rattle.lists.specs.All.{All}
 use Rattle.rewriting.specs.Table.{Ruling, Row, andThen, rowsAfter}
-use Rattle.rewriting.specs.Causes as theory
 use Rattle.rewriting.specs.Checker.{checkGraph}
 use Rattle.protocol.specs.Protocol.{Protocol}
 use Rattle.steps.specs.Values.{NodeRight, valueRows}
 use Rattle.steps.specs.Runs.{protocolFacts, rewrittens}
-use Rattle.steps.specs.Runs.Equations.{AcceptedSame}
+use Rattle.steps.specs.Runs.Equations.{AcceptedSame, graphRowsSame}
 use Rattle.steps.specs.Causes.{graphItem, readRows, readRuling, valueRuling}
 use Rattle.graph.specs.Graph.{Graph, GraphWithin, encodeGraph, graph}
 -- the ruling is what the rows say, and passes just the dependency graphs
@@ -18,7 +17,7 @@ pub mod Laws
 module _ (p : Protocol) where
   -- ── 7 to 13 ──
   abbrev pub graphRows : Graph → List Row
-  graphRows g = valueRows p (g .nodes) ++ theory.graphRows (protocolFacts p) (rewrittens p (g .nodes)) (g .edges)
+  graphRows g = valueRows p (g .nodes) ++ graphRowsSame p (g .nodes) (g .edges)
 
   abbrev pub ruling : Graph → Ruling Graph
   ruling g = valueRuling p (g .nodes) (checkGraph (protocolFacts p) (rewrittens p (g .nodes)) (g .edges) g)

@@ -38,11 +38,11 @@ module _ (protocol term : List ℕ) where
           ∙ h .holds .small .reads .there)
 
   pub canonical-unique :
-      (output work : ℕ) (r : Ruling ℕ) → Ruled (canonicalRows protocol term output work) (Length protocol term) r
+      Bytes protocol → (output work : ℕ) (r : Ruling ℕ) → Ruled (canonicalRows protocol term output work) (Length protocol term) r
       → r ≡ canonicalOutcome protocol term output work
-  canonical-unique output work r h =
+  canonical-unique bytes output work r h =
       ruled-unique (Length protocol term) one-length (canonicalRows protocol term output work) r (canonicalOutcome protocol term output work) h
-      (canonical-ruled protocol term output work)
+      (canonical-ruled protocol term bytes output work)
 
   -- ── good files, room and work enough ──
   module _ (bytes : Bytes protocol) (term-bytes : Bytes term) (p : Protocol) (fit : FitFile protocol p) (t : Term)

@@ -33,7 +33,7 @@ module _ (protocol term : List ℕ) (bytes : Bytes protocol) (term-bytes : Bytes
 
   small-need : (t : Term) → length term ≤ termLimit → termOf protocol term ≡ passed t → need t ≤ termLimit
   small-need t l e =
-      let f = taken protocol term term-bytes t e in
+      let f = taken protocol term bytes term-bytes t e in
       let s = tagArities (f .is .functions) in
       omega (arith, ap length (f .file .bytes), fewer-bytes (arity s) (declared (f .is .functions)) t (f .file .formed))
 

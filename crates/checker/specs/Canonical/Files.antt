@@ -31,7 +31,7 @@ pub record Encodes (protocol term : List ℕ) (t : Term) : Type 0 where
 small-enough : (n : ℕ) → (mostSymbols < n → ⊥) → n ≤ mostSymbols
 small-enough n f = by-size mostSymbols n (λ l. absurd (f l)) (λ l. l)
 
-module _ (protocol term : List ℕ) (bytes : Bytes term) where
+module _ (protocol term : List ℕ) (protocol-bytes : Bytes protocol) (bytes : Bytes term) where
   encodes : (t : Term) → Holds protocol term t → Encodes protocol term t
   encodes t h =
       let r = h .small .reads in
@@ -46,7 +46,7 @@ module _ (protocol term : List ℕ) (bytes : Bytes term) where
   pub taken : (t : Term) → termOf protocol term ≡ passed t → Encodes protocol term t
   taken t e =
       encodes t (passed-good (Holds protocol term) (readRows protocol term) t
-      (subst (λ (r : Ruling Term). Ruled (readRows protocol term) (Holds protocol term) r) e (read-ruled protocol term)))
+      (subst (λ (r : Ruling Term). Ruled (readRows protocol term) (Holds protocol term) r) e (read-ruled protocol term protocol-bytes)))
 
   -- the bytes are the encoding of its canonical form
   pub forms : (t : Term) → termOf protocol term ≡ passed t → formOf (termOf protocol term) ≡ encode (canon t)

@@ -2,6 +2,7 @@
 use Prim.Native.Nat.{ℕ}
 use mathlib.Core.List.{List, [], _∷_, _++_}
 use mathlib.Core.Path.{_≡_, refl}
+use Rattle.octets.specs.Head.{Bytes}
 use Rattle.term.specs.Term.{Term}
 use Rattle.term.specs.Arity.{tagArities}
 use Rattle.rewriting.specs.Table.{Ruled, andThen, rowsAfter}
@@ -19,10 +20,10 @@ module _ (protocol term : List ℕ) where
     pub fit : IsFit protocol is
     pub small : IsSmall (tagArities (is .functions)) term t
 
-  pub read-ruled : Ruled (readRows protocol term) Holds (termOf protocol term)
-  read-ruled =
+  pub read-ruled : Bytes protocol → Ruled (readRows protocol term) Holds (termOf protocol term)
+  read-ruled bytes =
       ruled-and-then (IsFit protocol) Holds (protocolRows protocol) (protocolRuling protocol)
-      (λ p. termRows (tagArities (p .functions)) term) (λ p. termRuling (tagArities (p .functions)) term) (protocol-ruled protocol)
+      (λ p. termRows (tagArities (p .functions)) term) (λ p. termRuling (tagArities (p .functions)) term) (protocol-ruled protocol bytes)
       (λ p h e. ruled-good (IsSmall (tagArities (p .functions)) term) Holds (λ t s. record { is = p; fit = h; small = s })
       (termRows (tagArities (p .functions)) term) (termRuling (tagArities (p .functions)) term) (term-ruled (tagArities (p .functions)) term))
 
@@ -33,10 +34,10 @@ module _ (protocol term : List ℕ) where
     pub needs : n ≡ need is
 
   -- "Canonical form: 1 to 4, term 3, 8, 15"; the answer is unique
-  pub canonical-ruled : (output work : ℕ) → Ruled (canonicalRows protocol term output work) Length (canonicalOutcome protocol term output work)
+  pub canonical-ruled : Bytes protocol → (output work : ℕ) → Ruled (canonicalRows protocol term output work) Length (canonicalOutcome protocol term output work)
   unfolding canonicalOutcome
-  canonical-ruled output work =
+  canonical-ruled bytes output work =
       ruled-then Length (sizes protocol term work) (readRows protocol term ++ rowsAfter (termOf protocol term) (roomRows output))
       (andThen (termOf protocol term) (roomRuling output))
-      (λ a. ruled-and-then Holds Length (readRows protocol term) (termOf protocol term) (roomRows output) (roomRuling output) read-ruled
+      (λ a. ruled-and-then Holds Length (readRows protocol term) (termOf protocol term) (roomRows output) (roomRuling output) (read-ruled bytes)
       (λ t h e. ruled Length (needPass 15 output (need t) ∷ []) (need t) (λ b. record { is = t; holds = h; needs = refl })))

@@ -1,5 +1,5 @@
 -- What the call writes, in document 01's words: where it passes, the files hold a fit protocol and a term, and the output begins with the
--- encoding of the one canonical term that the paper's equations make equal to it; its length is the answer.
+-- encoding of the one canonical message that the paper's equations make equal to it; its length is the answer.
 use Prim.Native.Nat.{ℕ, _≤_}
 use mathlib.Core.List.{List, []}
 use mathlib.Core.Path.{_≡_, refl, sym, _∙_}
@@ -12,8 +12,9 @@ use Rattle.term.specs.Term.{Term, encode, Formed}
 use Rattle.term.specs.Arity.{arity, tagArities}
 use Rattle.message.specs.Equations.{Same}
 use Rattle.message.specs.Canonical.{Canonical}
+use Rattle.message.specs.Substitution.{Ground}
 use Rattle.message.specs.Canon.{canon}
-use Rattle.message.specs.Theorems.{canon-same, canon-is-canonical, canonical-same, declared}
+use Rattle.message.specs.Theorems.{canon-same, canon-is-canonical, canon-is-formed, canon-is-ground, canonical-same, declared}
 use Rattle.message.specs.Equations as equations
 use Rattle.rewriting.specs.Table.{Ruling, passed, refused, andThen}
 use Rattle.rewriting.specs.Table.Laws.{refused-passed, passed-inj}
@@ -31,6 +32,8 @@ module _ (protocol term output : List ℕ) (work : ℕ) where
     pub files : Encodes protocol term held
     -- its canonical form
     pub form : Term
+    pub ground : Ground form
+    pub formed : Formed (arity (tagArities (files .is .functions))) form
     pub canonical : Canonical form
     pub same : Same (arity (tagArities (files .is .functions))) held form
     -- the answer and the output
@@ -44,10 +47,10 @@ module _ (protocol term output : List ℕ) (work : ℕ) where
   never : {C : Type 0} (n m k : ℕ) → Outcome ≡ passed n → Outcome ≡ refused m k → C
   never n m k e f = absurd (refused-passed m k n (sym f ∙ e))
 
-  module _ (bytes : Bytes term) (n : ℕ) (e : Outcome ≡ passed n) where
+  module _ (protocol-bytes : Bytes protocol) (bytes : Bytes term) (n : ℕ) (e : Outcome ≡ passed n) where
     of-term : (t : Term) → termOf protocol term ≡ passed t → roomRuling (length output) t ≡ passed n → FormWritten n
     of-term t i r =
-        let f = taken protocol term bytes t i in
+        let f = taken protocol term protocol-bytes bytes t i in
         let ar = arity (tagArities (f .is .functions)) in
         let g = declared (f .is .functions) in
         by-size (length output) (need t)
@@ -57,11 +60,13 @@ module _ (protocol term output : List ℕ) (work : ℕ) where
           held = t;
           files = f;
           form = canon t;
+          ground = canon-is-ground ar g t (f .file .ground);
+          formed = canon-is-formed ar g t (f .file .formed);
           canonical = canon-is-canonical ar g t (f .file .formed);
           same = canon-same ar g t (f .file .formed);
           long = sym m;
           room = omega (arith, m);
-          left = sym (output-written protocol term output (encode (canon t)) work n e (forms protocol term bytes t i));
+          left = sym (output-written protocol term output (encode (canon t)) work n e (forms protocol term protocol-bytes bytes t i));
         })
 
     of-ruling : (r : Ruling Term) → termOf protocol term ≡ r → andThen r (roomRuling (length output)) ≡ passed n → FormWritten n

@@ -6,8 +6,7 @@ use mathlib.Core.Option.{Option, some, none, Option·none-ne-some}
 use mathlib.Core.Path.{_≡_, refl, ap, sym, subst}
 use native.Mathlib.Omega.{arith}
 use lib.ListN.{length}
-use lib.Dec.{eqb}
-use Rattle.lists.specs.Choice.{cut, clash}
+use Rattle.lists.specs.Choice.{clash}
 use Rattle.lists.specs.Lists.{nth, bit, countBy}
 use Rattle.lists.specs.Lists.Laws.{map-nth, nth-bound}
 use Rattle.octets.specs.Head.{Bytes}
@@ -20,13 +19,13 @@ use Rattle.protocol.specs.Protocol.{Fact, Protocol, factArities}
 use Rattle.protocol.specs.Protocol as protocols
 use Rattle.protocol.specs.Protocol.Limits.{Within}
 use Rattle.protocol.specs.Protocol.Exact.{protocol-form}
-use Rattle.steps.specs.Nodes.{Node, mostNodes, Reading, read, broken, no-rule, onward, plainly, allOf, nodeList}
-use Rattle.steps.specs.Nodes.Unknown.{no-rule-exactly}
+use Rattle.steps.specs.Nodes.{Node, mostNodes, Reading, read, broken, no-rule}
+use Rattle.steps.specs.Nodes.Unknown.{RuleMissing}
 use Rattle.steps.specs.Runs.{rewritten, rewrittens}
 use Rattle.steps.specs.Causes.{graphItem, readRows, readRuling}
-use Rattle.graph.specs.Graph.{Graph, mostEdges, withEdges}
+use Rattle.graph.specs.Graph.{Graph, mostEdges}
 use Rattle.graph.specs.Graph as graphs
-use Rattle.graph.specs.Graph.Exact.{graph-form}
+use Rattle.graph.specs.Graph.Exact.{graph-form, graph-rule-missing}
 use Rattle.graph.specs.Causes.{graphRows, graphFileRows, graphRuling, DependencyGraph}
 use Rattle.graph.specs.Causes.Laws.{graph-ruled}
 use Rattle.property.specs.Formula.{Formula}
@@ -79,28 +78,16 @@ module _ (p : Protocol) (xs : List Node) (few : length xs ≤ mostNodes) where
   seen-small k y h = let (x, i, e) = map-nth (rewritten p) xs k y h in node-small k x i
 
 -- the node that has no such rule is one of at most 512
-pub missing-small : (p : Protocol) (file : List ℕ) → Bytes file → (k : ℕ) → nodeList p file 0 ≡ no-rule k → k ≤ mostNodes
-missing-small p file bytes k h =
-    let m = no-rule-exactly p file 0 k .0 h in
+pub missing-small : (p : Protocol) (file : List ℕ) → Bytes file → (k : ℕ) → RuleMissing p file 0 k → k ≤ mostNodes
+missing-small p file bytes k m =
     let f = m .there in
     let c = below-inside file (suc mostNodes) 0 bytes (m .count) (m .start) (m .counts) in
     omega (arith, f .number, f .fewer, c .small)
 
 -- ── the graph ──
 module _ (p : Protocol) (file : List ℕ) (bytes : Bytes file) where
-  -- what has no such rule is a node
-  missing-node : (o : Reading (List Node)) (k : ℕ) → allOf file (onward o (withEdges file)) ≡ no-rule k → o ≡ no-rule k
-  missing-node (read xs e) k h = behind (graphs.edgeList file e) h
-    where
-      behind : (q : Read (List theory.Edge)) → allOf file (plainly q (λ es d. read (graphs.graph-of xs es) d)) ≡ no-rule k → read xs e ≡ no-rule k
-      behind (got es d) h = cut _ _ _ (eqb d (length file)) h (λ t h. clash (cc)) (λ t h. clash (cc))
-      behind fault h = clash (cc)
-  missing-node broken k h = clash (cc)
-  missing-node (no-rule j) k h = let i : j ≡ k = cc in ap no-rule i
-
   unruled : (k : ℕ) → graphs.graph file p ≡ no-rule k → k ≤ mostItem
-  unfolding graphs.graph
-  unruled k h = omega (arith, missing-small p file bytes k (missing-node (nodeList p file 0) k h))
+  unruled k h = omega (arith, missing-small p file bytes k (graph-rule-missing file p k .0 h))
 
   module _ (g : Graph) (few : length (g .nodes) ≤ mostNodes) (few-edges : length (g .edges) ≤ mostEdges) where
     of-nodes : (k : ℕ) (x : Node) → nth (g .nodes) k ≡ some x → k ≤ mostItem

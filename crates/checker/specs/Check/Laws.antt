@@ -110,7 +110,7 @@ module _ (protocol property graph : List ℕ) where
     check-ruled work =
         ruled-then Answers (checkSizes protocol property graph work) (filesRows protocol property graph) (filesRuling protocol property graph)
         (λ a. ruled-and-then (IsFit protocol) Answers (protocolRows protocol) (protocolRuling protocol) (λ p. underRows p property graph)
-        (λ p. underProtocol p property graph) (protocol-ruled protocol)
+        (λ p. underProtocol p property graph) (protocol-ruled protocol bytes)
         (λ p h e. property-answers p (is-fit-file protocol bytes p (at-most protocolLimit (length protocol) (λ l. a .1 .0 1 (refl, l))) h)
         (at-most propertyLimit (length property) (λ l. a .1 .1 .0 2 (refl, l)))
         (at-most graphLimit (length graph) (λ l. a .1 .1 .1 .0 3 (refl, l)))))

@@ -6,16 +6,20 @@ use mathlib.Core.Bool.{false}
 use mathlib.Core.Logic.{_↔_, _⊎_, inl, inr}
 use mathlib.Core.Path.{_≡_, refl, ap, sym, _∙_, subst}
 use lib.ListN.{length, take}
+use Rattle.lists.specs.All.{All}
 use Rattle.octets.specs.Head.{Bytes}
 use Rattle.octets.specs.Splice.{splice}
 use Rattle.number.specs.Reading.{got}
 use Rattle.number.specs.Layout.{listed}
-use Rattle.rewriting.specs.Table.{Ruling, passed, refused}
-use Rattle.rewriting.specs.Table.Laws.{refused-passed}
+use Rattle.rewriting.specs.Table.{Ruling, passed, refused, Ruled, Says}
+use Rattle.rewriting.specs.Table.Laws.{refused-passed, ruled-says}
 use Rattle.rewriting.specs.Graph.{Edge}
 use Rattle.protocol.specs.Protocol.{Protocol}
-use Rattle.steps.specs.Nodes.{Node, encodeNodes, read, nodeList}
+use Rattle.protocol.specs.Protocol.Limits.{Within}
+use Rattle.steps.specs.Nodes.{Node, NodeWithin, encodeNodes, read, nodeList}
 use Rattle.steps.specs.Nodes.Exact.{nodes-back, steps-form}
+use Rattle.steps.specs.Runs.{IsRun, Accepted}
+use Rattle.steps.specs.Runs.Equations.{drawRowsSame, draw-table-same}
 use Rattle.steps.specs.Runs.Theorems.{drawn, draws-exactly, refused-no-run}
 use Rattle.steps.specs.WellFormed.{WellFormed}
 use Rattle.graph.specs.Graph.{Graph, graph-of, encodeEdge, encodeGraph}
@@ -31,7 +35,7 @@ use Rattle.checker.specs.Draw.Cleared as cleared
 use Rattle.checker.specs.Draw.Laws.{node-bytes}
 use Rattle.checker.specs.Draw.Written.{written-front}
 use Rattle.checker.specs.Draw.Runs.{well-within, drawn-graph, drawn-draws, list-refused, always-refused}
-use Rattle.checker.specs.Demands.{NodesHold, SuchRun, such-run, IsRuled, accepted-run, graph-exactly, nodes-attack}
+use Rattle.checker.specs.Demands.{NodesHold, SuchRun, such-run-exactly, IsRuled, accepted-run, graph-exactly, nodes-attack}
 
 module _
     (protocol property steps : List ℕ) (bytes : Bytes protocol) (steps-bytes : Bytes steps) (p : Protocol) (fit : FitFile protocol p) (f : Formula)
@@ -71,8 +75,9 @@ module _
     pub refused-long : (output work : ℕ) → workNeed ≤ work → drawOutcome protocol steps output work ≡ refused number item
     pub refused-short : (output work : ℕ) → work < workNeed → drawOutcome protocol steps output work ≡ refused 1 0
     pub left : (output : List ℕ) (work : ℕ) → drawOutput protocol steps output work ≡ output
-    -- "with 9 or 14 where the work area is long enough"
+    -- "with 9 or 14 where the work area is long enough": the least node that has the cause
     pub nine-or-fourteen : (number ≡ 9) ⊎ (number ≡ 14)
+    pub says : Says (drawRowsSame p (well .nodes)) number item
     -- "and no graph of these steps in this order is accepted, whatever its edges and the property": none whose nodes are these, and none whose bytes
     -- begin with those of the steps
     pub no-graph :
@@ -115,6 +120,16 @@ module _
     (fit : FitFile protocol p) (f : Formula) (fit-property : FitProperty p property f) (well : WellFormed p steps) where
   abbrev xs : List Node
   xs = well .nodes
+
+  within : Within p
+  within = fit-within protocol bytes p fit
+
+  nodes-within : All (NodeWithin p) xs
+  nodes-within = well-within protocol steps bytes steps-bytes p fit well .each
+
+  -- the machine runs just where the list is such a run
+  machine-run : IsRun p xs ↔ SuchRun p xs
+  machine-run = such-run-exactly p within xs nodes-within
 
   -- a run
   drawn-as : (es : List Edge) → drawn p xs ≡ passed es → IsDrawn protocol property steps bytes steps-bytes p fit f well
@@ -167,6 +182,7 @@ module _
         let (m, j, o) = always-refused protocol steps bytes steps-bytes p fit well n k e (length output) work in
         sym (output-kept protocol steps output work m j o);
     nine-or-fourteen = cleared.nine-or-fourteen p xs n k e;
+    says = ruled-says (Accepted p xs) (drawRowsSame p xs) n k (subst (Ruled (drawRowsSame p xs) (Accepted p xs)) e (draw-table-same p within xs nodes-within));
     no-graph = no-run-none none;
     no-bytes = λ property′ rest b d work c o.
         no-run-none none property′ (steps ++ rest) b d (0 + length (encodeNodes xs))
@@ -181,7 +197,7 @@ module _
     where
       go : (r : Ruling (List Edge)) → drawn p xs ≡ r → WholeList protocol property steps bytes steps-bytes p fit f well
       go (passed es) e =
-          let run = such-run p xs (draws-exactly p xs .0 (es, e)) in
+          let run = machine-run .0 (draws-exactly p xs .0 (es, e)) in
           record {
             run-drawn = λ r. drawn-as es e;
             drawn-run = λ output work n o. run;
@@ -189,7 +205,7 @@ module _
             run-or-none = inl run;
           }
       go (refused n k) e =
-          let none : ¬ SuchRun p xs = λ r. refused-no-run p xs n k e (r .run) in
+          let none : ¬ SuchRun p xs = λ r. refused-no-run p xs n k e (machine-run .1 r) in
           record {
             run-drawn = λ r. absurd (none r);
             drawn-run = λ output work m o.

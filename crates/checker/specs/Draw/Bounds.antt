@@ -5,13 +5,14 @@ use mathlib.Core.List.{List}
 use mathlib.Core.Path.{_≡_, refl, ap, sym, subst}
 use native.Mathlib.Omega.{arith}
 use lib.ListN.{length}
-use lib.Dec.{eqb}
-use Rattle.lists.specs.Choice.{cut, clash, by-size}
+use Rattle.lists.specs.Choice.{by-size}
 use Rattle.octets.specs.Head.{Bytes}
 use Rattle.rewriting.specs.Table.{Ruling, passed, refused, rowsAfter}
 use Rattle.rewriting.specs.Table.Laws.{passed-inj, refused-passed}
 use Rattle.protocol.specs.Protocol.{Protocol}
-use Rattle.steps.specs.Nodes.{Node, mostNodes, Reading, read, broken, no-rule, allOf, nodeList}
+use Rattle.protocol.specs.Protocol.Limits.{Within}
+use Rattle.steps.specs.Nodes.{Node, mostNodes, Reading, read, broken, no-rule}
+use Rattle.steps.specs.Nodes.Unknown.{steps-rule-missing}
 use Rattle.steps.specs.Nodes as nodes
 use Rattle.steps.specs.Nodes.Exact.{steps-form}
 use Rattle.steps.specs.Causes.{stepsItem, readRows, readRuling}
@@ -38,15 +39,8 @@ module _ (p : Protocol) (file : List ℕ) (bytes : Bytes file) where
   reads broken xs h = absurd (refused-passed 3 stepsItem xs h)
   reads (no-rule k) xs h = absurd (refused-passed 6 k xs h)
 
-  -- what has no such rule is a node
-  missing-node : (o : Reading (List Node)) (k : ℕ) → allOf file o ≡ no-rule k → o ≡ no-rule k
-  missing-node (read xs e) k h = cut _ _ _ (eqb e (length file)) h (λ t h. clash (cc)) (λ t h. clash (cc))
-  missing-node broken k h = clash (cc)
-  missing-node (no-rule j) k h = h
-
   unruled : (k : ℕ) → nodes.steps p file ≡ no-rule k → k ≤ mostNodes
-  unfolding nodes.steps
-  unruled k h = missing-small p file bytes k (missing-node (nodeList p file 0) k h)
+  unruled k h = missing-small p file bytes k (steps-rule-missing p file k .0 h)
 
   nodes-small : (xs : List Node) → length xs ≤ mostNodes → Small mostNumber mostNodes (nodesUnderRows p xs)
   nodes-small xs few = (
@@ -66,10 +60,10 @@ module _ (p : Protocol) (file : List ℕ) (bytes : Bytes file) where
       let (e, i) = reads r xs h in
       nodes-small xs (steps-form p file bytes xs e i .0 .few)))
 
-  pub steps-bounded : (n k : ℕ) → stepsUnder p file ≡ refused n k → (n ≤ mostNumber) × (k ≤ mostNodes)
-  steps-bounded n k e =
+  pub steps-bounded : Within p → (n k : ℕ) → stepsUnder p file ≡ refused n k → (n ≤ mostNumber) × (k ≤ mostNodes)
+  steps-bounded fit n k e =
       refused-small mostNumber mostNodes (λ (g : Graph). Unit {0}) (stepsUnderRows p file) (stepsUnder p file) steps-small
-      (under-ruled p file bytes (λ (g : Graph). Unit {0}) (λ xs e h right es acc d. tt)) n k e
+      (under-ruled p fit file bytes (λ (g : Graph). Unit {0}) (λ xs e h right es acc d. tt)) n k e
 
 -- ── the call: numbers to 15, the bytes needed to 61,440 ──
 abbrev pub lastNumber : ℕ

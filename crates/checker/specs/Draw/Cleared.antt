@@ -10,7 +10,7 @@ use Rattle.lists.specs.Lists.{firstBad}
 use Rattle.rewriting.specs.Table.{Ruling, passed, refused, Says, Ruled, andThen, orRefuse}
 use Rattle.rewriting.specs.Table.Laws.{ruled-says}
 use Rattle.rewriting.specs.Table.Passes.{lessPass, needPass}
-use Rattle.rewriting.specs.Causes as theory
+use Rattle.rewriting.specs.Whole.{machineRows}
 use Rattle.rewriting.specs.Graph.{Edge}
 use Rattle.protocol.specs.Protocol.{Protocol}
 use Rattle.steps.specs.Nodes.{Node, Reading, read, broken, no-rule}
@@ -30,10 +30,10 @@ use Rattle.checker.specs.Draw.{graphOf, nodesUnder, stepsUnder, graphDra
 -- what the edges are refused with, "9, 14"
 pub nine-or-fourteen : (p : Protocol) (xs : List Node) (n k : ℕ) → drawn p xs ≡ refused n k → (n ≡ 9) ⊎ (n ≡ 14)
 nine-or-fourteen p xs n k e =
-    let rows = theory.drawRows (protocolFacts p) (rewrittens p xs) in
+    let rows = machineRows (protocolFacts p) (rewrittens p xs) in
     of-rows (ruled-says (Accepted p xs) rows n k (subst (Ruled rows (Accepted p xs)) e (draw-table p xs)))
   where
-    of-rows : Says (theory.drawRows (protocolFacts p) (rewrittens p xs)) n k → (n ≡ 9) ⊎ (n ≡ 14)
+    of-rows : Says (machineRows (protocolFacts p) (rewrittens p xs)) n k → (n ≡ 9) ⊎ (n ≡ 14)
     of-rows (inl (i, l)) = inl i
     of-rows (inr (inl (i, l))) = inr i
     of-rows (inr (inr h)) = absurd h

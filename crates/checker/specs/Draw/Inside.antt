@@ -75,7 +75,7 @@ module _ {p steps nodes : List ℕ} {n : ℕ} {P : Protocol} {xs : List Node} (d
     missing-is = d .under ∙ ap (withEdges P xs) missing
 
     pub missing-few : Bytes steps → k ≤ mostNodes
-    missing-few bytes = steps-bounded P steps bytes 14 k missing-is .1
+    missing-few bytes = steps-bounded P steps bytes (d .right .stand .prepared .body .within) 14 k missing-is .1
 
     pub drawn-missing : (output : List ℕ) (w : Written) → written w ≡ refused 14 k → Judges (stepsUnder P steps) output output w
     drawn-missing output w q = judges-refused encodeGraph (stepsUnder P steps) output w 14 k missing-is q
@@ -99,7 +99,7 @@ module _ (P : Protocol) (p steps : List ℕ) (prepared : Prepared p P) (bytes : 
     stopped-is = steps-stopped P steps a b (counted-refused (listRuling P stepsItem (files.steps P steps)) a b (ap rulingOf (sym h) ∙ told))
 
     pub stopped-small : (a ≤ mostNumber) × (b ≤ mostNodes)
-    stopped-small = steps-bounded P steps bytes a b stopped-is
+    stopped-small = steps-bounded P steps bytes (prepared .body .within) a b stopped-is
 
     pub steps-refused : (output : List ℕ) (w : Written) → written w ≡ refused a b → Judges (stepsUnder P steps) output output w
     steps-refused output w q = judges-refused encodeGraph (stepsUnder P steps) output w a b stopped-is q

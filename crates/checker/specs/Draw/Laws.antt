@@ -10,16 +10,16 @@ use Rattle.lists.specs.All.{All}
 use Rattle.rewriting.specs.Table.{Ruling, passed, Ruled, andThen, rowsAfter}
 use Rattle.rewriting.specs.Table.Laws.{ruled, ruled-then, ruled-and-then, ruled-good, ruled-unique, passed-good, passed-inj}
 use Rattle.rewriting.specs.Table.Passes.{needPass}
-use Rattle.rewriting.specs.Causes as theory
 use Rattle.rewriting.specs.Graph.{Edge}
 use Rattle.protocol.specs.Protocol.{Protocol}
+use Rattle.protocol.specs.Protocol.Limits.{Within}
 use Rattle.steps.specs.Nodes.{Node, encodeNodes, read}
 use Rattle.steps.specs.Nodes as nodes
 use Rattle.steps.specs.Nodes.Exact.{steps-form, steps-back}
 use Rattle.steps.specs.Values.{NodeRight}
-use Rattle.steps.specs.Runs.{protocolFacts, rewrittens, Accepted}
-use Rattle.steps.specs.Runs.Equations.{accepted-exactly}
-use Rattle.steps.specs.Runs.Theorems.{drawn, draw-table}
+use Rattle.steps.specs.Runs.{Accepted}
+use Rattle.steps.specs.Runs.Equations.{accepted-exactly, drawRowsSame, draw-table-same}
+use Rattle.steps.specs.Runs.Theorems.{drawn}
 use Rattle.steps.specs.Causes.{stepsItem, readRows, readRuling}
 use Rattle.steps.specs.Causes.Laws.{read-ruled, values-ruled}
 use Rattle.steps.specs.WellFormed.{stepsLimit, WellFormed}
@@ -38,18 +38,18 @@ use Rattle.checker.specs.Draw.Steps.{withEdges, well-under}
 
 -- "steps 3 and 6, 7, 8, 9, 14": what passes is the graph of right nodes and of the edges that are drawn
 pub under-ruled :
-    (p : Protocol) (steps : List ℕ) → Bytes steps → (Good : Graph → Type 0)
+    (p : Protocol) → Within p → (steps : List ℕ) → Bytes steps → (Good : Graph → Type 0)
     → ((xs : List Node) (e : ℕ) → nodes.steps p steps ≡ read xs e → All (NodeRight p) xs → (es : List Edge) → Accepted p xs es → drawn p xs ≡ passed es
     → Good (graph-of xs es))
     → Ruled (stepsUnderRows p steps) Good (stepsUnder p steps)
 unfolding stepsUnder
-under-ruled p steps bytes Good good =
+under-ruled p fit steps bytes Good good =
     let r = nodes.steps p steps in
     ruled-and-then (λ xs. (e : ℕ) × (r ≡ read xs e)) Good (readRows stepsItem r) (readRuling stepsItem r) (nodesUnderRows p) (nodesUnder p)
     (read-ruled stepsItem r) (λ xs (e, h) q.
-    let rows = theory.drawRows (protocolFacts p) (rewrittens p xs) in
-    values-ruled p Good xs (steps-form p steps bytes xs e h .0 .each) rows (graphOf p xs)
-    (λ right. ruled-map (Accepted p xs) Good (graph-of xs) rows (drawn p xs) (good xs e h right) (draw-table p xs)))
+    let within = steps-form p steps bytes xs e h .0 .each in
+    values-ruled p Good xs within (drawRowsSame p xs) (graphOf p xs)
+    (λ right. ruled-map (Accepted p xs) Good (graph-of xs) (drawRowsSame p xs) (drawn p xs) (good xs e h right) (draw-table-same p fit xs within)))
 
 module _ (protocol steps : List ℕ) where
   -- the files hold a fit protocol and, under it, the nodes of this graph, which has the edges that are drawn
@@ -121,7 +121,7 @@ module _ (protocol steps : List ℕ) where
         }
 
     pub steps-ruled : (p : Protocol) → FitFile protocol p → length steps ≤ stepsLimit → Ruled (stepsUnderRows p steps) (Draws p) (stepsUnder p steps)
-    steps-ruled p fit l = under-ruled p steps steps-bytes (Draws p) (nodes-draws p fit l)
+    steps-ruled p fit l = under-ruled p (fit-within protocol bytes p fit) steps steps-bytes (Draws p) (nodes-draws p fit l)
 
     abbrev pub SomeDraws : Graph → Type 0
     SomeDraws g = (p : Protocol) × Draws p g
@@ -130,7 +130,7 @@ module _ (protocol steps : List ℕ) where
         length protocol ≤ protocolLimit → length steps ≤ stepsLimit → Ruled (graphDrawnRows protocol steps) SomeDraws (graphDrawn protocol steps)
     drawn-ruled k l =
         ruled-and-then (IsFit protocol) SomeDraws (protocolRows protocol) (protocolRuling protocol) (λ p. stepsUnderRows p steps)
-        (λ p. stepsUnder p steps) (protocol-ruled protocol)
+        (λ p. stepsUnder p steps) (protocol-ruled protocol bytes)
         (λ p h e. ruled-good (Draws p) SomeDraws (λ g d. (p, d)) (stepsUnderRows p steps) (stepsUnder p steps)
         (steps-ruled p (is-fit-file protocol bytes p k h) l))
 

@@ -1,7 +1,6 @@
 -- "A protocol .. is fit when causes 2 to 5 are absent from it": of a protocol file these are 2, 3 and 4.
 use Prim.Native.Nat.{ℕ, _≤_, _<_}
 use mathlib.Core.List.{List, _∷_, _++_}
-use mathlib.Core.Bool.{true}
 use mathlib.Core.Logic.{_↔_}
 use mathlib.Core.Path.{_≡_, refl, ap, sym, subst, _∙_}
 use native.Mathlib.Omega.{arith}
@@ -9,20 +8,18 @@ use lib.ListN.{length}
 use Rattle.lists.specs.Choice.{clash, by-size}
 use Rattle.lists.specs.Tests.{by-bool, true-false}
 use Rattle.lists.specs.All.{All}
-use Rattle.lists.specs.All.Laws.{all-both, all-nth, nth-all}
+use Rattle.lists.specs.All.Laws.{all-nth, nth-all}
 use Rattle.octets.specs.Head.{Bytes}
 use Rattle.number.specs.Reading.{Read, got, fault}
 use Rattle.rewriting.specs.Table.{Row, passed, fixedRow, Absent, rowsAfter}
 use Rattle.rewriting.specs.Table.Laws.{absent-passed}
-use Rattle.term.specs.Arity.{tagArities}
-use Rattle.protocol.specs.Protocol.{Rule, Protocol, factArities, protocol}
-use Rattle.protocol.specs.Protocol.Limits.{RuleWithin, Within}
-use Rattle.protocol.specs.Protocol.Exact.{protocol-exact, protocol-form}
+use Rattle.protocol.specs.Protocol.{Protocol, protocol}
+use Rattle.protocol.specs.Protocol.Limits.{Within}
+use Rattle.protocol.specs.Protocol.Exact.{protocol-form}
 use Rattle.rules.specs.Fit.{fits}
 use Rattle.rules.specs.Fit.Meaning.{Fit}
-use Rattle.rules.specs.Fit.Meaning.Laws.{fit-exactly}
 use Rattle.checker.specs.Files.{protocolLimit, protocolItem, layout, layoutRows, fitRows, protocolRuling, protocolRows}
-use Rattle.checker.specs.Files.Laws.{IsFit, protocol-ruled}
+use Rattle.checker.specs.Files.Laws.{IsFit, decided, protocol-ruled}
 
 -- the file holds the protocol p, which keeps to the limits and to P1 to P4
 pub record FitFile (file : List ℕ) (p : Protocol) : Type 0 where
@@ -36,27 +33,15 @@ fitFileRows file = fixedRow 2 protocolItem (protocolLimit < length file) ∷ pro
 
 -- ── the rows say just this ──
 -- 4 is absent just where P1 to P4 hold of every rule
-module _ (p : Protocol) (within : Within p) where
-  abbrev Limits : Rule → Type 0
-  Limits = RuleWithin (tagArities (p .functions)) (factArities (p .symbols))
+fit-absent : (p : Protocol) → All Fit (p .rules) → Absent (fitRows p)
+fit-absent p all = ((λ k h. h .not-fit (all-nth Fit (p .rules) all k (h .which) (h .stands))), tt)
 
-  decided : (r : Rule) → Limits r → (fits r ≡ true) ↔ Fit r
-  decided r w = fit-exactly (tagArities (p .functions)) (factArities (p .symbols)) r w
-
-  fit-absent : All Fit (p .rules) → Absent (fitRows p)
-  fit-absent all = (
-    (λ k h.
-        let both = all-nth (λ r. Fit r × Limits r) (p .rules) (all-both Fit Limits (p .rules) all (within .rules)) k (h .which) (h .stands) in
-        true-false (fits (h .which)) (decided (h .which) (both .1) .1 (both .0)) (h .is-false)),
-    tt,
-  )
-
-  absent-fit : Absent (fitRows p) → All Fit (p .rules)
-  absent-fit a =
-      nth-all Fit (p .rules) (λ k r e.
-      by-bool (fits r)
-      (λ t. decided r (all-nth Limits (p .rules) (within .rules) k r e) .0 t)
-      (λ f. absurd (a .0 k (record { which = r; stands = e; is-false = f }))))
+absent-fit : (p : Protocol) → Within p → Absent (fitRows p) → All Fit (p .rules)
+absent-fit p within a =
+    nth-all Fit (p .rules) (λ k r e.
+    by-bool (fits r)
+    (λ t. decided p within k r e .0 t)
+    (λ n. absurd (a .0 k (record { which = r; stands = e; not-fit = λ f. true-false (fits r) (decided p within k r e .1 f) n }))))
 
 -- 3 and 4, by what was read
 abbrev Clear : Read Protocol → Type 0
@@ -79,7 +64,7 @@ fit-file-exactly file bytes = (there, back)
     there : (p : Protocol) × FitFile file p → Absent (fitFileRows file)
     there (p, f) = (
       (λ k h. omega (arith, h .1, f .short)),
-      read-clear (protocol file) p (length file) (f .reads) (fit-absent p (protocol-exact file bytes p .0 (f .reads) .0) (f .each)),
+      read-clear (protocol file) p (length file) (f .reads) (fit-absent p (f .each)),
     )
 
     back : Absent (fitFileRows file) → (p : Protocol) × FitFile file p
@@ -102,7 +87,7 @@ module _ (file : List ℕ) (bytes : Bytes file) (p : Protocol) where
   pub fit-passed : FitFile file p → protocolRuling file ≡ passed p
   fit-passed f =
       let a = fit-file-exactly file bytes .0 (p, f) in
-      let (q, h, e) = absent-passed (IsFit file) (protocolRows file) (protocolRuling file) (protocol-ruled file) (a .1) in
+      let (q, h, e) = absent-passed (IsFit file) (protocolRows file) (protocolRuling file) (protocol-ruled file bytes) (a .1) in
       let i : q ≡ p = got-one (sym (h .reads .there) ∙ f .reads) in
       e ∙ ap (λ (x : Protocol). passed x) i
     where

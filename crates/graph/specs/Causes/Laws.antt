@@ -7,15 +7,12 @@ use Rattle.octets.specs.Head.{Bytes}
 use Rattle.lists.specs.All.{All}
 use Rattle.rewriting.specs.Table.{Ruling, passed, Ruled, andThen}
 use Rattle.rewriting.specs.Table.Laws.{ruled-and-then, ruled-good, passed-good, absent-passed}
-use Rattle.rewriting.specs.Causes as theory
 use Rattle.protocol.specs.Protocol.{Protocol}
 use Rattle.protocol.specs.Protocol.Limits.{Within}
 use Rattle.steps.specs.Nodes.{read}
 use Rattle.steps.specs.Values.{NodeRight}
 use Rattle.steps.specs.Values.Passes.{absent-right}
-use Rattle.steps.specs.Runs.{protocolFacts, rewrittens, Accepted}
-use Rattle.steps.specs.Runs.Equations.{accepted-exactly}
-use Rattle.steps.specs.Runs.Theorems.{check-table, absent-exactly}
+use Rattle.steps.specs.Runs.Equations.{AcceptedSame, graphRowsSame, absent-same, check-table-same}
 use Rattle.steps.specs.Causes.{graphItem, readRows, readRuling}
 use Rattle.steps.specs.Causes.Laws.{read-ruled, values-ruled}
 use Rattle.graph.specs.Graph.{Graph, GraphWithin, graph}
@@ -28,12 +25,12 @@ module _ (p : Protocol) (fit : Within p) where
   pub record Passing (g h : Graph) : Type 0 where
     pub is : h ≡ g
     pub right : All (NodeRight p) (g .nodes)
-    pub accepted : Accepted p (g .nodes) (g .edges)
+    pub accepted : AcceptedSame p (g .nodes) (g .edges)
 
   pub passes-ruled : (g : Graph) → GraphWithin p g → Ruled (graphRows p g) (Passing g) (ruling p g)
   passes-ruled g within =
-      values-ruled p (Passing g) (g .nodes) (within .0 .each) (theory.graphRows (protocolFacts p) (rewrittens p (g .nodes)) (g .edges)) _
-      (λ right. check-table p (g .nodes) (g .edges) g (Passing g) (λ acc. record { is = refl; right = right; accepted = acc }))
+      values-ruled p (Passing g) (g .nodes) (within .0 .each) (graphRowsSame p (g .nodes) (g .edges)) _
+      (λ right. check-table-same p fit (g .nodes) (within .0 .each) (g .edges) g (Passing g) (λ acc. record { is = refl; right = right; accepted = acc }))
 
   module _ (file : List ℕ) (bytes : Bytes file) where
     -- ── the whole file: "3 and 6, then 7 to 13" ──
@@ -47,7 +44,7 @@ module _ (p : Protocol) (fit : Within p) where
           within = f .0;
           bytes = f .1;
           right = w .right;
-          accepted = accepted-exactly p fit (g .nodes) (f .0 .0 .each) (g .edges) .0 (w .accepted);
+          accepted = w .accepted;
         }) (graphRows p g) (ruling p g) (passes-ruled g (f .0)))
 
     -- "a graph is accepted exactly when it is a dependency graph of its protocol in document 01's forms and sizes"
@@ -61,9 +58,8 @@ module _ (p : Protocol) (fit : Within p) where
       where
         accepts : DependencyGraph p file g → graphRuling p file ≡ passed g
         accepts d =
-            let acc = accepted-exactly p fit (g .nodes) (d .within .0 .each) (g .edges) .1 (d .accepted) in
             let absent = absent-right p (g .nodes) (d .within .0 .each) .1 (d .right) in
             let (k, w, e) = absent-passed (Passing g) (graphRows p g) (ruling p g) (passes-ruled g (d .within))
-            (absent .0, (absent .1 .0, absent-exactly p (g .nodes) (g .edges) .1 acc)) in
+            (absent .0, (absent .1 .0, absent-same p fit (g .nodes) (d .within .0 .each) (g .edges) .1 (d .accepted))) in
             ap (λ r. andThen (readRuling graphItem r) (ruling p)) (graph-back file bytes p g (d .within) (d .bytes))
             ∙ e ∙ ap {B = Ruling Graph} passed (w .is)

@@ -10,12 +10,13 @@ use borrow.Author.Tests.{eq-eqb}
 use Rattle.lists.specs.Choice.{pick, cut-eq, clash}
 use Rattle.octets.specs.Head.{Bytes, behind, stands-join}
 use Rattle.number.specs.Groups.{groups, numberLimit}
-use Rattle.number.specs.Reading.{Read, readNumber}
+use Rattle.number.specs.Reading.{Read, got, fault, readNumber}
 use Rattle.number.specs.Layout.{listed, Exact}
 use Rattle.number.specs.Layout.Laws.{number-exact, then-exact, counted-exact}
 use Rattle.rewriting.specs.Graph.{Edge}
 use Rattle.protocol.specs.Protocol.{Protocol}
-use Rattle.steps.specs.Nodes.{Node, Reading, read, broken, encodeNodes, onward, plainly, allOf, nodeList}
+use Rattle.steps.specs.Nodes.{Node, Reading, read, broken, no-rule, encodeNodes, onward, plainly, allOf, nodeList}
+use Rattle.steps.specs.Nodes.Unknown.{RuleMissing, all-rule, no-rule-exactly}
 use Rattle.steps.specs.Nodes.Exact.{cut-read, cut-plain, nodes-back, nodes-form}
 use Rattle.graph.specs.Graph.{Graph, graph-of, place-of, edge-of, mostEdges, encodePlace, encodeEdge, encodeGraph}
 use Rattle.graph.specs.Graph.{PlaceWithin, EdgeWithin, EdgesWithin, GraphWithin, place, edge, edgeList, withEdges, parts, graph}
@@ -83,3 +84,20 @@ module _ (file : List ℕ) (bytes : Bytes file) where
     -- exact in both directions
     pub graph-exact : (g : Graph) → (graph file p ≡ read g (length file)) ↔ (GraphWithin p g × (file ≡ encodeGraph g))
     graph-exact g = ((λ h. let f = graph-form g (length file) h in (f .0, f .1)), (λ h. graph-back g (h .0) (h .1)))
+
+-- "no such rule", 6, "node", of a graph file: what is behind the nodes names no rule
+pub graph-rule-missing : (file : List ℕ) (p : Protocol) (k : ℕ) → (graph file p ≡ no-rule k) ↔ RuleMissing p file 0 k
+unfolding graph
+graph-rule-missing file p k = (
+  (λ h. no-rule-exactly p file 0 k .0 (of-nodes (nodeList p file 0) (all-rule p file (parts file p) k h))),
+  (λ m. ap (λ (r : Reading (List Node)). allOf file (onward r (withEdges file))) (no-rule-exactly p file 0 k .1 m)),
+)
+  where
+    of-edges : (xs : List Node) (e : ℕ) (q : Read (List Edge)) → plainly q (λ es d. read (graph-of xs es) d) ≡ no-rule k → read xs e ≡ no-rule k
+    of-edges xs e (got es d) h = clash (cc)
+    of-edges xs e fault h = clash (cc)
+
+    of-nodes : (o : Reading (List Node)) → onward o (withEdges file) ≡ no-rule k → o ≡ no-rule k
+    of-nodes (read xs e) h = of-edges xs e (edgeList file e) h
+    of-nodes broken h = clash (cc)
+    of-nodes (no-rule j) h = let i : j ≡ k = cc in ap no-rule i

@@ -1,16 +1,20 @@
 -- How many facts a node has in a list, and which fact symbols are linear.
-use Prim.Native.Nat.{ℕ, _≤_}
-use mathlib.Core.List.{List, []}
+use Prim.Native.Nat.{ℕ, suc, _+_, _≤_}
+use mathlib.Core.List.{List, [], map}
 use mathlib.Core.Bool.{true, false}
-use mathlib.Core.Option.{Option}
-use mathlib.Core.Path.{_≡_, refl, sym, subst}
+use mathlib.Core.Logic.{_↔_}
+use mathlib.Core.Option.{Option, some}
+use mathlib.Core.Path.{_≡_, refl, ap, sym, _∙_, subst}
 use native.Mathlib.Omega.{arith}
-use lib.ListN.{length, length-map}
-use Rattle.lists.specs.All.Laws.{all-map, all-at}
+use lib.ListN.{length, getD, getElem?, length-map}
+use lib.Dec.{eqb}
+use Rattle.lists.specs.Tests.{eqb-eq}
+use Rattle.lists.specs.Lists.Laws.{at-some}
+use Rattle.lists.specs.All.Laws.{all-map, all-at, map-at}
 use Rattle.term.specs.Term.{Term}
 use Rattle.term.specs.Arity.{tagArities}
-use Rattle.protocol.specs.Figures.{mostFacts}
-use Rattle.protocol.specs.Protocol.{Rule, Protocol, fact-of, listOf, frSymbol, inSymbol, outSymbol, kSymbol, factArities}
+use Rattle.protocol.specs.Figures.{firstOwn, mostFacts}
+use Rattle.protocol.specs.Protocol.{Rule, Own, Protocol, fact-of, listOf, frSymbol, inSymbol, outSymbol, kSymbol, factArities, factFlags}
 use Rattle.protocol.specs.Protocol.Limits.{FactsWithin, Within}
 use Rattle.rules.specs.Numbered.Limits.{rule-within}
 use Rattle.steps.specs.Nodes.{Node, NodeWithin}
@@ -41,3 +45,22 @@ module _ (p : Protocol) (ts : List Term) where
 
   pub k-persistent : isLinear p (fact-of kSymbol ts) ≡ false
   k-persistent = refl
+
+-- "own ones start at 4", "each arity (0 to 8) and 0 linear or 1 persistent"
+pub own-linear :
+    (p : Protocol) (ts : List Term) (i : ℕ) (o : Own) → getElem? (p .symbols) i ≡ some o → (isLinear p (fact-of (firstOwn + i) ts) ≡ true) ↔ (o .flag ≡ 0)
+own-linear p ts i o h = (
+  (λ t. sym flag ∙ eqb-eq (getD (factFlags (p .symbols)) (firstOwn + i) 0) 0 t),
+  (λ e. ap (λ (n : ℕ). eqb n 0) (flag ∙ e)),
+)
+  where
+    behind : (i : ℕ) → getD (factFlags (p .symbols)) (firstOwn + i) 0 ≡ getD (map (λ (o : Own). o .flag) (p .symbols)) i 0
+    behind i = rw (four i) refl
+      where
+        four : (i : ℕ) → firstOwn + i ≡ suc (suc (suc (suc i)))
+        four i = omega arith
+
+    flag : getD (factFlags (p .symbols)) (firstOwn + i) 0 ≡ o .flag
+    flag =
+        let (l, e) = at-some o (p .symbols) i o h in
+        behind i ∙ map-at (λ (o : Own). o .flag) (p .symbols) i o 0 l ∙ ap (λ (o : Own). o .flag) e

@@ -6,13 +6,16 @@ use mathlib.Core.Logic.{_↔_}
 use mathlib.Core.Option.{Option, none, some}
 use mathlib.Core.Path.{_≡_, refl, ap, sym, _∙_}
 use native.Mathlib.Omega.{arith}
+use lib.ListN.{length}
+use lib.Dec.{eqb}
 use Rattle.lists.specs.Choice.{pick, cut, clash}
 use Rattle.number.specs.Reading.{Read, got, fault, readNumber, below, many}
 use Rattle.number.specs.Reading.Laws.{cut-got}
 use Rattle.number.specs.Reading.Many.{many-cons}
 use Rattle.protocol.specs.Protocol.{Rule, Protocol}
 use Rattle.rules.specs.Numbered.{ruleOf}
-use Rattle.steps.specs.Nodes.{Node, mostNodes, Reading, read, broken, no-rule, onward, plainly, absent, unknown, node, nodesFrom, nodeList}
+use Rattle.steps.specs.Nodes.{Node, mostNodes, Reading, read, broken, no-rule, onward, plainly, allOf, absent, unknown, node, nodesFrom}
+use Rattle.steps.specs.Nodes.{nodeList, steps}
 use Rattle.steps.specs.Nodes.Exact.{node-known}
 
 -- ── readings in parts ──
@@ -145,4 +148,19 @@ module _ (p : Protocol) (file : List ℕ) where
         ∙ stops-unknown (f .place) (ap (unknown p) (f .tells) ∙ ap absent (f .no-such)) (f .many-before) 1 (h .count) (h .start) (f .before) (f .reads)
         (f .fewer)
         ∙ ap no-rule (sym (f .number))),
+  )
+
+  -- ── a whole step list ──
+  -- what is behind the nodes names no rule
+  pub all-rule : {A : Type 0} (o : Reading A) (k : ℕ) → allOf file o ≡ no-rule k → o ≡ no-rule k
+  all-rule (read x e) k h = cut _ _ _ (eqb e (length file)) h (λ t h. clash (cc)) (λ t h. clash (cc))
+  all-rule broken k h = clash (cc)
+  all-rule (no-rule j) k h = let i : j ≡ k = cc in ap no-rule i
+
+  -- "no such rule", 6, "node", of a steps file
+  pub steps-rule-missing : (k : ℕ) → (steps p file ≡ no-rule k) ↔ RuleMissing 0 k
+  unfolding steps
+  steps-rule-missing k = (
+    (λ h. no-rule-exactly 0 k .0 (all-rule (nodeList p file 0) k h)),
+    (λ m. ap (allOf file) (no-rule-exactly 0 k .1 m)),
   )

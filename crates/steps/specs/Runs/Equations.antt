@@ -32,21 +32,21 @@ use Rattle.steps.specs.Facts.Formed.{FactFormed, facts-formed, formed-de
 use Rattle.steps.specs.Runs.{protocolFacts, rewritten, rewrittens, IsRun, Accepted, NamesOnce}
 use Rattle.steps.specs.Runs.Theorems.{absent-exactly, check-table, drawn, draw-table}
 
-module _ (p : Protocol) (xs : List Node) where
-  -- "equal facts count as the same fact"
-  abbrev pub EqualFacts : Fact → Fact → Type 0
-  EqualFacts = SameFact (arity (tagArities (p .functions)))
+-- "equal facts count as the same fact"
+abbrev pub EqualFacts : Protocol → Fact → Fact → Type 0
+EqualFacts p = SameFact (arity (tagArities (p .functions)))
 
+module _ (p : Protocol) (xs : List Node) where
   -- "The nodes are a run exactly when none fails"
   abbrev pub RunSame : Type 0
-  RunSame = Rewrites EqualFacts (isLinear p) (rewrittens p xs)
+  RunSame = Rewrites (EqualFacts p) (isLinear p) (rewrittens p xs)
 
   -- 9 to 13 of a graph, and 9 and 14 of a drawing
   abbrev pub graphRowsSame : List Edge → List Row
-  graphRowsSame edges = graphRows EqualFacts (isLinear p) (rewrittens p xs) edges
+  graphRowsSame edges = graphRows (EqualFacts p) (isLinear p) (rewrittens p xs) edges
 
   abbrev pub drawRowsSame : List Row
-  drawRowsSame = drawRows EqualFacts (isLinear p) (rewrittens p xs)
+  drawRowsSame = drawRows (EqualFacts p) (isLinear p) (rewrittens p xs)
 
   -- "each edge from an earlier node, its two facts equal"
   pub record JoinsSame (e : Edge) : Type 0 where
@@ -55,7 +55,7 @@ module _ (p : Protocol) (xs : List Node) where
     pub has-source : conclusionAt (rewrittens p xs) (e .source) ≡ some from
     pub has-target : premiseAt (rewrittens p xs) (e .target) ≡ some to
     pub earlier : e .source .node < e .target .node
-    pub facts-same : SameFact (arity (tagArities (p .functions))) from to
+    pub facts-same : EqualFacts p from to
 
   -- "An accepted graph has: each edge from an earlier node, its two facts equal; just one edge into each premise; at most one out of each
   -- linear conclusion; no name made twice."
@@ -122,11 +122,11 @@ module _ (p : Protocol) (fit : Within p) (xs : List Node) (within : All (NodeWit
   nodes-good = map-all (NodeWithin p) (GoodNode (FactFormed p)) (rewritten p) node-good xs within
 
   pub run-exactly : IsRun p xs ↔ RunSame p xs
-  run-exactly = machines.run-exactly (protocolFacts p) (EqualFacts p xs) (FactFormed p) (formed-decides p fit) (rewrittens p xs) nodes-good
+  run-exactly = machines.run-exactly (protocolFacts p) (EqualFacts p) (FactFormed p) (formed-decides p fit) (rewrittens p xs) nodes-good
 
   graph-rows : (edges : List Edge) → RestateAll (graphRows (Tested (protocolFacts p)) (isLinear p) (rewrittens p xs) edges) (graphRowsSame p xs edges)
   graph-rows edges =
-      causes.graph-rows (protocolFacts p) (EqualFacts p xs) (rewrittens p xs)
+      causes.graph-rows (protocolFacts p) (EqualFacts p) (rewrittens p xs)
       (λ a b f g h k. formed-decides p fit f g (source-formed a f h) (target-formed b g k)) edges
 
   -- 9 to 13 are absent just where the graph is accepted
@@ -151,4 +151,4 @@ module _ (p : Protocol) (fit : Within p) (xs : List Node) (within : All (NodeWit
   pub draw-table-same : Ruled (drawRowsSame p xs) (Accepted p xs) (drawn p xs)
   draw-table-same =
       ruled-restated (Accepted p xs) (machineRows (protocolFacts p) (rewrittens p xs)) (drawRowsSame p xs) (drawn p xs)
-      (causes.draw-rows (protocolFacts p) (EqualFacts p xs) (FactFormed p) (formed-decides p fit) (rewrittens p xs) nodes-good) (draw-table p xs)
+      (causes.draw-rows (protocolFacts p) (EqualFacts p) (FactFormed p) (formed-decides p fit) (rewrittens p xs) nodes-good) (draw-table p xs)
