@@ -12,6 +12,9 @@ use Rattle.rewriting.specs.Table.{Ruling, refused}
 use Rattle.protocol.specs.Protocol.{Protocol}
 use Rattle.checker.specs.Files.Fit.{FitFile}
 use Rattle.checker.specs.Check.{Checked}
+use Rattle.checker.specs.Line.{lineOf}
+use Rattle.checker.specs.Line.Printed as printed
+use Rattle.checker.specs.Line.Printed.{attack-4-2-3-text, refused-12-4-text, attack-0-0-0-text, refused-3-1-text, refused-3-2-text, refused-3-3-text}
 use Rattle.cases_proved.specs.Numbers as numbers
 use Rattle.cases_proved.specs.Messages.{pn, fn, Form, form-canon, powers, inverse, inverse-one, decrypted, locked}
 use Rattle.cases_proved.specs.Lines as lines
@@ -23,8 +26,8 @@ use Rattle.cases_proved.specs.Forms.{decrypted-file, name-file, locked-f
 
 -- ── what a case claims ──
 pub data Case : Type 0 where
-  -- three files, and the outcome of checking them
-  line : List ℕ → List ℕ → List ℕ → Ruling Checked → Case
+  -- three files, the outcome of checking them, and the line that is written
+  line : List ℕ → List ℕ → List ℕ → Ruling Checked → List ℕ → Case
   -- a term, and its canonical form
   form : Term → Term → Case
   -- a protocol and a term file, and the bytes that canonical form writes
@@ -37,7 +40,7 @@ pub data Case : Type 0 where
   no-number : List ℕ → Case
 
 abbrev pub Holds : Case → Type 0
-Holds (line protocol property graph r) = Line protocol property graph r
+Holds (line protocol property graph r text) = Line protocol property graph r × (lineOf r ≡ text)
 Holds (form t u) = ((free : List ℕ) → Form free t u) × (canon t ≡ u)
 Holds (writes protocol term bytes) = Writes protocol term bytes
 Holds (refuses protocol term n k) = Refuses protocol term n k
@@ -61,12 +64,12 @@ module _ (protocol : List ℕ) (gi ai bi mi : ℕ) where
   abbrev pub marked : List Case
   marked =
       -- "that line"
-      line printed-protocol printed-property printed-graph (attack 4 2 3)
+      line printed-protocol printed-property printed-graph (attack 4 2 3) attack-4-2-3-text
       -- "without its last edge, `refused 12 4`"
-      ∷ line printed-protocol printed-property without-last-edge (refused 12 4)
+      ∷ line printed-protocol printed-property without-last-edge (refused 12 4) refused-12-4-text
       -- "graph 00 00 with property 00, `attack 0 0 0`"
-      ∷ line printed-protocol falsehood no-graph (attack 0 0 0)
-      ∷ line protocol falsehood no-graph (attack 0 0 0)
+      ∷ line printed-protocol falsehood no-graph (attack 0 0 0) attack-0-0-0-text
+      ∷ line protocol falsehood no-graph (attack 0 0 0) attack-0-0-0-text
       -- "exp(exp(exp(g,a),b),inv(a)) is exp(g,b)"
       ∷ form (exp (exp (exp g a) b) (inv a)) (exp g b)
       ∷ writes protocol powers-file power-file
@@ -86,9 +89,9 @@ module _ (protocol : List ℕ) (gi ai bi mi : ℕ) where
       ∷ number (0x80 ∷ 0x01 ∷ []) 128
       -- "80 00 refused": as a number, and by the calls in each file
       ∷ no-number not-shortest
-      ∷ line not-shortest falsehood no-graph (refused 3 1)
-      ∷ line protocol not-shortest no-graph (refused 3 2)
-      ∷ line protocol falsehood not-shortest (refused 3 3)
+      ∷ line not-shortest falsehood no-graph (refused 3 1) refused-3-1-text
+      ∷ line protocol not-shortest no-graph (refused 3 2) refused-3-2-text
+      ∷ line protocol falsehood not-shortest (refused 3 3) refused-3-3-text
       ∷ refuses protocol name-not-shortest 3 4
       ∷ []
 
@@ -111,10 +114,10 @@ module _ (protocol : List ℕ) (bytes : Bytes protocol) (p : Protocol) (fit : Fi
   pub marked-hold : (gi ai bi mi : ℕ) → ai ≢ bi → All Holds (marked protocol gi ai bi mi)
   marked-hold gi ai bi mi d =
       every {cs = marked protocol gi ai bi mi}
-      (lines.printed-line
-      and lines.edge-missing
-      and lines.empty-line printed-protocol printed-bytes its-protocol printed-fit
-      and lines.empty-line protocol bytes p fit
+      ((lines.printed-line, printed.attack-4-2-3)
+      and (lines.edge-missing, printed.refused-12-4)
+      and (lines.empty-line printed-protocol printed-bytes its-protocol printed-fit, printed.attack-0-0-0)
+      and (lines.empty-line protocol bytes p fit, printed.attack-0-0-0)
       and whole (λ free. powers free gi ai bi mi)
       and forms.powers protocol bytes p fit
       and whole (λ free. inverse free gi ai bi mi d)
@@ -127,9 +130,9 @@ module _ (protocol : List ℕ) (bytes : Bytes protocol) (p : Protocol) (fit : Fi
       and forms.locked protocol bytes p fit
       and numbers.two-groups
       and numbers.not-shortest
-      and lines.protocol-refused
-      and lines.property-refused protocol bytes p fit
-      and lines.graph-refused protocol bytes p fit
+      and (lines.protocol-refused, printed.refused-3-1)
+      and (lines.property-refused protocol bytes p fit, printed.refused-3-2)
+      and (lines.graph-refused protocol bytes p fit, printed.refused-3-3)
       and forms.refuses protocol bytes p fit
       and done)
 

@@ -11,7 +11,7 @@ use Rattle.rewriting.specs.Table.{Ruling, passed, refused}
 use Rattle.checker.specs.Check.{Checked}
 -- decimal figures one by one, the room of a number, one write behind the other, the line
 pub mod Laws
--- the lines that document 01 prints
+-- the lines that document 01 prints, and some refusals
 pub mod Printed
 
 -- ── the words ──
