@@ -15,3 +15,5 @@ pub mod ShutOut
 -- cases of drawing, and what a writer cannot be
 pub mod Drawings
 pub mod Writer
+-- a second table: what the calls answer of small files
+pub mod Pinned
