@@ -15,5 +15,8 @@ pub mod ShutOut
 -- cases of drawing, and what a writer cannot be
 pub mod Drawings
 pub mod Writer
+-- what demand 3 asks of its files is met: printed-property-fit, and printed-well, received-well and made-well of three step lists; and what it says
+-- of them: printed-is-drawn, received-refused, made-refused
+pub mod Third
 -- a second table: what the calls answer of small files
 pub mod Pinned
