@@ -182,7 +182,7 @@ pub printed-fit : FitFile printed-protocol its-protocol
 printed-fit =
     is-fit-file printed-protocol printed-bytes its-protocol (omega arith) (passed-good (IsFit printed-protocol) (protocolRows printed-protocol) its-protocol
     (subst (λ (r : Ruling Protocol). Ruled (protocolRows printed-protocol) (IsFit printed-protocol) r) (computed-protocol .0)
-    (protocol-ruled printed-protocol)))
+    (protocol-ruled printed-protocol printed-bytes)))
 
 -- under every fit protocol
 module _ (protocol : List ℕ) (bytes : Bytes protocol) (p : Protocol) (fit : FitFile protocol p) where
