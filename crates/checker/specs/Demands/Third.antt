@@ -18,8 +18,8 @@ use Rattle.protocol.specs.Protocol.{Protocol}
 use Rattle.protocol.specs.Protocol.Limits.{Within}
 use Rattle.steps.specs.Nodes.{Node, NodeWithin, encodeNodes, read, nodeList}
 use Rattle.steps.specs.Nodes.Exact.{nodes-back, steps-form}
-use Rattle.steps.specs.Runs.{IsRun, Accepted}
-use Rattle.steps.specs.Runs.Equations.{drawRowsSame, draw-table-same}
+use Rattle.steps.specs.Runs.{IsRun}
+use Rattle.steps.specs.Runs.Equations.{AcceptedSame, drawRowsSame, draw-table-same}
 use Rattle.steps.specs.Runs.Theorems.{drawn, draws-exactly, refused-no-run}
 use Rattle.steps.specs.WellFormed.{WellFormed}
 use Rattle.graph.specs.Graph.{Graph, graph-of, encodeEdge, encodeGraph}
@@ -182,7 +182,9 @@ module _
         let (m, j, o) = always-refused protocol steps bytes steps-bytes p fit well n k e (length output) work in
         sym (output-kept protocol steps output work m j o);
     nine-or-fourteen = cleared.nine-or-fourteen p xs n k e;
-    says = ruled-says (Accepted p xs) (drawRowsSame p xs) n k (subst (Ruled (drawRowsSame p xs) (Accepted p xs)) e (draw-table-same p within xs nodes-within));
+    says =
+        let table = subst (Ruled (drawRowsSame p xs) (AcceptedSame p xs)) e (draw-table-same p within xs nodes-within) in
+        ruled-says (AcceptedSame p xs) (drawRowsSame p xs) n k table;
     no-graph = no-run-none none;
     no-bytes = λ property′ rest b d work c o.
         no-run-none none property′ (steps ++ rest) b d (0 + length (encodeNodes xs))

@@ -18,7 +18,7 @@ use Rattle.steps.specs.Nodes as nodes
 use Rattle.steps.specs.Nodes.Exact.{steps-form, steps-back}
 use Rattle.steps.specs.Values.{NodeRight}
 use Rattle.steps.specs.Runs.{Accepted}
-use Rattle.steps.specs.Runs.Equations.{accepted-exactly, drawRowsSame, draw-table-same}
+use Rattle.steps.specs.Runs.Equations.{AcceptedSame, accepted-exactly, drawRowsSame, draw-table-same}
 use Rattle.steps.specs.Runs.Theorems.{drawn}
 use Rattle.steps.specs.Causes.{stepsItem, readRows, readRuling}
 use Rattle.steps.specs.Causes.Laws.{read-ruled, values-ruled}
@@ -49,7 +49,8 @@ under-ruled p fit steps bytes Good good =
     (read-ruled stepsItem r) (λ xs (e, h) q.
     let within = steps-form p steps bytes xs e h .0 .each in
     values-ruled p Good xs within (drawRowsSame p xs) (graphOf p xs)
-    (λ right. ruled-map (Accepted p xs) Good (graph-of xs) (drawRowsSame p xs) (drawn p xs) (good xs e h right) (draw-table-same p fit xs within)))
+    (λ right. ruled-map (AcceptedSame p xs) Good (graph-of xs) (drawRowsSame p xs) (drawn p xs)
+    (λ es acc. good xs e h right es (accepted-exactly p fit xs within es .1 acc)) (draw-table-same p fit xs within)))
 
 module _ (protocol steps : List ℕ) where
   -- the files hold a fit protocol and, under it, the nodes of this graph, which has the edges that are drawn

@@ -13,8 +13,8 @@ use Rattle.lists.specs.All.Laws.{all-nth, map-all}
 use Rattle.rewriting.specs.Graph as graph
 use Rattle.rewriting.specs.Graph.{Place, Edge, Joins, into, outOf, inNode, premiseAt, conclusionAt}
 use Rattle.rewriting.specs.Facts.{Tested}
-use Rattle.rewriting.specs.Table.{Row, Absent, Ruled}
-use Rattle.rewriting.specs.Table.Laws.{RestateAll, ruled-restated, absent-restated, restate-back}
+use Rattle.rewriting.specs.Table.{passed, refused, Row, Absent, Ruled}
+use Rattle.rewriting.specs.Table.Laws.{RestateAll, ruled-restated, ruled-good, absent-restated, restate-back}
 use Rattle.rewriting.specs.Rewriting.{Rewrites}
 use Rattle.rewriting.specs.Rewriting.Laws.{GoodNode}
 use Rattle.rewriting.specs.Rewriting.Laws as machines
@@ -30,7 +30,8 @@ use Rattle.steps.specs.Nodes.{Node, NodeWithin}
 use Rattle.steps.specs.Facts.{factsOf, SameFact, isLinear}
 use Rattle.steps.specs.Facts.Formed.{FactFormed, facts-formed, formed-decides}
 use Rattle.steps.specs.Runs.{protocolFacts, rewritten, rewrittens, IsRun, Accepted, NamesOnce}
-use Rattle.steps.specs.Runs.Theorems.{absent-exactly, check-table, drawn, draw-table}
+use Rattle.steps.specs.Runs.Theorems.{absent-exactly, check-table, check-accepted}
+use Rattle.steps.specs.Runs.Theorems.{drawn, draw-table, draws-exactly, drawn-accepts, refused-none}
 
 -- "equal facts count as the same fact"
 abbrev pub EqualFacts : Protocol → Fact → Fact → Type 0
@@ -139,7 +140,7 @@ module _ (p : Protocol) (fit : Within p) (xs : List Node) (within : All (NodeWit
         (λ g. absent-restated tested (graphRowsSame p xs edges) rows (absent-exactly p xs edges .1 (accepted-exactly edges .1 g))),
       )
 
-  -- the passes of 9 to 13 answer what the table says
+  -- the passes of 9 to 13 answer what the table says, and let through just the accepted graphs
   pub check-table-same :
       {A : Type 0} (edges : List Edge) (a : A) (Good : A → Type 0) → (AcceptedSame p xs edges → Good a)
       → Ruled (graphRowsSame p xs edges) Good (checkGraph (protocolFacts p) (rewrittens p xs) edges a)
@@ -147,8 +148,28 @@ module _ (p : Protocol) (fit : Within p) (xs : List Node) (within : All (NodeWit
       ruled-restated Good (graphRows (Tested (protocolFacts p)) (isLinear p) (rewrittens p xs) edges) (graphRowsSame p xs edges) _ (graph-rows edges)
       (check-table p xs edges a Good (λ g. h (accepted-exactly edges .0 g)))
 
+  pub check-accepted-same :
+      {A : Type 0} (edges : List Edge) (a : A)
+      → (checkGraph (protocolFacts p) (rewrittens p xs) edges a ≡ passed a) ↔ AcceptedSame p xs edges
+  check-accepted-same edges a = (
+    (λ h. accepted-exactly edges .0 (check-accepted p xs edges a .0 h)),
+    (λ g. check-accepted p xs edges a .1 (accepted-exactly edges .1 g)),
+  )
+
   -- "Drawing: .. 9, 14", and what is drawn is accepted
-  pub draw-table-same : Ruled (drawRowsSame p xs) (Accepted p xs) (drawn p xs)
+  pub draw-table-same : Ruled (drawRowsSame p xs) (AcceptedSame p xs) (drawn p xs)
   draw-table-same =
-      ruled-restated (Accepted p xs) (machineRows (protocolFacts p) (rewrittens p xs)) (drawRowsSame p xs) (drawn p xs)
-      (causes.draw-rows (protocolFacts p) (EqualFacts p) (FactFormed p) (formed-decides p fit) (rewrittens p xs) nodes-good) (draw-table p xs)
+      ruled-good (Accepted p xs) (AcceptedSame p xs) (λ es g. accepted-exactly es .0 g) (drawRowsSame p xs) (drawn p xs)
+      (ruled-restated (Accepted p xs) (machineRows (protocolFacts p) (rewrittens p xs)) (drawRowsSame p xs) (drawn p xs)
+      (causes.draw-rows (protocolFacts p) (EqualFacts p) (FactFormed p) (formed-decides p fit) (rewrittens p xs) nodes-good) (draw-table p xs))
+
+  -- "draws a graph exactly when the whole list is such a run. That graph .. is accepted"
+  pub draws-exactly-same : ((edges : List Edge) × (drawn p xs ≡ passed edges)) ↔ RunSame p xs
+  draws-exactly-same = ((λ d. run-exactly .0 (draws-exactly p xs .0 d)), (λ r. draws-exactly p xs .1 (run-exactly .1 r)))
+
+  pub drawn-accepts-same : (edges : List Edge) → drawn p xs ≡ passed edges → AcceptedSame p xs edges
+  drawn-accepts-same edges h = accepted-exactly edges .0 (drawn-accepts p xs edges h)
+
+  -- "If the list is no run, .. no graph of these steps in this order is accepted, whatever its edges"
+  pub refused-none-same : (n k : ℕ) → drawn p xs ≡ refused n k → (edges : List Edge) → ¬ AcceptedSame p xs edges
+  refused-none-same n k h edges g = refused-none p xs n k h edges (accepted-exactly edges .1 g)
