@@ -11,22 +11,21 @@ use Rattle.term.specs.Sizes.{termRoom}
 use Rattle.lists.specs.Asks.{Asks, Asks₂, Promises, Promises₂}
 use Rattle.octets.specs.Compare.{compareBytes, isEqual}
 use Rattle.octets.specs.Compare.Laws.{compare-refl}
-use Rattle.octets.specs.Head.{stands-at, stands-within, stands-part, Stands}
+use Rattle.octets.specs.Head.{stands-within, stands-part, Stands}
 use Rattle.octets.specs.Limits.{longest}
 use Rattle.octets.specs.Splice.Prefix.{wrote-there}
 use Rattle.term.specs.Term.{variable, Term, leaf, nil, _&_, encode, encodes, Formed, Terms}
 use Rattle.term.specs.Term.Laws.{encode-some}
 use Rattle.term.specs.Arity.{arity}
-use Rattle.message.specs.Equations.{Same}
 use Rattle.message.specs.Substitution.{Ground, subs}
 use Rattle.message.specs.Substitution.Laws.{sub-same}
 use Rattle.message.specs.Canon.{canon}
-use Rattle.message.specs.Theorems.{same-canon, canon-is-formed}
+use Rattle.message.specs.Theorems.{canon-is-formed}
 use Rattle.message.specs.Filled.{filled, filleds}
 use Rattle.message.specs.Filled.Laws.{filled-canon}
 use Rattle.canonical.specs.Builtins.{group}
 use Rattle.canonical.specs.Size.{bytes-few}
-use Rattle.canonical.specs.Contract.{Job, MessageAt, MessageIn, Out, formRoom}
+use Rattle.canonical.specs.Contract.{Job, MessageAt, Out, formRoom}
 use Rattle.canonical.proofs.Parts.{same-term}
 
 -- ── no variable stands in a message ──
@@ -66,20 +65,6 @@ module _ (arities src starts : List ℕ) (at : ℕ) where
         there = wrote-there (omega arith) w ∙ ap (λ (z : List ℕ). z ++ drop r out′) q;
       }
 
--- the message from `at` up to `end`, as a part of the source
-module _ (arities src : List ℕ) (at end : ℕ) where
-  message-stands : (t : Term) → MessageIn arities src at end t → Stands src at (encode t) end
-  message-stands t m = rw (m .ends) (stands-at src at (encode t) (m .is .rest) (m .is .there))
-
-  pub message-within : Asks (MessageIn arities src at end) → (at ≤ end) × (end ≤ length src)
-  message-within (t, m) = (omega (arith, m .ends), stands-within (message-stands t m) (encode-some t))
-
-  pub message-part : (t : Term) → MessageIn arities src at end t → take (end - at) (drop at src) ≡ encode t
-  message-part t m = stands-part (message-stands t m)
-
-  pub message-is : Asks (MessageIn arities src at end) → Asks (MessageAt arities src at)
-  message-is (t, m) = (t, m .is)
-
 -- ── what a comparison decides ──
 same-exactly :
     (arities : List ℕ) (x y : Term) (b : Bool) → Formed (arity arities) x → Formed (arity arities) y → b ≡ isEqual (compareBytes (encode x) (encode y))
@@ -94,15 +79,6 @@ pub decides-canonical :
     → (b ≡ true) ↔ (canon t ≡ t)
 decides-canonical arities src at t b m e =
     same-exactly arities (canon t) t b (canon-is-formed (arity arities) (group arities (m .table)) t (m .formed)) (m .formed) e
-
-pub decides-same :
-    (arities src u : List ℕ) (i j : ℕ) (x y : Term) (b : Bool) → MessageAt arities src i x → MessageAt arities u j y
-    → b ≡ isEqual (compareBytes (encode (canon x)) (encode (canon y))) → (b ≡ true) ↔ Same (arity arities) x y
-decides-same arities src u i j x y b m n e =
-    let g = group arities (m .table) in
-    let c = same-canon (arity arities) g x y (m .formed) (n .formed) in
-    let d = same-exactly arities (canon x) (canon y) b (canon-is-formed (arity arities) g x (m .formed)) (canon-is-formed (arity arities) g y (n .formed)) e in
-    (λ h. c .1 (d .0 h), λ h. d .1 (c .0 h))
 
 -- ── the buffer's bytes ──
 module _ (arities src : List ℕ) (at : ℕ) (out : List ℕ) (r : ℕ) (C : Promises (MessageAt arities src at) (λ (t : Term). Stands out 0 (encode (canon t)) r))

@@ -58,10 +58,10 @@ pub record MessageAt (arities src : List ℕ) (at : ℕ) (t : Term) : Type 0 whe
   pub small : symbols t ≤ mostSymbols
   pub short : length src ≤ longest
 
--- it ends at `end`
-pub record MessageIn (arities src : List ℕ) (at end : ℕ) (t : Term) : Type 0 where
-  pub is : MessageAt arities src at t
-  pub ends : end ≡ at + length (encode t)
+-- these bytes are it
+pub record MessageIs (arities bytes : List ℕ) (t : Term) : Type 0 where
+  pub is : MessageAt arities bytes 0 t
+  pub whole : bytes ≡ encode t
 
 -- the room in which a message's form is made: for the term, and behind it for a product
 abbrev pub formRoom : ℕ

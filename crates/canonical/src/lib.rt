@@ -1,4 +1,4 @@
-// The canonical form of terms at a place, filled in with canonical values; is a term canonical; are two messages the same.
+// The canonical form of terms at a place, filled in with canonical values; whether a term is canonical.
 ghost use mathlib.Core.Path.{_≡_};
 ghost use mathlib.Core.Bool.{true, false};
 ghost use Prim.Native.Nat.{_+_, _≤_, _<_, ℕ};
@@ -9,11 +9,9 @@ ghost use Rattle.octets.specs.Limits.{longest};
 ghost use Rattle.octets.specs.Compare.{isEqual, compareBytes};
 ghost use Rattle.octets.specs.Head.{Stands};
 ghost use Rattle.canonical.specs.First.{FirstAt};
-ghost use Rattle.message.specs.Equations.{Same};
 ghost use Rattle.message.specs.Filled.{filleds};
 ghost use Rattle.message.specs.Substitution.{sub, subs};
 ghost use Rattle.term.specs.Tags.{decTag, fstTag, sndTag, expTag};
-ghost use Rattle.term.specs.Arity.{arity};
 ghost use Rattle.term.specs.Sizes.{termRoom};
 ghost use Rattle.term.specs.Term.{Kind, Term, Terms, leaf, encode, encodes};
 ghost use Rattle.lists.specs.Asks.{Asks, Asks₂, Promises, Promises₂};
@@ -22,7 +20,7 @@ ghost use Rattle.number.specs.Groups.{groups, numberLimit};
 ghost use Rattle.message.specs.Table.{rules};
 ghost use Rattle.message.specs.Canon.{apply, canon};
 ghost use Rattle.canonical.specs.Loose.{isProduct, beside, closed, mades};
-ghost use Rattle.canonical.specs.Contract.{Job, Out, MessageAt, MessageIn, formRoom};
+ghost use Rattle.canonical.specs.Contract.{Job, Out, MessageAt, MessageIs, formRoom};
 ghost use Rattle.canonical.specs.Inner.{LeafJob, Here, Built, Going};
 use term::Part;
 use term::Symbol;
@@ -374,23 +372,11 @@ pub fn canonical_term(out: &mut [u8], src: &[u8], at: usize, arities: &[u8]) -> 
     n.o
 }
 
-// Whether the message from a place up to another is in canonical form, which is made in the lent output.
-pub fn is_canonical(out: &mut [u8], src: &[u8], at: usize, end: usize, arities: &[u8]) -> bool
-    requires { ⌜ (formRoom ≤ length (now out)) × (length (now out) ≤ longest) × Asks (MessageIn (now arities) (now src) at end) ⌝ }
-    ensures { λ r. ⌜ Promises (MessageIn (now (arities .entry)) (now (src .entry)) at end) (λ (t : Term). (r ≡ true) ↔ (canon t ≡ t)) ⌝ }
+// Whether a message is in canonical form, which is made in the lent output.
+pub fn is_canonical(out: &mut [u8], message: &[u8], arities: &[u8]) -> bool
+    requires { ⌜ (formRoom ≤ length (now out)) × (length (now out) ≤ longest) × Asks (MessageIs (now arities) (now message)) ⌝ }
+    ensures { λ r. ⌜ Promises (MessageIs (now (arities .entry)) (now (message .entry))) (λ (t : Term). (r ≡ true) ↔ (canon t ≡ t)) ⌝ }
 {
-    let n = canonical_term(out, src, at, arities);
-    octets::same_bytes(&out[..n], &src[at..end])
-}
-
-// Whether two messages are the same: by the bytes of their canonical forms.
-pub fn same_message(src: &[u8], i: usize, u: &[u8], j: usize, arities: &[u8]) -> bool
-    requires { ⌜ Asks (MessageAt (now arities) (now src) i) × Asks (MessageAt (now arities) (now u) j) ⌝ }
-    ensures { λ r. ⌜ Promises (MessageAt (now (arities .entry)) (now (src .entry)) i) (λ (x : Term). Promises (MessageAt (now (arities .entry)) (now (u .entry)) j) (λ (y : Term). (r ≡ true) ↔ Same (arity (now (arities .entry))) x y)) ⌝ }
-{
-    let mut a = [0u8; FORM_ROOM];
-    let mut b = [0u8; FORM_ROOM];
-    let m = canonical_term(&mut a, src, i, arities);
-    let n = canonical_term(&mut b, u, j, arities);
-    octets::same_bytes(&a[..m], &b[..n])
+    let n = canonical_term(out, message, 0, arities);
+    octets::same_bytes(&out[..n], message)
 }

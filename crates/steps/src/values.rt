@@ -68,15 +68,16 @@ fn public_fits(sort: usize, name: Public) -> bool
     (sort == figures::MESSAGE_SORT) | (sort == figures::PUBLIC_SORT)
 }
 
-// Whether a value without variables, from a place up to another, has 128 symbols at most and is canonical. Its form is made in the output.
-fn message_ok(out: &mut [u8], s: &[u8], arities: &[u8], at: usize, end: usize, size: usize) -> bool
-    requires { ⌜ FormRoom (now out) × Asks (GroundThere (now arities) (now s) at end size) ⌝ }
-    ensures { λ r. ⌜ Promises (GroundThere (now (arities .entry)) (now (s .entry)) at end size) (λ (t : Term). r ≡ valueOk messageSort t) ⌝ }
+// Whether the value without variables at a place has 128 symbols at most and is canonical. It is read as a part of the file, "in prefix order,
+// tag first", and its form is made in the output.
+fn message_ok(out: &mut [u8], s: &[u8], arities: &[u8], at: usize, size: usize) -> bool
+    requires { ⌜ FormRoom (now out) × Asks (GroundThere (now arities) (now s) at size) ⌝ }
+    ensures { λ r. ⌜ Promises (GroundThere (now (arities .entry)) (now (s .entry)) at size) (λ (t : Term). r ≡ valueOk messageSort t) ⌝ }
 {
     if MOST_IN_VALUE < size {
         return false;
     }
-    canonical::is_canonical(out, s, at, end, arities)
+    canonical::is_canonical(out, term::term_part(s, arities, at), arities)
 }
 
 // Whether the value fits a variable of the sort. A name has no variable, is one symbol and is canonical.
@@ -85,19 +86,18 @@ pub fn value_ok(
     s: &[u8],
     arities: &[u8],
     at: usize,
-    end: usize,
     size: usize,
     sort: usize,
 ) -> bool
-    requires { ⌜ FormRoom (now out) × Asks (GroundThere (now arities) (now s) at end size) ⌝ }
-    ensures { λ r. ⌜ Promises (GroundThere (now (arities .entry)) (now (s .entry)) at end size) (λ (t : Term). r ≡ valueOk sort t) ⌝ }
+    requires { ⌜ FormRoom (now out) × Asks (GroundThere (now arities) (now s) at size) ⌝ }
+    ensures { λ r. ⌜ Promises (GroundThere (now (arities .entry)) (now (s .entry)) at size) (λ (t : Term). r ≡ valueOk sort t) ⌝ }
 {
     match name_at(s, arities, at) {
         Name::FreshName(f) => fresh_fits(sort, f),
         Name::PublicName(f) => public_fits(sort, f),
         Name::Other => {
             if sort == figures::MESSAGE_SORT {
-                return message_ok(out, s, arities, at, end, size);
+                return message_ok(out, s, arities, at, size);
             }
             false
         }
@@ -123,16 +123,7 @@ fn values_fit(
     while v < k {
         let sort = protocol::places::sort_of(p, place, v as u32);
         let at = nodes[first + v];
-        let end = nodes[first + (v + 1)];
-        if value_ok(
-            out,
-            s,
-            &p[..sections::ARITIES],
-            at,
-            end,
-            nodes[sizes + v],
-            sort,
-        ) {
+        if value_ok(out, s, &p[..sections::ARITIES], at, nodes[sizes + v], sort) {
             v += 1;
         } else {
             return false;

@@ -1,6 +1,6 @@
 -- What code answers of a value.
 use Prim.Native.Nat.{ℕ, zero, suc, _≤_, _<_}
-use mathlib.Core.List.{List}
+use mathlib.Core.List.{List, [], append-nil}
 use mathlib.Core.Bool.{Bool, true, false, not, _&&_, _||_, and-false, and-true}
 use mathlib.Core.Option.{none}
 use mathlib.Core.Path.{_≡_, refl, ap, ap₂, sym, _∙_, subst}
@@ -16,22 +16,23 @@ use Rattle.lists.specs.Asks.{Promises}
 use Rattle.lists.specs.Choice.{clash}
 use Rattle.octets.specs.Compare.{isEqual}
 use Rattle.octets.specs.Compare.Laws.{compare-refl}
-use Rattle.octets.specs.Head.{Bytes}
+use Rattle.octets.specs.Head.{Bytes, stands-within}
 use Rattle.number.specs.Groups.{numberLimit}
 use Rattle.number.specs.Reading.{got, many}
 use Rattle.number.specs.Reading.Laws.{cut-got}
 use Rattle.term.specs.Term.{Kind, public, fresh, Term, leaf, app, encode, symbols}
+use Rattle.term.specs.Term.Laws.{encode-some}
 use Rattle.term.specs.Reader.{terms, kindOf, symbolAt, build, term}
 use Rattle.term.specs.Reader.Laws.{leaf-at, term-build}
 use Rattle.term.specs.Reader.Exact.{term-form}
-use Rattle.term.specs.Walk.{holds}
+use Rattle.term.specs.Walk.{holds, bytesOf}
 use Rattle.term.specs.declared.Fresh.{Fresh}
 use Rattle.term.specs.declared.Public.{Public}
 use Rattle.term.specs.declared.Symbol.{Symbol}
 use Rattle.term.specs.declared.Symbol.the-variants as sy
 use Rattle.lists.specs.Tests.{by-bool, true-false, not-true}
 use Rattle.canonical.specs.Builtins.{Builtins, group}
-use Rattle.canonical.specs.Contract.{MessageIn, formRoom}
+use Rattle.canonical.specs.Contract.{MessageIs, formRoom}
 use Rattle.steps.specs.declared.values.Name.{Name}
 use Rattle.steps.specs.declared.values.Name.the-variants as nm
 use Rattle.steps.specs.Facts.{freshNumber}
@@ -69,7 +70,8 @@ pub record ValueThere (arities file : List ℕ) (at : ℕ) (t : Term) (e : ℕ) 
   pub short : length file ≤ longest
 
 -- it holds no variable, and has so many symbols
-pub record GroundThere (arities file : List ℕ) (at end size : ℕ) (t : Term) : Type 0 where
+pub record GroundThere (arities file : List ℕ) (at size : ℕ) (t : Term) : Type 0 where
+  pub end : ℕ
   pub is : ValueThere arities file at t end
   pub ground : holds t 0 0 numberLimit ≡ false
   pub sized : size ≡ symbols t
@@ -210,9 +212,13 @@ module _ (file arities : List ℕ) (at : ℕ) (t : Term) (e : ℕ) (v : ValueThe
       ∙ ap (λ (a : Bool). a && (ltb (symbols t) (suc mostInValue) && isCanonical t)) k ∙ ap (λ (a : Bool). a && isCanonical t)
       (lt-ltb (symbols t) (suc mostInValue) (omega arith)))
 
-  module _ (bytes : Bytes file) where
-    -- it is a message, and ends there
-    pub message : holds t 0 0 numberLimit ≡ false → symbols t ≤ mostInValue → MessageIn arities file at e t
+  -- its bytes, a part of the file
+  module _ (bytes : Bytes file) (part : List ℕ) (read : part ≡ bytesOf (term file arities at)) where
+    whole : part ≡ encode t
+    whole = read ∙ ap bytesOf (v .there)
+
+    -- are a message
+    pub message : holds t 0 0 numberLimit ≡ false → symbols t ≤ mostInValue → MessageIs arities part t
     message h l =
         let f = term-form file arities bytes t at e (v .there) in
         record {
@@ -221,16 +227,15 @@ module _ (file arities : List ℕ) (at : ℕ) (t : Term) (e : ℕ) (v : ValueThe
             formed = f .0 .0;
             ground = none-ground t (f .0 .1) h;
             range = f .0 .1;
-            rest = _;
-            there = f .1 .there;
+            rest = [];
+            there = whole ∙ sym (append-nil (encode t));
             small = omega arith;
-            short = v .short;
+            short = omega (arith, ap length whole, f .1 .ends, stands-within (f .1) (encode-some t), v .short);
           };
-          ends = f .1 .ends;
+          whole = whole;
         }
 
-    pub canonical-is : (b : Bool) → Promises (MessageIn arities file at e) (λ (t : Term). (b ≡ true) ↔ (canon t ≡ t)) → MessageIn arities file at e t → b ≡
-        isCanonical t
+    pub canonical-is : (b : Bool) → Promises (MessageIs arities part) (λ (t : Term). (b ≡ true) ↔ (canon t ≡ t)) → MessageIs arities part t → b ≡ isCanonical t
     canonical-is b h m =
         let c = h t m in
         let d = canon-decides arities (group arities (v .table)) t (m .is .formed) in

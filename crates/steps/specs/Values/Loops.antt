@@ -54,9 +54,9 @@ module _ {p s nodes : List ℕ} {j : ℕ} {P : Protocol} {x : Node} (h : NodeIn 
   -- where none holds a variable, value v stands there
   pub value-there :
       getD nodes (heldAt j) 0 ≡ 0 → (v : ℕ) → v < length (x .values)
-      → GroundThere (slotsOf p) s (getD nodes (placesAt j + v) 0) (getD nodes (placesAt j + (v + 1)) 0) (getD nodes (sizesAt j + v) 0)
-      (getD (x .values) v noTerm)
+      → GroundThere (slotsOf p) s (getD nodes (placesAt j + v) 0) (getD nodes (sizesAt j + v) 0) (getD (x .values) v noTerm)
   value-there z v l = record {
+    end = getD nodes (placesAt j + (v + 1)) 0;
     is = record { table = node-table; there = h .row .places v l; short = h .short };
     ground = none-held (x .values) (flag-none (holdsAny (x .values)) (sym (h .row .held) ∙ z)) v l;
     sized = h .row .sizes v l;

@@ -60,22 +60,10 @@ mul-at c = search needs
 shared-slice-read-at : tie.Need-shared-slice-read-at Inv-loop μ-loop
 shared-slice-read-at c = search needs
 
-add-end : tie.Need-add-end Inv-loop μ-loop
-add-end c = search needs
-
-add-end-2 : tie.Need-add-end-2 Inv-loop μ-loop
-add-end-2 c = search needs
-
-mul-end : tie.Need-mul-end Inv-loop μ-loop
-mul-end c = search needs
-
-shared-slice-read-end : tie.Need-shared-slice-read-end Inv-loop μ-loop
-shared-slice-read-end c = search needs
-
 slice-aggregate-value-ok : tie.Need-slice-aggregate-value-ok Inv-loop μ-loop
 slice-aggregate-value-ok c =
-    let c11 = c .before .before .before .before .before .before .before .before .before .before .before in
-    sym (slots-length (now (c11 .args .p)) (c11 .pre .1 .2 .prepared .body .long))
+    let c10 = c .before .before .before .before .before .before .before .before .before .before in
+    sym (slots-length (now (c10 .args .p)) (c10 .pre .1 .2 .prepared .body .long))
 
 add-value-ok : tie.Need-add-value-ok Inv-loop μ-loop
 add-value-ok c = search needs
@@ -88,11 +76,11 @@ shared-slice-read-value-ok c = search needs
 
 value-ok-requires : tie.Need-value-ok-requires Inv-loop μ-loop
 value-ok-requires c κs =
-    let c7 = c .before .before .before .before .before .before .before in
-    let c12 = c7 .before .before .before .before .before in
-    let (P, x, h) = c12 .pre .1 in
-    let l : c7 .loop .v < length (x .values) = omega (arith, node-variables h (c12 .args .place) (c12 .pre .2), c12 .pre .3) in
-    (room-kept (c12 .pre .0) (c7 .loop .inv .1), (getD (x .values) (c7 .loop .v) noTerm, value-there h (c12 .pre .4) (c7 .loop .v) l))
+    let c6 = c .before .before .before .before .before .before in
+    let c11 = c6 .before .before .before .before .before in
+    let (P, x, h) = c11 .pre .1 in
+    let l : c6 .loop .v < length (x .values) = omega (arith, node-variables h (c11 .args .place) (c11 .pre .2), c11 .pre .3) in
+    (room-kept (c11 .pre .0) (c6 .loop .inv .1), (getD (x .values) (c6 .loop .v) noTerm, value-there h (c11 .pre .4) (c6 .loop .v) l))
 
 add-v : tie.Need-add-v Inv-loop μ-loop
 add-v c = search needs
@@ -103,19 +91,19 @@ loop-less c = search needs
 loop-again : tie.Need-loop-again Inv-loop μ-loop
 loop-again c =
     let c3 = c .before .before .before in
-    let c9 = c3 .before .before .before .before .before .before in
-    let c11 = c9 .before .before in
-    let c16 = c11 .before .before .before .before .before in (
+    let c8 = c3 .before .before .before .before .before in
+    let c10 = c8 .before .before in
+    let c15 = c10 .before .before .before .before .before in (
       omega arith,
-      omega (arith, c3 .value-ok .kept, c11 .loop .inv .1),
-      c11 .loop .inv .2,
-      c11 .loop .inv .3,
-      c11 .loop .inv .4,
+      omega (arith, c3 .value-ok .kept, c10 .loop .inv .1),
+      c10 .loop .inv .2,
+      c10 .loop .inv .3,
+      c10 .loop .inv .4,
       λ P x h.
-          let l : c11 .loop .v < length (x .values) = omega (arith, node-variables h (c16 .args .place) (c16 .pre .2), c16 .pre .3) in
-          left-more h (c11 .loop .v) l (c11 .loop .inv .5 P x h) (ap (λ (i : ℕ). valueOk i (getD (x .values) (c11 .loop .v) noTerm))
-          (sym (c9 .sort-of .ensures ∙ node-sort h (c16 .args .place) (c16 .pre .2) (c11 .loop .v) l)) ∙ sym
-          (c3 .value-ok .ensures _ (value-there h (c16 .pre .4) (c11 .loop .v) l)) ∙ c .if1 .taken),
+          let l : c10 .loop .v < length (x .values) = omega (arith, node-variables h (c15 .args .place) (c15 .pre .2), c15 .pre .3) in
+          left-more h (c10 .loop .v) l (c10 .loop .inv .5 P x h) (ap (λ (i : ℕ). valueOk i (getD (x .values) (c10 .loop .v) noTerm))
+          (sym (c8 .sort-of .ensures ∙ node-sort h (c15 .args .place) (c15 .pre .2) (c10 .loop .v) l)) ∙ sym
+          (c3 .value-ok .ensures _ (value-there h (c15 .pre .4) (c10 .loop .v) l)) ∙ c .if1 .taken),
     )
 
 same-length : tie.Need-same-length Inv-loop μ-loop
@@ -124,14 +112,14 @@ same-length c = search needs
 returns : tie.Need-returns Inv-loop μ-loop
 returns c =
     let c3 = c .before .before .before in
-    let c9 = c3 .before .before .before .before .before .before in
-    let c11 = c9 .before .before in
-    let c16 = c11 .before .before .before .before .before in
+    let c8 = c3 .before .before .before .before .before in
+    let c10 = c8 .before .before in
+    let c15 = c10 .before .before .before .before .before in
     λ P x h.
-    let l : c11 .loop .v < length (x .values) = omega (arith, node-variables h (c16 .args .place) (c16 .pre .2), c16 .pre .3) in
-    left-bad h (c11 .loop .v) l (c11 .loop .inv .5 P x h) (ap (λ (i : ℕ). valueOk i (getD (x .values) (c11 .loop .v) noTerm))
-    (sym (c9 .sort-of .ensures ∙ node-sort h (c16 .args .place) (c16 .pre .2) (c11 .loop .v) l)) ∙ sym
-    (c3 .value-ok .ensures _ (value-there h (c16 .pre .4) (c11 .loop .v) l)) ∙ c .if1 .left)
+    let l : c10 .loop .v < length (x .values) = omega (arith, node-variables h (c15 .args .place) (c15 .pre .2), c15 .pre .3) in
+    left-bad h (c10 .loop .v) l (c10 .loop .inv .5 P x h) (ap (λ (i : ℕ). valueOk i (getD (x .values) (c10 .loop .v) noTerm))
+    (sym (c8 .sort-of .ensures ∙ node-sort h (c15 .args .place) (c15 .pre .2) (c10 .loop .v) l)) ∙ sym
+    (c3 .value-ok .ensures _ (value-there h (c15 .pre .4) (c10 .loop .v) l)) ∙ c .if1 .left)
 
 same-length-2 : tie.Need-same-length-2 Inv-loop μ-loop
 same-length-2 c = search needs
@@ -157,10 +145,6 @@ values-fit-spec =
     add-at
     mul-at
     shared-slice-read-at
-    add-end
-    add-end-2
-    mul-end
-    shared-slice-read-end
     slice-aggregate-value-ok
     add-value-ok
     mul-value-ok
