@@ -1,15 +1,19 @@
 -- The facts of nodes as calls take them: a node's number, the list of its rule, the number in that list.
 use Prim.Native.Nat.{ℕ, _+_, _≤_, _<_}
 use mathlib.Core.List.{List}
+use mathlib.Core.Bool.{Bool}
 use mathlib.Core.Path.{_≡_}
 use lib.ListN.{length, getD}
 use lib.Dec.{eqb}
+use Rattle.lists.specs.Reflects.{Reflects}
 use Rattle.octets.specs.Limits.{longest}
 use Rattle.octets.specs.Compare.{compareBytes, isEqual}
 use Rattle.term.specs.Term.{Term}
+use Rattle.term.specs.Arity.{arity, tagArities}
+use Rattle.message.specs.Equations.{Same}
 use Rattle.protocol.specs.Protocol.{Fact, Protocol, noFact}
 use Rattle.steps.specs.Nodes.{Node}
-use Rattle.steps.specs.Facts.{factsOf}
+use Rattle.steps.specs.Facts.{factsOf, SameFact}
 use Rattle.steps.specs.Values.{NodeRight}
 use Rattle.steps.specs.Values.Parts.{noTerm}
 use Rattle.steps.specs.Table.{NodeIn}
@@ -81,6 +85,14 @@ pub record FactsIn (p s nodes : List ℕ) (a : FactId) (q : Wanted) (b : FactId)
 pub record FactWritten (q : Wanted) (out : List ℕ) (o : ℕ) (out′ : List ℕ) (r : WrittenFact) (f : Fact) : Type 0 where
   pub symbols : r .symbol ≡ f .symbol
   pub put : Put out o out′ (r .end) (wantedBytes q f)
+
+-- "equal facts count as the same fact": the answer says whether two are the same by the equations
+abbrev pub TellsFacts : Protocol → Fact → Fact → Bool → Type 0
+TellsFacts P f g r = Reflects (SameFact (arity (tagArities (P .functions))) f g) r
+
+-- "Two messages count as equal exactly when the paper's ten equations make them equal": whether two are
+abbrev pub TellsTerms : Protocol → Term → Term → Bool → Type 0
+TellsTerms P t u r = Reflects (Same (arity (tagArities (P .functions))) t u) r
 
 -- the tests of the two facts' symbols and bytes
 pub record Compared (p : Wanted) (f : Fact) (q : Wanted) (g : Fact) (r : Both) : Type 0 where

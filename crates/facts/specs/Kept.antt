@@ -8,13 +8,14 @@ use lib.ListN.{length, take, drop}
 use lib.Dec.{eqb}
 use Rattle.octets.specs.Compare.{compareBytes, isEqual}
 use Rattle.protocol.specs.Protocol.{Fact, Protocol}
-use Rattle.steps.specs.Facts.{sameFact}
+use Rattle.protocol.specs.Protocol.Limits.{Within}
 use Rattle.steps.specs.Facts.Bytes.{canonBytes, fact-by-bytes}
 use Rattle.steps.specs.Facts.Formed.{FactFormed}
 use Rattle.facts.specs.declared.writing.Wanted.the-variants as want
 use Rattle.facts.specs.declared.marks.KeptFact.{KeptFact}
 use Rattle.facts.specs.Writing.{factRoom, wantedBytes, Put}
-use Rattle.facts.specs.Calls.{Room}
+use Rattle.facts.specs.Calls.{Room, TellsFacts}
+use Rattle.facts.specs.Calls.Meaning.{facts-told}
 use Rattle.facts.specs.Calls.Two.{first-part, second-part}
 use Rattle.facts.specs.Marks.{markOf}
 
@@ -25,9 +26,9 @@ pub record Keeps (out : List ℕ) (k : KeptFact) (f : Fact) : Type 0 where
   pub bytes : take (k .end) out ≡ canonBytes (f .terms)
   pub few : k .end ≤ factRoom
 
--- the answer is the test of a fact that is kept, and another
+-- the answer says whether a fact that is kept, and another, are the same
 abbrev pub SameAs : List ℕ → KeptFact → Protocol → Fact → Bool → Type 0
-SameAs out k P g r = (f : Fact) → FactFormed P f → Keeps out k f → r ≡ sameFact f g
+SameAs out k P g r = (f : Fact) → FactFormed P f → Keeps out k f → TellsFacts P f g r
 
 -- ── laws ──
 -- it is kept as long as its bytes stay
@@ -53,11 +54,11 @@ module _ (out out₂ : List ℕ) (k : KeptFact) (n : ℕ) (room : Room out factR
     kept-stays = first-part out out₂ (k .end) n q (omega (arith, room .enough)) b
 
     pub same-as :
-        (P : Protocol) (g : Fact) → FactFormed P g → q ≡ wantedBytes want.All g → (y : ℕ) → y ≡ g .symbol → (t : Bool)
+        (P : Protocol) → Within P → (g : Fact) → FactFormed P g → q ≡ wantedBytes want.All g → (y : ℕ) → y ≡ g .symbol → (t : Bool)
         → t ≡ isEqual (compareBytes (take (k .end) out₂) (take (n - k .end) (drop (k .end) out₂)))
-        → (f : Fact) → FactFormed P f → Keeps out k f → (eqb (k .symbol) y && t) ≡ sameFact f g
-    same-as P g v e y hy t ht f w h =
-        ap₂ _&&_ (ap₂ eqb (h .symbols) hy)
+        → (f : Fact) → FactFormed P f → Keeps out k f → TellsFacts P f g (eqb (k .symbol) y && t)
+    same-as P fit g v e y hy t ht f w h =
+        facts-told P fit f g w v (eqb (k .symbol) y && t) (ap₂ _&&_ (ap₂ eqb (h .symbols) hy)
         (ht ∙ ap₂ (λ (x z : List ℕ). isEqual (compareBytes x z)) (kept-stays ∙ h .bytes)
         (second-part out out₂ (k .end) n q (omega (arith, room .enough)) b ∙ e))
-        ∙ fact-by-bytes P f g w v
+        ∙ fact-by-bytes P f g w v)

@@ -1,18 +1,20 @@
 -- A mark of a fact, made of its symbol and its canonical bytes. Facts that are the same have the same mark; no more is handed on.
 use Prim.Native.Nat.{ℕ, suc, _+_, _*_, _%_, _≤_, _<_}
 use mathlib.Core.List.{List, [], _∷_}
-use mathlib.Core.Bool.{Bool, true, false}
+use mathlib.Core.Bool.{true, false}
 use mathlib.Core.Path.{_≡_, refl, ap, ap₂, sym, _∙_}
 use native.Mathlib.Omega.{arith}
 use lib.ListN.{length, getD, drop, drop-of-length-le, take, length-map}
 use lib.Seq.{drop-cons}
+use Rattle.lists.specs.Reflects.{wrong}
 use Rattle.protocol.specs.Protocol.{Fact, Protocol, Own}
 use Rattle.protocol.specs.Protocol.Limits.{Within}
 use Rattle.steps.specs.Facts.{sameFact}
 use Rattle.steps.specs.Facts.Bytes.{canonBytes, same-symbols, same-bytes}
-use Rattle.steps.specs.Facts.Formed.{FactFormed}
+use Rattle.steps.specs.Facts.Formed.{FactFormed, formed-decides}
 use Rattle.facts.specs.declared.writing.Wanted.the-variants as want
 use Rattle.facts.specs.Writing.{wantedBytes, factRoom, Put}
+use Rattle.facts.specs.Calls.{TellsFacts}
 
 abbrev pub markBase : ℕ
 markBase = 257
@@ -25,19 +27,16 @@ unfoldable pub markFrom : ℕ → List ℕ → ℕ
 markFrom h [] = h
 markFrom h (b ∷ bs) = markFrom ((h * markBase + b) % markLimit) bs
 
-abbrev pub markOf : Fact → ℕ
+unfoldable pub markOf : Fact → ℕ
 markOf f = markFrom (f .symbol) (canonBytes (f .terms))
 
 -- ── facts whose marks differ are not the same ──
 same-marks : (f g : Fact) → sameFact f g ≡ true → markOf f ≡ markOf g
+unfolding markOf
 same-marks f g h = ap₂ markFrom (same-symbols f g h) (same-bytes f g h)
 
-pub marks-differ : (f g : Fact) → (markOf f ≡ markOf g → ⊥) → sameFact f g ≡ false
-marks-differ f g n = go (sameFact f g) refl
-  where
-    go : (b : Bool) → sameFact f g ≡ b → sameFact f g ≡ false
-    go true e = absurd (n (same-marks f g e))
-    go false e = e
+pub marks-differ : (p : Protocol) → Within p → (f g : Fact) → FactFormed p f → FactFormed p g → (markOf f ≡ markOf g → ⊥) → TellsFacts p f g false
+marks-differ p fit f g a b n = wrong (λ s. n (same-marks f g (formed-decides p fit f g a b .1 s)))
 
 -- ── the loop: h is the mark of what was passed ──
 module _ (from : ℕ) (file : List ℕ) where
@@ -60,6 +59,7 @@ module _ (from : ℕ) (file : List ℕ) where
 -- ── a fact that was written ──
 pub fact-marked :
     (f : Fact) (out out′ : List ℕ) (e y r : ℕ) → Put out 0 out′ e (wantedBytes want.All f) → y ≡ f .symbol → r ≡ markFrom y (take e out′) → r ≡ markOf f
+unfolding markOf
 fact-marked f out out′ e y r p hy h = h ∙ ap₂ markFrom hy (p .wrote .bytes)
 
 pub symbol-small : (p : Protocol) → Within p → (f : Fact) → FactFormed p f → (y : ℕ) → y ≡ f .symbol → y < markLimit
@@ -75,6 +75,7 @@ from-below h l [] = l
 from-below h l (b ∷ bs) = from-below ((h * markBase + b) % markLimit) (mark-small (h * markBase + b)) bs
 
 pub mark-below : (p : Protocol) → Within p → (f : Fact) → FactFormed p f → markOf f < markLimit
+unfolding markOf
 mark-below p fit f g = from-below (f .symbol) (symbol-small p fit f g (f .symbol) refl) (canonBytes (f .terms))
 
 -- what was written lies within the output

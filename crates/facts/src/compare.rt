@@ -7,9 +7,8 @@ ghost use Rattle.octets.specs.Compare.{compareBytes, isEqual};
 ghost use Rattle.term.specs.Term.{encode, leaf, public};
 ghost use Rattle.protocol.specs.Protocol.{Protocol};
 ghost use Rattle.steps.specs.Nodes.{Node};
-ghost use Rattle.steps.specs.Facts.{sameFact, sameTerm};
 ghost use Rattle.facts.specs.Writing.{factRoom, Put};
-ghost use Rattle.facts.specs.Calls.{Room, FactsIn, AtPlace, WholeFact, OneOf, factAt, argumentAt, Compared};
+ghost use Rattle.facts.specs.Calls.{Room, FactsIn, AtPlace, WholeFact, OneOf, factAt, argumentAt, Compared, TellsFacts, TellsTerms};
 ghost use Rattle.facts.specs.Kept.{SameAs};
 use crate::marks::KeptFact;
 use crate::nodes;
@@ -62,7 +61,7 @@ fn compare(
 // into the output.
 pub fn same_fact(out: &mut [u8], p: &[u8], s: &[u8], nodes: &[usize], x: FactId, y: FactId) -> bool
     requires { ⌜ Asks₃ (FactsIn (now p) (now s) (now nodes) x Wanted.All y Wanted.All) × Room (now out) factRoom ⌝ }
-    ensures { λ r. ⌜ Promises₃ (FactsIn (now (p .entry)) (now (s .entry)) (now (nodes .entry)) x Wanted.All y Wanted.All) (λ (P : Protocol) (m n : Node). r ≡ sameFact (factAt P (x .list) (x .number) m) (factAt P (y .list) (y .number) n)) ⌝ }
+    ensures { λ r. ⌜ Promises₃ (FactsIn (now (p .entry)) (now (s .entry)) (now (nodes .entry)) x Wanted.All y Wanted.All) (λ (P : Protocol) (m n : Node). TellsFacts P (factAt P (x .list) (x .number) m) (factAt P (y .list) (y .number) n) r) ⌝ }
 {
     let i = nodes::fact_place(p, nodes, x);
     let j = nodes::fact_place(p, nodes, y);
@@ -106,7 +105,7 @@ pub fn same_argument(
     j: usize,
 ) -> bool
     requires { ⌜ Asks₃ (FactsIn (now p) (now s) (now nodes) x (Wanted.One i) y (Wanted.One j)) × Room (now out) factRoom ⌝ }
-    ensures { λ r. ⌜ Promises₃ (FactsIn (now (p .entry)) (now (s .entry)) (now (nodes .entry)) x (Wanted.One i) y (Wanted.One j)) (λ (P : Protocol) (m n : Node). r ≡ sameTerm (argumentAt P (x .list) (x .number) i m) (argumentAt P (y .list) (y .number) j n)) ⌝ }
+    ensures { λ r. ⌜ Promises₃ (FactsIn (now (p .entry)) (now (s .entry)) (now (nodes .entry)) x (Wanted.One i) y (Wanted.One j)) (λ (P : Protocol) (m n : Node). TellsTerms P (argumentAt P (x .list) (x .number) i m) (argumentAt P (y .list) (y .number) j n) r) ⌝ }
 {
     let k = nodes::fact_place(p, nodes, x);
     let l = nodes::fact_place(p, nodes, y);
@@ -136,7 +135,7 @@ pub fn is_public(
     name: Public,
 ) -> bool
     requires { ⌜ Asks₂ (OneOf (now p) (now s) (now nodes) x i) × Room (now out) factRoom ⌝ }
-    ensures { λ r. ⌜ Promises₂ (OneOf (now (p .entry)) (now (s .entry)) (now (nodes .entry)) x i) (λ (P : Protocol) (m : Node). r ≡ sameTerm (argumentAt P (x .list) (x .number) i m) (leaf public (name .0))) ⌝ }
+    ensures { λ r. ⌜ Promises₂ (OneOf (now (p .entry)) (now (s .entry)) (now (nodes .entry)) x i) (λ (P : Protocol) (m : Node). TellsTerms P (argumentAt P (x .list) (x .number) i m) (leaf public (name .0)) r) ⌝ }
 {
     let a = nodes::node_fact(out, 0, p, s, nodes, x, Wanted::One(i));
     let e = put_public(out, a.end, name);

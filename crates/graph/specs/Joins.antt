@@ -15,13 +15,15 @@ use Rattle.protocol.specs.Figures.{premiseList, conclusionList}
 use Rattle.protocol.specs.Protocol.{Fact, Protocol}
 use Rattle.steps.specs.Nodes.{Node, noNode}
 use Rattle.steps.specs.Facts.{factsOf, sameFact}
+use Rattle.steps.specs.Facts.Formed.{by-equations}
 use Rattle.steps.specs.Runs.{protocolFacts, rewrittens}
 use Rattle.steps.specs.Table.Laws.{node-in}
 use Rattle.steps.specs.Values.{NodeRight}
 use Rattle.steps.specs.Causes.Good.{RightNodes}
 use Rattle.facts.specs.declared.writing.Wanted.the-variants as want
 use Rattle.facts.specs.declared.nodes.FactId.{FactId}
-use Rattle.facts.specs.Calls.{factAt, FactIn, FactsIn}
+use Rattle.facts.specs.Calls.{factAt, FactIn, FactsIn, TellsFacts}
+use Rattle.facts.specs.Calls.Meaning.{fact-formed}
 use Rattle.facts.specs.Calls.Numbers.{Numbered, premise-numbered, conclusion-numbered}
 use Rattle.graph.specs.Graph.{Graph}
 use Rattle.graph.specs.Table.{edgeFields, edgeAt, noEdge, GraphIn}
@@ -120,10 +122,11 @@ module _ {p s nodes edges : List ℕ} {j : ℕ} {P : Protocol} {xs : List Node} 
     }
 
     pub facts-agree :
-        sameFact (factAt P conclusionList (i - 1) (getD xs (m - 1) noNode)) (factAt P premiseList (k - 1) (getD xs (n - 1) noNode))
-        ≡ factsOk (protocolFacts P) (rewrittens P xs) e
-    facts-agree =
-        ap₂ sameFact (end-is (h .nodes-in) source-end from-node from-index) (end-is (h .nodes-in) target-end to-node to-index)
+        (r : Bool) → TellsFacts P (factAt P conclusionList (i - 1) (getD xs (m - 1) noNode)) (factAt P premiseList (k - 1) (getD xs (n - 1) noNode)) r
+        → r ≡ factsOk (protocolFacts P) (rewrittens P xs) e
+    facts-agree r told =
+        by-equations P (h .nodes-in .stand .prepared .body .within) _ _ (fact-formed (facts-in .first)) (fact-formed (facts-in .second)) r told
+        ∙ ap₂ sameFact (end-is (h .nodes-in) source-end from-node from-index) (end-is (h .nodes-in) target-end to-node to-index)
         ∙ sym (ap₂ (agree (protocolFacts P)) (source-end .there) (target-end .there))
 
 -- ── the edges of a graph of which 10 is absent ──

@@ -1,26 +1,39 @@
 -- What the answers mean: the arguments of a node's facts are messages, and two are the same just where the ten equations make them equal.
 use Prim.Native.Nat.{ℕ}
 use mathlib.Core.List.{List}
-use mathlib.Core.Bool.{true}
-use mathlib.Core.Logic.{_↔_}
-use mathlib.Core.Path.{_≡_}
+use mathlib.Core.Bool.{Bool}
+use mathlib.Core.Path.{_≡_, sym, subst}
 use Rattle.lists.specs.All.{All}
+use Rattle.lists.specs.Reflects.{reflects-exactly}
 use Rattle.term.specs.Term.{public, leaf, Formed}
 use Rattle.term.specs.Arity.{arity, tagArities}
-use Rattle.message.specs.Promise.{Message, SameMessage, publicName}
+use Rattle.message.specs.Promise.{Message, publicName}
 use Rattle.message.specs.Substitution.{Ground}
 use Rattle.message.specs.Theorems.{declared}
 use Rattle.protocol.specs.Protocol.{Fact, Protocol, noFact}
+use Rattle.protocol.specs.Protocol.Limits.{Within}
 use Rattle.steps.specs.Nodes.{Node}
 use Rattle.lists.specs.All.Laws.{all-inside}
-use Rattle.steps.specs.Facts.{factsOf, sameFact, sameTerm, SameFact}
+use Rattle.steps.specs.Facts.{factsOf, sameFact, sameTerm}
 use Rattle.steps.specs.Facts.Formed.{FactFormed, formed-decides, node-ground, facts-ground}
 use Rattle.steps.specs.Facts.Laws.{term-decides}
 use Rattle.steps.specs.Values.Parts.{noTerm}
 use Rattle.facts.specs.declared.writing.Wanted.{Wanted}
 use Rattle.facts.specs.declared.nodes.FactId.{FactId}
-use Rattle.facts.specs.Calls.{factAt, argumentAt, FactIn, WholeFact, OneOf}
+use Rattle.facts.specs.Calls.{factAt, argumentAt, FactIn, WholeFact, OneOf, TellsFacts, TellsTerms}
 use Rattle.facts.specs.Calls.Laws.{fact-listed, listed-formed}
+
+-- what the tests of facts and of messages answer, by the equations
+pub facts-told :
+    (P : Protocol) → Within P → (f g : Fact) → FactFormed P f → FactFormed P g → (r : Bool) → r ≡ sameFact f g → TellsFacts P f g r
+facts-told P fit f g a b r h = subst (TellsFacts P f g) (sym h) (reflects-exactly (sameFact f g) (formed-decides P fit f g a b))
+
+terms-told :
+    (P : Protocol) (m n : Message (arity (tagArities (P .functions)))) (r : Bool) → r ≡ sameTerm (m .term) (n .term) → TellsTerms P (m .term) (n .term) r
+terms-told P m n r h =
+    subst (TellsTerms P (m .term) (n .term)) (sym h)
+    (reflects-exactly (sameTerm (m .term) (n .term))
+    (term-decides (arity (tagArities (P .functions))) (declared (P .functions)) (m .term) (n .term) (m .formed) (n .formed)))
 
 module _ {p s nodes : List ℕ} {P : Protocol} where
   module _ {a : FactId} {q : Wanted} {x : Node} (f : FactIn p s nodes a q P x) where
@@ -43,22 +56,20 @@ module _ {p s nodes : List ℕ} {P : Protocol} where
 
   -- ── "equal facts count as the same fact" ──
   pub same-fact-means :
-      (a b : FactId) (x y : Node) → WholeFact p s nodes a P x → WholeFact p s nodes b P y
-      → (sameFact (factAt P (a .list) (a .number) x) (factAt P (b .list) (b .number) y) ≡ true)
-      ↔ SameFact (arity (tagArities (P .functions))) (factAt P (a .list) (a .number) x) (factAt P (b .list) (b .number) y)
-  same-fact-means a b x y f g = formed-decides P (f .node .prepared .body .within) _ _ (fact-formed f) (fact-formed g)
+      (a b : FactId) (x y : Node) → WholeFact p s nodes a P x → WholeFact p s nodes b P y → (r : Bool)
+      → r ≡ sameFact (factAt P (a .list) (a .number) x) (factAt P (b .list) (b .number) y)
+      → TellsFacts P (factAt P (a .list) (a .number) x) (factAt P (b .list) (b .number) y) r
+  same-fact-means a b x y f g = facts-told P (f .node .prepared .body .within) _ _ (fact-formed f) (fact-formed g)
 
   -- ── "Two messages count as equal exactly when the paper's ten equations make them equal" ──
   pub same-argument-means :
-      (a : FactId) (i : ℕ) (x : Node) (f : OneOf p s nodes a i P x) (b : FactId) (j : ℕ) (y : Node) (g : OneOf p s nodes b j P y)
-      → (sameTerm (argumentAt P (a .list) (a .number) i x) (argumentAt P (b .list) (b .number) j y) ≡ true)
-      ↔ SameMessage (arity (tagArities (P .functions))) (argument a i x f) (argument b j y g)
-  same-argument-means a i x f b j y g =
-      term-decides (arity (tagArities (P .functions))) (declared (P .functions)) _ _ (argument a i x f .formed) (argument b j y g .formed)
+      (a : FactId) (i : ℕ) (x : Node) → OneOf p s nodes a i P x → (b : FactId) (j : ℕ) (y : Node) → OneOf p s nodes b j P y → (r : Bool)
+      → r ≡ sameTerm (argumentAt P (a .list) (a .number) i x) (argumentAt P (b .list) (b .number) j y)
+      → TellsTerms P (argumentAt P (a .list) (a .number) i x) (argumentAt P (b .list) (b .number) j y) r
+  same-argument-means a i x f b j y g = terms-told P (argument a i x f) (argument b j y g)
 
   pub is-public-means :
-      (a : FactId) (i : ℕ) (x : Node) (f : OneOf p s nodes a i P x) (n : ℕ)
-      → (sameTerm (argumentAt P (a .list) (a .number) i x) (leaf public n) ≡ true)
-      ↔ SameMessage (arity (tagArities (P .functions))) (argument a i x f) (publicName (arity (tagArities (P .functions))) n)
-  is-public-means a i x f n =
-      term-decides (arity (tagArities (P .functions))) (declared (P .functions)) _ _ (argument a i x f .formed) tt
+      (a : FactId) (i : ℕ) (x : Node) → OneOf p s nodes a i P x → (n : ℕ) (r : Bool)
+      → r ≡ sameTerm (argumentAt P (a .list) (a .number) i x) (leaf public n)
+      → TellsTerms P (argumentAt P (a .list) (a .number) i x) (leaf public n) r
+  is-public-means a i x f n = terms-told P (argument a i x f) (publicName (arity (tagArities (P .functions))) n)

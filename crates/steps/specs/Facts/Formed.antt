@@ -1,7 +1,7 @@
 -- The facts of a node within the limits: well formed, as many arguments as the symbol takes; and without variables if the values are.
 use Prim.Native.Nat.{ℕ, zero, suc, _<_, _≤_}
 use mathlib.Core.List.{List, [], _∷_}
-use mathlib.Core.Bool.{true, false}
+use mathlib.Core.Bool.{Bool, true, false}
 use mathlib.Core.Logic.{_↔_}
 use mathlib.Core.Option.{Option, some, Option·some-injective}
 use mathlib.Core.Path.{_≡_, refl, ap, sym, _∙_, subst}
@@ -10,6 +10,7 @@ use lib.ListN.{length, getD, getElem?, length-map}
 use Rattle.number.specs.Groups.{numberLimit}
 use Rattle.lists.specs.Lists.{anyBy}
 use Rattle.lists.specs.All.{All}
+use Rattle.lists.specs.Reflects.{Reflects, reflects-exactly, alike}
 use Rattle.term.specs.Term.{variable, Term, leaf, Formed}
 use Rattle.term.specs.Arity.{arity, tagArities}
 use Rattle.term.specs.Reader.Exact.{Good}
@@ -99,6 +100,11 @@ module _ (p : Protocol) (fit : Within p) where
   -- of two such facts the test decides whether they are the same
   pub formed-decides : (f g : Fact) → FactFormed p f → FactFormed p g → (sameFact f g ≡ true) ↔ SameFact (arity (tagArities (p .functions))) f g
   formed-decides f g a b = fact-decides (arity (tagArities (p .functions))) (declared (p .functions)) f g (a .each) (b .each)
+
+  -- an answer that says by the equations whether they are the same is the test's
+  pub by-equations :
+      (f g : Fact) → FactFormed p f → FactFormed p g → (r : Bool) → Reflects (SameFact (arity (tagArities (p .functions))) f g) r → r ≡ sameFact f g
+  by-equations f g a b r h = alike (λ s. s) (λ s. s) h (reflects-exactly (sameFact f g) (formed-decides f g a b))
 
   -- without variables, if the values are
   pub facts-ground : (x : Node) → NodeWithin p x → All Ground (x .values) → (list : ℕ) → All (λ f. All Ground (f .terms)) (factsOf p list x)

@@ -7,17 +7,16 @@ use mathlib.Core.Path.{_≡_, ap, sym, _∙_, subst}
 use native.Mathlib.Omega.{arith}
 use lib.ListN.{length, getD}
 use Rattle.lists.specs.All.Laws.{all-inside}
+use Rattle.lists.specs.Reflects.{reflects-true, reflects-back}
 use Rattle.term.specs.Term.{Formed}
 use Rattle.message.specs.Canon.{canon}
 use Rattle.message.specs.Theorems.{same-canon, declared}
 use Rattle.protocol.specs.Protocol.{Fact, Protocol}
 use Rattle.steps.specs.Nodes.{Node, noNode}
-use Rattle.steps.specs.Facts.{sameTerm}
-use Rattle.steps.specs.Facts.Laws.{term-decides}
 use Rattle.steps.specs.Values.Parts.{noTerm}
 use Rattle.facts.specs.declared.writing.Wanted.the-variants as want
 use Rattle.facts.specs.declared.nodes.FactId.{FactId}
-use Rattle.facts.specs.Calls.{factAt, argumentAt, OneOf, FactsIn}
+use Rattle.facts.specs.Calls.{factAt, argumentAt, OneOf, FactsIn, TellsTerms}
 use Rattle.facts.specs.Calls.Meaning.{fact-formed}
 use Rattle.trace.specs.Tables.{ar, stride, placeCount}
 use Rattle.trace.specs.Entries.{actionId, Listed}
@@ -89,12 +88,11 @@ module _ {p s nodes entries : List ℕ} {P : Protocol} {xs : List Node} (t : Lis
 
     pub keys-test :
         (o : Bool)
-        → o ≡ sameTerm (argumentAt P (a .list) (a .number) (q % stride) (getD xs (a .node) noNode))
-        (argumentAt P (b .list) (b .number) (r % stride) (getD xs (b .node) noNode))
+        → TellsTerms P (argumentAt P (a .list) (a .number) (q % stride) (getD xs (a .node) noNode))
+        (argumentAt P (b .list) (b .number) (r % stride) (getD xs (b .node) noNode)) o
         → (o ≡ true) ↔ (keyAt P xs r ≡ keyAt P xs q)
     keys-test o h =
-        let d = term-decides (ar P) (declared (P .functions)) _ _ (place-formed q i a is) (place-formed r j b is′) in
         let c = same-canon (ar P) (declared (P .functions)) _ _ (place-formed q i a is) (place-formed r j b is′) in (
-          λ e. sym (sym (place-key q i a is) ∙ c .0 (d .0 (sym h ∙ e)) ∙ place-key r j b is′),
-          λ e. h ∙ d .1 (c .1 (place-key q i a is ∙ sym e ∙ sym (place-key r j b is′))),
+          λ e. sym (sym (place-key q i a is) ∙ c .0 (reflects-true h e) ∙ place-key r j b is′),
+          λ e. reflects-back h (c .1 (place-key q i a is ∙ sym e ∙ sym (place-key r j b is′))),
         )

@@ -14,9 +14,11 @@ use Rattle.rewriting.specs.Places.{Placed, placed}
 use Rattle.rewriting.specs.Places.Laws.{placed-behind}
 use Rattle.protocol.specs.Figures.{mostFacts, conclusionList}
 use Rattle.protocol.specs.Protocol.{Fact, Protocol, noFact}
+use Rattle.protocol.specs.Protocol.Limits.{Within}
 use Rattle.steps.specs.Nodes.{Node, noNode, NodeWithin, mostNodes}
 use Rattle.steps.specs.Facts.{factsOf, sameFact}
 use Rattle.steps.specs.Facts.Counts.{facts-few}
+use Rattle.steps.specs.Facts.Formed.{by-equations}
 use Rattle.steps.specs.Table.Laws.{node-in}
 use Rattle.steps.specs.Values.{NodeRight}
 use Rattle.steps.specs.Causes.Good.{RightNodes}
@@ -56,6 +58,9 @@ module _ {p s nodes free : List ℕ} {a : FactId} {work : List ℕ} {kept : Kept
   abbrev mark : ℕ
   mark = kept .mark
 
+  abbrev fit : Within P
+  fit = h .right .stand .prepared .body .within
+
   abbrev None : ℕ → Type 0
   None v = NoneTo (entryPlaced P xs) (isSame P xs a) free v
 
@@ -75,9 +80,12 @@ module _ {p s nodes free : List ℕ} {a : FactId} {work : List ℕ} {kept : Kept
       go : (m : ℕ) → getD free v 0 ≡ m → None (suc v)
       go zero e = none-empty (entryPlaced P xs) (isSame P xs a) free v e none
       go (suc m) e =
+          let i = h .marked .each v m e in
+          let other = fact-formed (whole-fact (h .right) (entryId v) (i .node) (i .listed)) in
           none-differs (entryPlaced P xs) (isSame P xs a) free v
-          (marks-differ (factIn P xs a) (entryFact P xs v)
-          (λ same. n (let d : mark ≡ m = h .keeps .mark-is ∙ same ∙ sym (h .marked .each v m e .mark) in omega (arith, e)))) none
+          (sym (by-equations P fit _ _ (fact-formed searched) other false
+          (marks-differ P fit (factIn P xs a) (entryFact P xs v) (fact-formed searched) other
+          (λ same. n (let d : mark ≡ m = h .keeps .mark-is ∙ same ∙ sym (i .mark) in omega (arith, e)))))) none
 
   -- up to the next one with its mark
   pub pass-to : (v r end : ℕ) → Next free (mark + 1) v end r → None v → None r
@@ -101,7 +109,9 @@ module _ {p s nodes free : List ℕ} {a : FactId} {work : List ℕ} {kept : Kept
     module _ (x : FactId) (is : x ≡ entryId v) (b : Bool) (work′ : List ℕ) (stays : take (kept .end) work′ ≡ take (kept .end) work)
         (compared : SameAs work′ kept P (factAt P (x .list) (x .number) (getD xs (x .node) noNode)) b) where
       told : b ≡ sameFact (factIn P xs a) (factAt P (x .list) (x .number) (getD xs (x .node) noNode))
-      told = compared (factIn P xs a) (fact-formed searched) (keeps-on (h .keeps) stays)
+      told =
+          by-equations P fit _ _ (fact-formed searched) (fact-formed (fact-there x is)) b
+          (compared (factIn P xs a) (fact-formed searched) (keeps-on (h .keeps) stays))
 
       same-entry : b ≡ isSame P xs a (entryPlaced P xs v)
       same-entry = told ∙ ap (λ (y : FactId). sameFact (factIn P xs a) (factAt P (y .list) (y .number) (getD xs (y .node) noNode))) is

@@ -1,6 +1,7 @@
 -- The name is written behind the argument; a name is its own canonical form, so equal parts are the same message.
 use Rattle.facts.specs.Calls.Two.{next-room, parts-inside, parts-test}
 use Rattle.facts.specs.Calls.Bytes.{public-test}
+use Rattle.facts.specs.Calls.Meaning.{is-public-means}
 use borrow.Author.Needs.{needs}
 use Rattle.facts.proofs.compare.is_public.Statement.{statement}
 use Rattle.facts.proofs.compare.is_public.Tie as tie
@@ -31,9 +32,9 @@ returns c =
     let c4 = c .before .before .before .before in
     let c8 = c4 .before .before .before .before in
     let c14 = c8 .before .before .before .before .before .before in
-    λ P m f. public-test P (c14 .args .x) (c14 .args .i) m (c14 .args .name .0) _
+    λ P m f. is-public-means (c14 .args .x) (c14 .args .i) m f (c14 .args .name .0) _ (public-test P (c14 .args .x) (c14 .args .i) m (c14 .args .name .0) _
     (parts-test _ _ _ _ _ _ _ (c14 .pre .1) (c8 .node-fact .ensures P m f .put) (c4 .put-public .ensures) (search needs) (search needs) _
-    (c .same-parts .ensures))
+    (c .same-parts .ensures)))
 
 pub is-public-spec : {M : Type 1} → statement M
 is-public-spec =

@@ -1,6 +1,7 @@
--- Equal canonical bytes are the test of equal arguments.
+-- Equal canonical bytes are the test of equal arguments, which decides equality by the equations.
 use Rattle.facts.specs.Calls.Laws.{fact-listed}
 use Rattle.facts.specs.Calls.Bytes.{arguments-test}
+use Rattle.facts.specs.Calls.Meaning.{same-argument-means}
 use denote.Ref.{now}
 use borrow.Author.Needs.{needs}
 use Rattle.facts.proofs.compare.same_argument.Statement.{statement}
@@ -27,7 +28,8 @@ same-length c = search needs
 returns : tie.Need-returns
 returns c =
     let c10 = c .before .before .before .before .before .before .before .before .before .before in
-    λ P m n f. arguments-test P (c10 .args .x) (c10 .args .i) m (c10 .args .y) (c10 .args .j) n _ (c .before .before .compare .ensures P m n f)
+    λ P m n f. same-argument-means (c10 .args .x) (c10 .args .i) m (f .first) (c10 .args .y) (c10 .args .j) n (f .second) _
+    (arguments-test P (c10 .args .x) (c10 .args .i) m (c10 .args .y) (c10 .args .j) n _ (c .before .before .compare .ensures P m n f))
 
 pub same-argument-spec : {M : Type 1} → statement M
 same-argument-spec =

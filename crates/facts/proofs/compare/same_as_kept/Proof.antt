@@ -25,8 +25,8 @@ returns : tie.Need-returns
 returns c =
     let c6 = c .before .before .before .before .before .before in
     let c12 = c6 .before .before .before .before .before .before in (
-      λ P n f g v h. same-as _ _ (c12 .args .kept) _ (c12 .pre .1) (c12 .pre .2) _ (c6 .node-fact .ensures P n f .put) (search needs) P _ (fact-formed f) refl _
-          (c6 .node-fact .ensures P n f .symbols) _ (c .before .before .same-parts .ensures) g v h,
+      λ P n f g v h. same-as _ _ (c12 .args .kept) _ (c12 .pre .1) (c12 .pre .2) _ (c6 .node-fact .ensures P n f .put) (search needs) P
+          (f .node .prepared .body .within) _ (fact-formed f) refl _ (c6 .node-fact .ensures P n f .symbols) _ (c .before .before .same-parts .ensures) g v h,
       (let (P, n, f) = c12 .pre .0 in kept-stays _ _ (c12 .args .kept) _ (c12 .pre .1) (c12 .pre .2) _ (c6 .node-fact .ensures P n f .put) (search needs)),
     )
 

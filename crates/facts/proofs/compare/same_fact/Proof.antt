@@ -1,5 +1,5 @@
--- The test of two facts is equal symbols and equal bytes, since facts of one symbol have as many arguments; facts that are equal as they stand pass it.
-use Rattle.facts.specs.Calls.Meaning.{fact-formed}
+-- Equal symbols and equal bytes decide by the equations, since facts of one symbol have as many arguments; facts that are equal as they stand pass.
+use Rattle.facts.specs.Calls.Meaning.{fact-formed, same-fact-means}
 use Rattle.facts.specs.Calls.Laws.{fact-listed, plains-in}
 use Rattle.facts.specs.Calls.Bytes.{same-by-bytes, same-by-plain}
 use denote.Ref.{now}
@@ -30,8 +30,8 @@ same-length c = search needs
 
 returns : tie.Need-returns
 returns c =
-    λ P m n f. same-by-plain P _ _ (fact-formed (f .first)) (fact-formed (f .second)) _
-    (c .before .before .before .before .compare .ensures P m n (plains-in f)) (c .if1 .taken)
+    λ P m n f. same-fact-means _ _ m n (f .first) (f .second) _ (same-by-plain P _ _ (fact-formed (f .first)) (fact-formed (f .second)) _
+    (c .before .before .before .before .compare .ensures P m n (plains-in f)) (c .if1 .taken))
 
 compare-requires-2 : tie.Need-compare-requires-2
 compare-requires-2 c κs = search needs
@@ -41,7 +41,8 @@ same-length-2 c = search needs
 
 returns-2 : tie.Need-returns-2
 returns-2 c =
-    λ P m n f. same-by-bytes P _ _ (fact-formed (f .first)) (fact-formed (f .second)) _ (c .before .before .before .compare2 .ensures P m n f)
+    λ P m n f. same-fact-means _ _ m n (f .first) (f .second) _ (same-by-bytes P _ _ (fact-formed (f .first)) (fact-formed (f .second)) _
+    (c .before .before .before .compare2 .ensures P m n f))
 
 pub same-fact-spec : {M : Type 1} → statement M
 same-fact-spec =

@@ -1,6 +1,5 @@
 -- Both ends are there, so none of their numbers is 0, and same_fact compares the two facts that they name.
 use native.Mathlib.Omega.{arith}
-use mathlib.Core.Path.{_∙_}
 use Prim.Native.Nat.{_-_}
 use lib.ListN.{getD}
 use Rattle.steps.specs.Nodes.{noNode}
@@ -82,8 +81,9 @@ returns c =
     let c5 = c4 .before in
     let c6 = c5 .before in
     let c7 = c6 .before in
-    λ P xs h. c .before .before .same-fact .ensures P _ _ (facts-in h (c7 .number-at .ensures) (c6 .number-at2 .ensures) (c5 .number-at3 .ensures)
-    (c4 .number-at4 .ensures)) ∙ facts-agree h (c7 .number-at .ensures) (c6 .number-at2 .ensures) (c5 .number-at3 .ensures) (c4 .number-at4 .ensures)
+    λ P xs h. facts-agree h (c7 .number-at .ensures) (c6 .number-at2 .ensures) (c5 .number-at3 .ensures) (c4 .number-at4 .ensures) _
+    (c .before .before .same-fact .ensures P _ _ (facts-in h (c7 .number-at .ensures) (c6 .number-at2 .ensures) (c5 .number-at3 .ensures)
+    (c4 .number-at4 .ensures)))
 
 pub facts-ok-spec : {M : Type 1} → statement M
 facts-ok-spec =
