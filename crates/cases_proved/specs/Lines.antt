@@ -27,7 +27,7 @@ use Rattle.graph.specs.Graph.{place, edge, edgeList, graph}
 use Rattle.graph.specs.Causes.{graphRuling}
 use Rattle.property.specs.Layout.{termAt, sortAt, factAt, timedAt, headAt, scopedAt, formulaAt, property}
 use Rattle.property.specs.Example as properties
-use Rattle.verdict.specs.Truth.{truth}
+use Rattle.trace.specs.Truth.{truth}
 use Rattle.checker.specs.Answer.{workNeed}
 use Rattle.checker.specs.Files.{protocolLimit, protocolRuling, protocolRows}
 use Rattle.checker.specs.Files.Laws.{IsFit, protocol-ruled}

@@ -14,7 +14,7 @@ use Rattle.property.specs.Formula.{Formula}
 use Rattle.property.specs.Layout as layouts
 use Rattle.property.specs.Causes.{propertyItem, propertyRows, propertyRuling}
 use Rattle.trace.specs.Active.{isActive}
-use Rattle.verdict.specs.Truth.{truth}
+use Rattle.trace.specs.Truth.{truth}
 use Rattle.checker.specs.declared.Counts.{Counts}
 use Rattle.checker.specs.declared.Ruling as declared
 use Rattle.checker.specs.declared.Ruling.the-variants as rl

@@ -27,8 +27,8 @@ use Rattle.property.specs.Formula.{Formula}
 use Rattle.lists.specs.Reflects.{Reflects, right, wrong}
 use Rattle.property.specs.Truth.{arities, Truth, actionsOfNodes}
 use Rattle.property.specs.Fit.{IsFit}
-use Rattle.verdict.specs.Truth.{truth}
-use Rattle.verdict.specs.Truth.Laws.{truth-holds}
+use Rattle.trace.specs.Truth.{truth}
+use Rattle.trace.specs.Truth.Laws.{truth-holds}
 use Rattle.term.specs.Term.{Term, symbols}
 use Rattle.term.specs.Arity.{tagArities}
 use Rattle.term.specs.Sizes.{mostSymbols}

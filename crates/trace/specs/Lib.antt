@@ -5,6 +5,10 @@
 pub mod Tables
 -- the nodes with an action
 pub mod Active
+-- for crate property: terms as messages of the judge, equal by their canonical bytes
+pub mod Terms
+-- the truth of a property over the trace of nodes: for all protocols, nodes and formulas; where they are fit and right it is document 01's
+pub mod Truth
 -- ── for the code ──
 -- the actions of all nodes, an entry each
 pub mod Entries

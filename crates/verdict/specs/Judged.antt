@@ -19,8 +19,8 @@ use Rattle.property.specs.Truth.{Truth, actionsOfNodes}
 use Rattle.trace.specs.Tables.{actionsOf, stride, Tables}
 use Rattle.trace.specs.Active.{isActive}
 use Rattle.verdict.specs.declared.Verdict.{Verdict}
-use Rattle.verdict.specs.Truth.{truth}
-use Rattle.verdict.specs.Truth.Laws.{truth-holds}
+use Rattle.trace.specs.Truth.{truth}
+use Rattle.trace.specs.Truth.Laws.{truth-holds}
 -- the tables of crate trace are those of crate judge
 pub mod Joined
 

@@ -11,7 +11,7 @@ use Rattle.property.specs.Formula.{Formula}
 use Rattle.property.specs.Layout as layouts
 use Rattle.property.specs.Causes.Laws.{Passing}
 use Rattle.trace.specs.Active.{isActive}
-use Rattle.verdict.specs.Truth.{truth}
+use Rattle.trace.specs.Truth.{truth}
 use Rattle.checker.specs.declared.Ruling.{Ruling}
 use Rattle.checker.specs.Check.{Checked, ruled, checkOutcome}
 

@@ -28,7 +28,7 @@ use Rattle.property.specs.Causes.Code.{rulingOf, plainly}
 use Rattle.property.specs.declared.ruling.PropertyRuling.{PropertyRuling}
 use Rattle.property.specs.declared.ruling.PropertyRuling.the-variants as pr
 use Rattle.trace.specs.Active.{isActive}
-use Rattle.verdict.specs.Truth.{truth}
+use Rattle.trace.specs.Truth.{truth}
 use Rattle.verdict.specs.Judged.{Posed}
 use Rattle.checker.specs.Files.{protocolRuling}
 use Rattle.checker.specs.Files.Verdict.{ruled-sound}

@@ -30,8 +30,8 @@ use Rattle.judge.specs.Tables.{factsAt, traceOf, Shape}
 use Rattle.judge.specs.Judging.{Property}
 use Rattle.judge.specs.Owed.{passing-property}
 use Rattle.verdict.specs.Judged.{Posed, Tabled}
-use Rattle.verdict.specs.Truth.{truth}
-use Rattle.verdict.specs.Truth.Laws.{truth-judged}
+use Rattle.trace.specs.Truth.{truth}
+use Rattle.trace.specs.Truth.Laws.{truth-judged}
 
 -- ── the tables are read in one way ──
 abbrev plain : NumberFact → Fact ℕ

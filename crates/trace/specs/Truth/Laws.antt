@@ -25,8 +25,8 @@ use Rattle.property.specs.Judge.{judge}
 use Rattle.property.specs.Judge.Natural.{Natural, judge-like}
 use Rattle.property.specs.Truth.{arities, realMessages, plainFact, plainTrace, Truth, actionsOfNodes}
 use Rattle.property.specs.Truth.Laws.{truth-decided}
-use Rattle.verdict.specs.Terms.{terms}
-use Rattle.verdict.specs.Truth.{termFact, termTrace, truth}
+use Rattle.trace.specs.Terms.{terms}
+use Rattle.trace.specs.Truth.{termFact, termTrace, truth}
 
 -- ── the trace of messages and the trace of their terms ──
 -- what is made of each element, beside the element

@@ -9,7 +9,7 @@ use Rattle.steps.specs.Facts.{factsOf}
 use Rattle.property.specs.Formula.{Formula}
 use Rattle.property.specs.Meaning.{Fact, Trace}
 use Rattle.property.specs.Judge.{judge}
-use Rattle.verdict.specs.Terms.{terms}
+use Rattle.trace.specs.Terms.{terms}
 -- of a fit protocol and right nodes it is the truth over all messages and whole numbers
 pub mod Laws
 
