@@ -27,11 +27,6 @@ use property::ruling::PropertyRuling;
 use rules::fit::FitVerdict;
 use steps::nodes;
 
-// "Property (1,024 bytes)", "Graph (61,440 bytes)"
-pub const PROPERTY_LIMIT: usize = 1024;
-
-pub const GRAPH_LIMIT: usize = 61440;
-
 pub fn refuse(number: usize, item: usize) -> Ruling
     requires { ⌜ (number ≤ mostNumber) × (item ≤ mostItem) ⌝ }
     ensures { λ r. ⌜ ruled r ≡ refused number item ⌝ }
@@ -152,10 +147,10 @@ pub fn check_files(protocol: &[u8], property: &[u8], graph: &[u8], work: &mut [u
     if crate::PROTOCOL_LIMIT < protocol.len() {
         return refuse(rewriting::FILE_LONG, rewriting::PROTOCOL_ITEM);
     }
-    if PROPERTY_LIMIT < property.len() {
+    if crate::PROPERTY_LIMIT < property.len() {
         return refuse(rewriting::FILE_LONG, rewriting::PROPERTY_ITEM);
     }
-    if GRAPH_LIMIT < graph.len() {
+    if crate::GRAPH_LIMIT < graph.len() {
         return refuse(rewriting::FILE_LONG, rewriting::GRAPH_ITEM);
     }
     check_protocol(protocol, property, graph, work)

@@ -1,7 +1,7 @@
 // The exported calls.
 
-pub mod checking; // the call check, where the work area is long enough
-pub mod drawing; // the call draw, where the work area is long enough
+mod checking; // the call check, where the work area is long enough
+mod drawing; // the call draw, where the work area is long enough
 pub mod line; // the line of a ruling
 
 ghost use mathlib.Core.Path.{_≡_};
@@ -28,8 +28,12 @@ use protocol::figures;
 use rules::fit::FitVerdict;
 use term::Walk;
 
-// "Protocol (4,096 bytes)", "Term (1,024 bytes)", and the work area that no call needs more of.
+// "Protocol (4,096 bytes)", "Property (1,024 bytes)", "Graph (61,440 bytes)", "Term (1,024 bytes)", and the work area that no call needs more of.
 pub const PROTOCOL_LIMIT: usize = 4096;
+
+pub const PROPERTY_LIMIT: usize = 1024;
+
+pub const GRAPH_LIMIT: usize = 61440;
 
 const TERM_LIMIT: usize = 1024;
 

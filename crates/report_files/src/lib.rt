@@ -7,15 +7,14 @@ ghost use Rattle.octets.specs.Splice.{splice};
 ghost use Rattle.checker.specs.Answer.{workNeed};
 ghost use Rattle.checker.specs.Check.{checkOutcome};
 ghost use Rattle.checker.specs.Line.{lineOf, lineRoom};
-use checker::checking;
 use checker::line;
 
 // One byte more than a file's limit, so that a longer file is seen as such.
 const PROTOCOL_ROOM: usize = checker::PROTOCOL_LIMIT + 1;
 
-const PROPERTY_ROOM: usize = checking::PROPERTY_LIMIT + 1;
+const PROPERTY_ROOM: usize = checker::PROPERTY_LIMIT + 1;
 
-const GRAPH_ROOM: usize = checking::GRAPH_LIMIT + 1;
+const GRAPH_ROOM: usize = checker::GRAPH_LIMIT + 1;
 
 // Reads a file to the start of a buffer, and gives how many bytes there are. "A file that cannot be opened counts as empty"; one that
 // cannot be read to its end counts as the bytes read so far.
