@@ -2,6 +2,8 @@
 
 -- the table, and that each row holds
 pub mod Table
+-- a claim of each row, proved one by one
+pub mod Each
 -- its rows' proofs: the three cases of the line, over the outcome of checking
 pub mod Lines
 -- the five cases of messages, by the equations and the words of the canonical form, for names of any numbers
@@ -18,5 +20,5 @@ pub mod Writer
 -- what demand 3 asks of its files is met: printed-property-fit, and printed-well, received-well and made-well of three step lists; and what it says
 -- of them: printed-is-drawn, received-refused, made-refused
 pub mod Third
--- a second table: what the calls answer of small files
+-- the second table: what the definitions answer of files, as document 01 says
 pub mod Pinned

@@ -1,5 +1,26 @@
--- A second table: small files, and what the calls answer of them.
--- what a row claims
+-- The second proved table: files, and the outcome that document 01 says. The theorems of the calls hold of whatever rules, sorts, flags and
+-- figures are defined, so a definition that said another would be proved together with its code; here it loses a row.
+use mathlib.Core.List.{List, _++_}
+use Rattle.lists.specs.All.{All}
+use Rattle.cases_proved.specs.Each.{all-join}
+use Rattle.cases_proved.specs.Pinned.Row.{Holds}
+use Rattle.cases_proved.specs.Pinned.Row as claims
+use Rattle.cases_proved.specs.Pinned.Refusals as refusals
+use Rattle.cases_proved.specs.Pinned.Rules as rules
+use Rattle.cases_proved.specs.Pinned.Limits as limits
+-- what a row claims, and how it is computed
 pub mod Row
--- the forms of a property
-pub mod Properties
+-- each cause of the refusal table, with its number and item; P1 to P4; what a value is; the order of the causes
+pub mod Refusals
+-- the built-in rules, the apply-rules and the protocol's by number, argument order, sorts, linear and persistent facts
+pub mod Rules
+-- the figures of the files, each at its most and one past it; the numbers of tags, symbols, sorts and flags
+pub mod Limits
+
+abbrev pub pinned : List claims.Row
+pinned = refusals.rows ++ (rules.rows ++ limits.rows)
+
+pub pinned-hold : All Holds pinned
+pinned-hold =
+    all-join Holds refusals.rows (rules.rows ++ limits.rows) refusals.rows-hold
+    (all-join Holds rules.rows limits.rows rules.rows-hold limits.rows-hold)

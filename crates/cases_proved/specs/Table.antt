@@ -15,6 +15,7 @@ use Rattle.checker.specs.Check.{Checked}
 use Rattle.checker.specs.Line.{lineOf}
 use Rattle.checker.specs.Line.Printed as printed
 use Rattle.checker.specs.Line.Printed.{attack-4-2-3-text, refused-12-4-text, attack-0-0-0-text, refused-3-1-text, refused-3-2-text, refused-3-3-text}
+use Rattle.cases_proved.specs.Each.{done, _and_, every}
 use Rattle.cases_proved.specs.Numbers as numbers
 use Rattle.cases_proved.specs.Messages.{pn, fn, Form, form-canon, powers, inverse, inverse-one, decrypted, locked}
 use Rattle.cases_proved.specs.Lines as lines
@@ -100,20 +101,10 @@ whole : {t u : Term} → ((free : List ℕ) → Form free t u) → Holds (form t
 whole {t} {u} f = (f, form-canon [] t u (f []))
 
 -- ── each case holds, under every fit protocol file and for names of any distinct numbers ──
--- the proofs, one a row
-infixr 67 _and_
-data Hold : List Case → Type 0 where
-  done : Hold []
-  _and_ : {c : Case} {cs : List Case} → Holds c → Hold cs → Hold (c ∷ cs)
-
-every : {cs : List Case} → Hold cs → All Holds cs
-every done = tt
-every (h and hs) = (h, every hs)
-
 module _ (protocol : List ℕ) (bytes : Bytes protocol) (p : Protocol) (fit : FitFile protocol p) where
   pub marked-hold : (gi ai bi mi : ℕ) → ai ≢ bi → All Holds (marked protocol gi ai bi mi)
   marked-hold gi ai bi mi d =
-      every {cs = marked protocol gi ai bi mi}
+      every Holds (marked protocol gi ai bi mi)
       ((lines.printed-line, printed.attack-4-2-3)
       and (lines.edge-missing, printed.refused-12-4)
       and (lines.empty-line printed-protocol printed-bytes its-protocol printed-fit, printed.attack-0-0-0)
