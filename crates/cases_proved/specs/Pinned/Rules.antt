@@ -2,7 +2,6 @@
 use Prim.Native.Nat.{ℕ}
 use mathlib.Core.List.{List, [], _∷_, _++_}
 use mathlib.Core.Path.{refl}
-use lib.ListN.{replicate}
 use Rattle.lists.specs.All.{All}
 use Rattle.lists.specs.Below.{allBelow}
 use Rattle.number.specs.Groups.{groups, groupsIn, numberLimit}
@@ -119,7 +118,7 @@ rows =
     ∷ checks none falsehood (of-one 10 8) (attack 3 1 2)
     ∷ checks none falsehood (of-one 11 9) (attack 3 1 2)
     ∷ checks none falsehood (of-one 13 11) (attack 3 1 2)
-    -- enc, dec, pair, exp of two names, in their order and in no other; mul in both, as it is commutative
+    -- enc, dec, pair, exp of two names, in their order and in no other; mul, which is canonical in that order alone
     ∷ checks none falsehood (of-two 6 4 1 2) (attack 4 1 3)
     ∷ checks none falsehood (of-two 6 4 2 1) (refused 11 3)
     ∷ checks none falsehood (of-two 7 5 1 2) (attack 4 1 3)
@@ -129,7 +128,8 @@ rows =
     ∷ checks none falsehood (of-two 12 10 1 2) (attack 4 1 3)
     ∷ checks none falsehood (of-two 12 10 2 1) (refused 11 3)
     ∷ checks none falsehood (of-two 14 12 1 2) (attack 4 1 3)
-    -- one function's rule gives no other's result: 4 to 12 under their neighbour's rule
+    ∷ checks none falsehood (of-two 14 12 2 1) (refused 7 4)
+    -- one function's rule gives no other's result
     ∷ checks none falsehood (of-two 7 4 1 2) (refused 11 3)
     ∷ checks none falsehood (of-two 6 5 1 2) (refused 11 3)
     ∷ checks none falsehood (of-two 12 7 1 2) (refused 11 3)
@@ -225,11 +225,11 @@ unfolding protocol rule layout facts fact own ruleTerm term termIn symbolAt arit
     many counted below readNumber readIn groups groupsIn numberLimit allBelow
     checkOutcome drawOutcome canonicalOutcome
 computed =
-    refl and refl and refl and refl and refl and refl and refl and refl and refl and refl and refl and refl and refl and refl and refl and refl and refl and refl
-    and refl and refl and refl and refl and refl and refl and refl and refl and refl and refl and refl and refl and refl and refl and refl and refl and refl and refl
-    and refl and refl and refl and refl and refl and refl and refl and refl and refl and refl and refl and refl and refl and refl and refl and refl and refl and refl
-    and refl and refl and refl and refl and refl and refl and refl and refl and refl and refl and refl and refl and refl and refl and refl and refl and refl and refl
-    and refl and refl and done
+    refl and refl and refl and refl and refl and refl and refl and refl and refl and refl and refl and refl and refl and refl and refl and refl
+    and refl and refl and refl and refl and refl and refl and refl and refl and refl and refl and refl and refl and refl and refl and refl and refl
+    and refl and refl and refl and refl and refl and refl and refl and refl and refl and refl and refl and refl and refl and refl and refl and refl
+    and refl and refl and refl and refl and refl and refl and refl and refl and refl and refl and refl and refl and refl and refl and refl and refl
+    and refl and refl and refl and refl and refl and refl and refl and refl and refl and refl and refl and done
 
 pub rows-hold : All Holds rows
 rows-hold = all-hold rows computed
