@@ -8,6 +8,7 @@ use Rattle.cases_proved.specs.Pinned.Row as claims
 use Rattle.cases_proved.specs.Pinned.Refusals as refusals
 use Rattle.cases_proved.specs.Pinned.Rules as rules
 use Rattle.cases_proved.specs.Pinned.Limits as limits
+use Rattle.cases_proved.specs.Pinned.Equations as equations
 -- what a row claims, and how it is computed
 pub mod Row
 -- each cause of the refusal table, with its number and item; P1 to P4; what a value is; the order of the causes
@@ -16,11 +17,15 @@ pub mod Refusals
 pub mod Rules
 -- the figures of the files, each at its most and one past it; the numbers of tags, symbols, sorts and flags
 pub mod Limits
+-- which messages are equal and which are canonical
+pub mod Equations
 
+-- each part with its proof, behind the next
 abbrev pub pinned : List claims.Row
-pinned = refusals.rows ++ (rules.rows ++ limits.rows)
+pinned = refusals.rows ++ (rules.rows ++ (limits.rows ++ equations.rows))
 
 pub pinned-hold : All Holds pinned
 pinned-hold =
-    all-join Holds refusals.rows (rules.rows ++ limits.rows) refusals.rows-hold
-    (all-join Holds rules.rows limits.rows rules.rows-hold limits.rows-hold)
+    all-join Holds refusals.rows (rules.rows ++ (limits.rows ++ equations.rows)) refusals.rows-hold
+    (all-join Holds rules.rows (limits.rows ++ equations.rows) rules.rows-hold
+    (all-join Holds limits.rows equations.rows limits.rows-hold equations.rows-hold))
