@@ -1,5 +1,5 @@
--- A claim of each element of a list, its proofs written one behind the other; and of two lists behind each other.
-use mathlib.Core.List.{List, [], _∷_, _++_}
+-- A claim of each element of a list, its proofs written one behind the other.
+use mathlib.Core.List.{List, [], _∷_}
 use Rattle.lists.specs.All.{All}
 
 infixr 67 _and_
@@ -11,7 +11,3 @@ module _ {A : Type 0} (P : A → Type 0) where
   pub every : (xs : List A) → Each P xs → All P xs
   every [] done = tt
   every (x ∷ xs) (h and hs) = (h, every xs hs)
-
-  pub all-join : (xs ys : List A) → All P xs → All P ys → All P (xs ++ ys)
-  all-join [] ys a b = b
-  all-join (x ∷ xs) ys a b = (a .0, all-join xs ys (a .1) b)

@@ -1,8 +1,7 @@
 -- The forms of a property, each by traces that make it true and traces that make it false: what checking answers of small files, by computation.
-use Prim.Native.Nat.{ℕ, _≤_}
+use Prim.Native.Nat.{ℕ}
 use mathlib.Core.List.{List, [], _∷_, _++_, map}
-use mathlib.Core.Path.{_≡_, refl, sym, _∙_}
-use native.Mathlib.Omega.{arith}
+use mathlib.Core.Path.{_≡_, refl}
 use lib.ListN.{length}
 use Rattle.lists.specs.All.{All}
 use Rattle.lists.specs.All.Laws.{map-all}
@@ -13,24 +12,19 @@ use Rattle.number.specs.Reading.{readIn, readNumber, below, many, counted}
 use Rattle.term.specs.Arity.{arity, tagArities}
 use Rattle.term.specs.Reader.{symbolAt, term, termIn}
 use Rattle.message.specs.Canon.{apply}
-use Rattle.rewriting.specs.Table.{Ruling, Pass}
-use Rattle.rewriting.specs.Table.Passes.{lessPass}
+use Rattle.rewriting.specs.Table.{Ruling}
 use Rattle.protocol.specs.Protocol.{ruleTerm, fact, facts, layout, rule, own, protocol}
 use Rattle.rules.specs.Numbered.{ruleOf, fixed}
 use Rattle.steps.specs.Nodes.{node, nodesFrom, nodeList}
 use Rattle.steps.specs.Facts.{sameFact, sameTerm, sameTerms}
-use Rattle.steps.specs.Causes.{graphItem}
 use Rattle.graph.specs.Graph.{place, edge, edgeList, graph}
 use Rattle.graph.specs.Causes.{graphRuling}
 use Rattle.property.specs.Layout.{termAt, sortAt, equalAt, timesAt, factAt, timedAt, headAt, actionAt, scopedAt, formulaAt, property}
-use Rattle.property.specs.Causes.{propertyItem}
-use Rattle.verdict.specs.Truth.{truth}
+use Rattle.trace.specs.Truth.{truth}
 use Rattle.checker.specs.Answer.{workNeed}
-use Rattle.checker.specs.Passing.{less-no}
-use Rattle.checker.specs.Files.{protocolLimit, protocolItem}
-use Rattle.checker.specs.Check.{propertyLimit, graphLimit, Checked, filesRuling, checkOutcome}
+use Rattle.checker.specs.Check.{Checked, checkOutcome}
 use Rattle.cases_proved.specs.Lines.{attack, run}
-use Rattle.cases_proved.specs.Pinned.Row.{Row, checks, Holds}
+use Rattle.cases_proved.specs.Pinned.Row.{Row, checks, Holds, grown}
 
 -- ── the protocol: what a node records ──
 -- A and B are facts of one message, C of two, by the symbols 04, 05 and 06
@@ -290,18 +284,5 @@ one-by-one f g (x ∷ xs) e =
     (h, one-by-one f g xs t)
 
 -- and so with any other
-long-enough : (file over : List ℕ) (work : ℕ) → workNeed ≤ work → checkOutcome recording file over work ≡ checkOutcome recording file over workNeed
-unfolding checkOutcome
-long-enough file over work long =
-    let sizes : List Pass =
-    lessPass 2 protocolItem protocolLimit (length recording)
-    ∷ lessPass 2 propertyItem propertyLimit (length file)
-    ∷ lessPass 2 graphItem graphLimit (length over)
-    ∷ [] in
-    let files : Ruling Checked = filesRuling recording file over in
-    less-no 1 0 work workNeed sizes files long ∙ sym (less-no 1 0 workNeed workNeed sizes files (omega arith))
-
 pub rows-hold : All Holds rows
-rows-hold =
-    map-all (λ c. answer c ≡ rulingOf c) Holds rowOf (λ c e work long. long-enough (c .file) (c .over) work long ∙ e) cases
-    (one-by-one answer rulingOf cases answered)
+rows-hold = map-all (λ c. answer c ≡ rulingOf c) Holds rowOf (λ c e. grown (rowOf c) e) cases (one-by-one answer rulingOf cases answered)

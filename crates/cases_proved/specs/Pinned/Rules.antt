@@ -17,7 +17,7 @@ use Rattle.steps.specs.Facts.{sameFact, sameTerm, sameTerms}
 use Rattle.graph.specs.Graph.{place, edge, edgeList, graph}
 use Rattle.graph.specs.Causes.{graphRuling}
 use Rattle.property.specs.Layout.{termAt, sortAt, equalAt, timesAt, factAt, timedAt, headAt, actionAt, scopedAt, formulaAt, property}
-use Rattle.verdict.specs.Truth.{truth}
+use Rattle.trace.specs.Truth.{truth}
 use Rattle.checker.specs.Answer.{workNeed}
 use Rattle.checker.specs.Files.{termFile}
 use Rattle.checker.specs.Check.{checkOutcome}
