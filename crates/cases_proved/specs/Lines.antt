@@ -145,7 +145,7 @@ module _ (p : Protocol) where
 
 -- ── the cases, whatever the work area ──
 -- within their byte limits the files decide
-by-files :
+pub by-files :
     (protocol property graph : List ℕ) (r : Ruling Checked) → length protocol ≤ protocolLimit → length property ≤ propertyLimit
     → length graph ≤ graphLimit → filesRuling protocol property graph ≡ r → Line protocol property graph r
 by-files protocol property graph r p q g e work long = sized protocol property graph work long p q g ∙ e

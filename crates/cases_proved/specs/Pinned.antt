@@ -1,6 +1,6 @@
 -- The second proved table: files, and the outcome that document 01 says. The theorems of the calls hold of whatever rules, sorts, flags and
 -- figures are defined, so a definition that said another would be proved together with its code; here it loses a row.
-use mathlib.Core.List.{List, _++_}
+use mathlib.Core.List.{List, [], _∷_, _++_}
 use Rattle.lists.specs.All.{All}
 use Rattle.lists.specs.All.Laws.{all-append}
 use Rattle.cases_proved.specs.Pinned.Row.{Holds}
@@ -8,6 +8,7 @@ use Rattle.cases_proved.specs.Pinned.Row as claims
 use Rattle.cases_proved.specs.Pinned.Refusals as refusals
 use Rattle.cases_proved.specs.Pinned.Rules as rules
 use Rattle.cases_proved.specs.Pinned.Limits as limits
+use Rattle.cases_proved.specs.Pinned.Edges as edges
 use Rattle.cases_proved.specs.Pinned.Equations as equations
 use Rattle.cases_proved.specs.Pinned.Properties as properties
 -- what a row claims, and how it is computed
@@ -18,18 +19,38 @@ pub mod Refusals
 pub mod Rules
 -- the figures of the files, each at its most and one past it; the numbers of tags, symbols, sorts and flags
 pub mod Limits
+pub mod Edges
 -- which messages are equal and which are canonical
 pub mod Equations
 -- the forms of a property, each by traces that make it true and traces that make it false
 pub mod Properties
 
--- each part with its proof, behind the next
+-- rows, and that they hold
+pub record Part : Type 0 where
+  pub rows : List claims.Row
+  pub rows-hold : All Holds rows
+
+abbrev pub parts : List Part
+parts =
+    record { rows = refusals.rows; rows-hold = refusals.rows-hold }
+    ∷ record { rows = rules.rows; rows-hold = rules.rows-hold }
+    ∷ record { rows = limits.rows; rows-hold = limits.rows-hold }
+    ∷ record { rows = edges.rows; rows-hold = edges.rows-hold }
+    ∷ record { rows = equations.rows; rows-hold = equations.rows-hold }
+    ∷ record { rows = properties.rows; rows-hold = properties.rows-hold }
+    ∷ []
+
+-- ── the table ──
+abbrev rowsOf : List Part → List claims.Row
+rowsOf [] = []
+rowsOf (p ∷ ps) = p .rows ++ rowsOf ps
+
+hold : (ps : List Part) → All Holds (rowsOf ps)
+hold [] = tt
+hold (p ∷ ps) = all-append Holds (p .rows) (rowsOf ps) (p .rows-hold) (hold ps)
+
 abbrev pub pinned : List claims.Row
-pinned = refusals.rows ++ (rules.rows ++ (limits.rows ++ (equations.rows ++ properties.rows)))
+pinned = rowsOf parts
 
 pub pinned-hold : All Holds pinned
-pinned-hold =
-    all-append Holds refusals.rows (rules.rows ++ (limits.rows ++ (equations.rows ++ properties.rows))) refusals.rows-hold
-    (all-append Holds rules.rows (limits.rows ++ (equations.rows ++ properties.rows)) rules.rows-hold
-    (all-append Holds limits.rows (equations.rows ++ properties.rows) limits.rows-hold
-    (all-append Holds equations.rows properties.rows equations.rows-hold properties.rows-hold)))
+pinned-hold = hold parts
