@@ -41,7 +41,8 @@ module _ (F : Facts) (nodes : List (Node (F .Fact))) (edges : List Edge) where
           facts-same =
               by-bool (same f g)
               (λ t. t)
-              (λ n. absurd (facts i (record { edge = e; stands = s; from = f; to = g; has-source = p; has-target = q; differ = λ t. true-false (same f g) t n })));
+              (λ n. absurd (facts i
+              (record { edge = e; stands = s; from = f; to = g; has-source = p; has-target = q; differ = λ t. true-false (same f g) t n })));
         }));
     one-into = λ a f p.
         by-bool (eqb (into a edges) 1)
@@ -87,7 +88,9 @@ module _ (F : Facts) (nodes : List (Node (F .Fact))) (edges : List Edge) where
 
   module _ {A : Type 0} (a : A) where
     -- The passes answer what the table says, and the value that they hand on is good if it is good of an accepted graph.
-    pub check-table : (Good : A → Type 0) → (Accepted F nodes edges → Good a) → Ruled (graphRows (Tested F) linear nodes edges) Good (checkGraph F nodes edges a)
+    pub check-table :
+        (Good : A → Type 0) → (Accepted F nodes edges → Good a)
+        → Ruled (graphRows (Tested F) linear nodes edges) Good (checkGraph F nodes edges a)
     check-table Good h = ruled Good (graphPasses F nodes edges) a (λ n. h (absent-accepted n))
 
     -- The passes let through just the accepted graphs.

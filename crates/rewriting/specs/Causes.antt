@@ -58,7 +58,12 @@ module _ {Fact : Type 0} (Same : Fact → Fact → Type 0) (linear : Fact → Bo
     -- The rows of a graph, "7 to 13" from 9 on.
     abbrev pub graphRows : List Row
     graphRows =
-        row 9 (NameTwice nodes) ∷ row 10 (EndMissing nodes edges) ∷ row 11 FactsDiffer ∷ row 12 (NotOneEdge nodes edges) ∷ row 13 (UsedTwice nodes edges linear) ∷ []
+        row 9 (NameTwice nodes)
+        ∷ row 10 (EndMissing nodes edges)
+        ∷ row 11 FactsDiffer
+        ∷ row 12 (NotOneEdge nodes edges)
+        ∷ row 13 (UsedTwice nodes edges linear)
+        ∷ []
 
   -- "premises not in the state", 14, "first such node": the nodes before `k` are a run, and the premises of `k` cannot be taken from what it leaves.
   pub record PremisesMissing (k : ℕ) : Type 0 where

@@ -154,7 +154,8 @@ in-front : (F : Facts) (nodes : List (Node (F .Fact))) (edges : List Edge) (work
     Ruled (fixedRow 1 0 (work < 65536) ∷ graphRows (Tested F) (F .linear) nodes edges) (λ (m : ℕ). (m ≡ n) × Accepted F nodes edges)
     (rulingThen (lessPass 1 0 work 65536 ∷ []) (checkGraph F nodes edges n))
 in-front F nodes edges work n =
-    ruled-then (λ (m : ℕ). (m ≡ n) × Accepted F nodes edges) (lessPass 1 0 work 65536 ∷ []) (graphRows (Tested F) (F .linear) nodes edges) (checkGraph F nodes edges n)
+    ruled-then (λ (m : ℕ). (m ≡ n) × Accepted F nodes edges) (lessPass 1 0 work 65536 ∷ [])
+    (graphRows (Tested F) (F .linear) nodes edges) (checkGraph F nodes edges n)
     (λ h. check-table F nodes edges n (λ (m : ℕ). (m ≡ n) × Accepted F nodes edges) (λ acc. (refl, acc)))
 
 -- "Drawing: .. 9, 14, 15" and the length written, for any length of a list of edges.

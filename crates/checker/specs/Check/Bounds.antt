@@ -6,7 +6,6 @@ use mathlib.Core.Option.{Option, some, none, Option·none-ne-some}
 use mathlib.Core.Path.{_≡_, refl, ap, sym, subst}
 use native.Mathlib.Omega.{arith}
 use lib.ListN.{length}
-use Rattle.lists.specs.Choice.{clash}
 use Rattle.lists.specs.Lists.{nth, bit, countBy}
 use Rattle.lists.specs.Lists.Laws.{map-nth, nth-bound}
 use Rattle.octets.specs.Head.{Bytes}

@@ -1,18 +1,18 @@
 -- The machine whose test decides the statement, between facts that are good, runs just where nodes of good facts are a run: what is in the
 -- bag as often as the machine counts it, in the set where the machine says so.
-use mathlib.Core.Path.{_≡_, refl, sym, _∙_, ap, ap₂, subst}
+use mathlib.Core.Path.{_≡_, refl, sym, _∙_, ap, subst}
 use mathlib.Core.Logic.{_↔_, ⊎-elim}
-use mathlib.Core.Bool.{Bool, true, false, not, cond, _||_}
+use mathlib.Core.Bool.{Bool, true, false, not, _||_}
 use mathlib.Core.List.{List, [], _∷_, _++_, List·Memᴰ·head, List·Memᴰ·tail, List·Memᴰ·cases-cons, List·Memᴰ·not-nil}
 use mathlib.Core.Option.{Option, none, some, Option·none-ne-some, Option·some-injective}
 use Prim.Native.Nat.{ℕ, suc, _+_, _-_, _≤_}
 use native.Mathlib.Omega.{arith}
 use lib.Dec.{leb, eqb}
-use Rattle.lists.specs.Tests.{by-bool, true-false, not-true, or-split, eqb-eq, eqb-self, leb-le, le-leb, leb-sum, bit-true}
-use Rattle.lists.specs.Lists.{_∈_, bit, countBy, keepBy, before}
+use Rattle.lists.specs.Tests.{by-bool, true-false, not-true, or-split, eqb-eq, eqb-self, leb-le, le-leb, leb-sum}
+use Rattle.lists.specs.Lists.{_∈_, bit, countBy}
 use Rattle.lists.specs.Lists.Laws.{count-append, count-pos, count-mem}
 use Rattle.lists.specs.All.{All}
-use Rattle.lists.specs.All.Laws.{all-append, all-keep, all-take}
+use Rattle.lists.specs.All.Laws.{all-append, all-keep}
 use Rattle.lists.specs.Some.{Some, here, later}
 use Rattle.rewriting.specs.Facts.{Facts, count, linears, persistents}
 use Rattle.rewriting.specs.Facts.Laws.{same-left, count-same, count-linears}
@@ -165,10 +165,13 @@ module _
               omega arith;
           set = λ f.
               ap (λ (o : Bool). o || leb 1 (count F f (persistents F (x .conclusions)))) (h .set f)
-              ∙ sym (leb-sum (count F f (c .set)) (count F f (persistents F (x .conclusions))) _ (count-append (same f) (c .set) (persistents F (x .conclusions))));
+              ∙ sym (leb-sum (count F f (c .set)) (count F f (persistents F (x .conclusions))) _
+              (count-append (same f) (c .set) (persistents F (x .conclusions))));
           made = ap (λ (ms : List ℕ). ms ++ nameOf (x .makes)) (h .made);
           good-bag = all-append Good rest (linears F (x .conclusions)) b (all-keep Good linear (x .conclusions) (a .conclusions));
-          good-set = all-append Good (c .set) (persistents F (x .conclusions)) (h .good-set) (all-keep Good (λ f. not (linear f)) (x .conclusions) (a .conclusions));
+          good-set =
+              all-append Good (c .set) (persistents F (x .conclusions)) (h .good-set)
+              (all-keep Good (λ f. not (linear f)) (x .conclusions) (a .conclusions));
         }
 
   -- ── a name is made already, in the machine and among the names made ──
