@@ -19,11 +19,11 @@ use Rattle.facts.specs.Calls.Meaning.{facts-told}
 use Rattle.facts.specs.Calls.Two.{first-part, second-part}
 use Rattle.facts.specs.Marks.{markOf}
 
--- the fact is kept in the output
+-- the fact is kept in the output; callers see no bytes of it
 pub record Keeps (out : List ℕ) (k : KeptFact) (f : Fact) : Type 0 where
   pub symbols : k .symbol ≡ f .symbol
   pub mark-is : k .mark ≡ markOf f
-  pub bytes : take (k .end) out ≡ canonBytes (f .terms)
+  bytes : take (k .end) out ≡ canonBytes (f .terms)
   pub few : k .end ≤ factRoom
 
 -- the answer says whether a fact that is kept, and another, are the same
