@@ -25,7 +25,7 @@ use Rattle.graph.specs.Causes.{ruling, graphRuling}
 use Rattle.property.specs.Formula.{absurdity}
 use Rattle.property.specs.Layout.{formulaAt, property}
 use Rattle.checker.specs.Files.{protocolRuling}
-use Rattle.checker.specs.Check.{Checked, checked, propertyUnder, underProtocol, filesRuling}
+use Rattle.checker.specs.Check.{checked, propertyUnder, underProtocol, filesRuling}
 use Rattle.cases_proved.specs.Lines.{bytes-of, by-files, falsehood}
 use Rattle.cases_proved.specs.Pinned.Row.{Row, checks, Holds, own-fact, times}
 
