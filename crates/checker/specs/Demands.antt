@@ -18,9 +18,9 @@ use Rattle.steps.specs.Nodes.{Node, NodeWithin}
 use Rattle.steps.specs.Values.{NodeRight}
 use Rattle.steps.specs.Facts.{factsOf, sameFact, SameFact}
 use Rattle.steps.specs.Facts.Formed.{FactFormed, facts-formed, formed-decides}
-use Rattle.steps.specs.Runs.{IsRun, NamesOnce}
+use Rattle.steps.specs.Runs.{NamesOnce}
 use Rattle.steps.specs.Runs.Equations.{RunSame, accepted-exactly, run-exactly}
-use Rattle.steps.specs.Runs.Theorems.{accepted-runs, run-names}
+use Rattle.steps.specs.Runs.Theorems.{IsRun, accepted-runs, run-names}
 use Rattle.graph.specs.Graph.{Graph}
 use Rattle.graph.specs.Causes.{DependencyGraph}
 use Rattle.property.specs.Formula.{Formula}

@@ -4,7 +4,6 @@ use mathlib.Core.List.{List, map}
 use Rattle.protocol.specs.Figures.{premiseList, conclusionList}
 use Rattle.rewriting.specs.Facts.{Facts}
 use Rattle.rewriting.specs.Graph as graph
-use Rattle.rewriting.specs.Machine as machine
 use Rattle.protocol.specs.Protocol.{Fact, Protocol}
 use Rattle.steps.specs.Nodes.{Node}
 use Rattle.steps.specs.Facts.{factsOf, madeName, sameFact, isLinear}
@@ -35,10 +34,6 @@ module _ (p : Protocol) where
 
   abbrev pub rewrittens : List Node → List (graph.Node Fact)
   rewrittens xs = map rewritten xs
-
-  -- "The nodes are a run exactly when none fails"
-  abbrev pub IsRun : List Node → Type 0
-  IsRun xs = machine.IsRun (protocolFacts p) (rewrittens xs)
 
   -- "An accepted graph has: .."
   abbrev pub Accepted : List Node → List graph.Edge → Type 0

@@ -18,9 +18,8 @@ use Rattle.protocol.specs.Protocol.{Protocol}
 use Rattle.protocol.specs.Protocol.Limits.{Within}
 use Rattle.steps.specs.Nodes.{Node, NodeWithin, encodeNodes, read, nodeList}
 use Rattle.steps.specs.Nodes.Exact.{nodes-back, steps-form}
-use Rattle.steps.specs.Runs.{IsRun}
 use Rattle.steps.specs.Runs.Equations.{AcceptedSame, drawRowsSame, draw-table-same}
-use Rattle.steps.specs.Runs.Theorems.{drawn, draws-exactly, refused-no-run}
+use Rattle.steps.specs.Runs.Theorems.{IsRun, drawn, draws-exactly, refused-no-run}
 use Rattle.steps.specs.WellFormed.{WellFormed}
 use Rattle.graph.specs.Graph.{Graph, graph-of, encodeEdge, encodeGraph}
 use Rattle.graph.specs.Graph.Limits.{graph-bytes}

@@ -29,8 +29,8 @@ use Rattle.protocol.specs.Protocol.Limits.{Within}
 use Rattle.steps.specs.Nodes.{Node, NodeWithin}
 use Rattle.steps.specs.Facts.{factsOf, SameFact, isLinear}
 use Rattle.steps.specs.Facts.Formed.{FactFormed, facts-formed, formed-decides}
-use Rattle.steps.specs.Runs.{protocolFacts, rewritten, rewrittens, IsRun, Accepted, NamesOnce}
-use Rattle.steps.specs.Runs.Theorems.{absent-exactly, check-table, check-accepted}
+use Rattle.steps.specs.Runs.{protocolFacts, rewritten, rewrittens, Accepted, NamesOnce}
+use Rattle.steps.specs.Runs.Theorems.{IsRun, absent-exactly, check-table, check-accepted}
 use Rattle.steps.specs.Runs.Theorems.{drawn, draw-table, draws-exactly, drawn-accepts, refused-none}
 
 -- "equal facts count as the same fact"

@@ -10,6 +10,7 @@ use Rattle.rewriting.specs.Facts.{Tested}
 use Rattle.rewriting.specs.Causes.{graphRows}
 use Rattle.rewriting.specs.Checker.{checkGraph}
 use Rattle.rewriting.specs.Writer.{draw}
+use Rattle.rewriting.specs.Machine as machine
 use Rattle.rewriting.specs.Runs as runs
 use Rattle.rewriting.specs.Draws as draws
 use Rattle.rewriting.specs.Names as names
@@ -19,15 +20,19 @@ use Rattle.rewriting.specs.Size as size
 use Rattle.protocol.specs.Protocol.{Protocol}
 use Rattle.steps.specs.Nodes.{Node}
 use Rattle.steps.specs.Facts.{isLinear}
-use Rattle.steps.specs.Runs.{protocolFacts, rewrittens, IsRun, Accepted, NamesOnce}
+use Rattle.steps.specs.Runs.{protocolFacts, rewrittens, Accepted, NamesOnce}
 
 module _ (p : Protocol) (xs : List Node) where
+  -- the machine, with the test of facts, goes through all these nodes
+  abbrev pub IsRun : Type 0
+  IsRun = machine.IsRun (protocolFacts p) (rewrittens p xs)
+
   -- ── a graph of these nodes ──
   -- "if the graph is accepted, then its nodes in file order are a run .., no fresh name made twice"
-  pub accepted-runs : (edges : List Edge) → Accepted p xs edges → IsRun p xs
+  pub accepted-runs : (edges : List Edge) → Accepted p xs edges → IsRun
   accepted-runs edges acc = runs.accepted-runs (protocolFacts p) (rewrittens p xs) edges acc
 
-  pub run-names : IsRun p xs → NamesOnce p xs
+  pub run-names : IsRun → NamesOnce p xs
   run-names r = names.run-names (protocolFacts p) (rewrittens p xs) r
 
   -- 9 to 13 are absent just where the graph is accepted
@@ -58,14 +63,14 @@ module _ (p : Protocol) (xs : List Node) where
   draw-table = whole.draw-table (protocolFacts p) (rewrittens p xs)
 
   -- "draws a graph exactly when the whole list is such a run"
-  pub draws-exactly : ((edges : List Edge) × (drawn ≡ passed edges)) ↔ IsRun p xs
+  pub draws-exactly : ((edges : List Edge) × (drawn ≡ passed edges)) ↔ IsRun
   draws-exactly = draws.draws-exactly (protocolFacts p) (rewrittens p xs)
 
   pub drawn-accepts : (edges : List Edge) → drawn ≡ passed edges → Accepted p xs edges
   drawn-accepts edges h = draws.drawn-accepts (protocolFacts p) (rewrittens p xs) edges h
 
   -- "If the list is no run, .. no graph of these steps in this order is accepted, whatever its edges"
-  pub refused-no-run : (n k : ℕ) → drawn ≡ refused n k → IsRun p xs → ⊥
+  pub refused-no-run : (n k : ℕ) → drawn ≡ refused n k → IsRun → ⊥
   refused-no-run n k h = draws.refused-no-run (protocolFacts p) (rewrittens p xs) n k h
 
   pub refused-none : (n k : ℕ) → drawn ≡ refused n k → (edges : List Edge) → Accepted p xs edges → ⊥
