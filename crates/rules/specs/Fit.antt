@@ -1,4 +1,4 @@
--- "Conditions P1 to P4", each a test of a rule; the least rule that breaks one; what a protocol file is judged to be.
+-- "Conditions P1 to P4" and document 02's fifth as tests of a rule; the least rule that breaks one; what a protocol file is judged to be.
 use Prim.Native.Nat.{ℕ, _+_}
 use mathlib.Core.List.{List}
 use mathlib.Core.Bool.{Bool, _||_, _&&_, not}
@@ -9,7 +9,7 @@ use Rattle.number.specs.Groups.{numberLimit}
 use Rattle.number.specs.Reading.{Read, got, fault}
 use Rattle.lists.specs.Lists.{anyBy}
 use Rattle.lists.specs.Below.{allBelow, least}
-use Rattle.protocol.specs.Protocol.{Rule, Protocol, emptyRule, premises, conclusions, leafIn}
+use Rattle.protocol.specs.Protocol.{Rule, Protocol, emptyRule, premises, actions, conclusions, leafIn}
 use Rattle.protocol.specs.Protocol.Walks.{symbolIn}
 -- what the tests mean, in words of occurrence
 pub mod Meaning
@@ -28,18 +28,20 @@ p2 r = not (anyBy (symbolIn 2 4) (premises r))
 abbrev pub p3 : Rule → Bool
 p3 r = not (anyBy (symbolIn 0 2) (conclusions r)) && not (anyBy (symbolIn 3 4) (conclusions r))
 
--- variable v stands in one of these facts; it is of sort public, or in a premise, or in no conclusion
+-- variable v is of sort public, or in a premise, or in no conclusion and no action
 abbrev pub bound : Rule → ℕ → Bool
 bound r v =
     eqb (getD (r .sorts) v 0) 2
-    || (anyBy (leafIn 0 v (v + 1)) (premises r) || not (anyBy (leafIn 0 v (v + 1)) (conclusions r)))
+    || (anyBy (leafIn 0 v (v + 1)) (premises r)
+    || (not (anyBy (leafIn 0 v (v + 1)) (conclusions r)) && not (anyBy (leafIn 0 v (v + 1)) (actions r))))
 
--- P4, "each variable of a conclusion is in a premise or is of sort public"
-abbrev pub p4 : Rule → Bool
-p4 r = allBelow (bound r) (length (r .sorts))
+-- P4, "each variable of a conclusion is in a premise or is of sort public";
+-- P5, document 02: "a variable in an action must also stand in a premise, or be of sort public"
+abbrev pub p45 : Rule → Bool
+p45 r = allBelow (bound r) (length (r .sorts))
 
 abbrev pub fits : Rule → Bool
-fits r = p1 r && (p2 r && (p3 r && p4 r))
+fits r = p1 r && (p2 r && (p3 r && p45 r))
 
 -- the least rule that breaks a condition, its place in the file from 1; 0 if none does
 abbrev pub leastUnfit : List Rule → ℕ

@@ -1,4 +1,4 @@
-// The conditions P1 to P4, and the judgement of a protocol file.
+// The conditions P1 to P5, and the judgement of a protocol file.
 ghost use mathlib.Core.Path.{_≡_};
 ghost use mathlib.Core.List.{List};
 ghost use Prim.Native.Nat.{_≤_, _<_};
@@ -12,12 +12,13 @@ ghost use Rattle.protocol.specs.Places.{At};
 ghost use Rattle.lists.specs.Asks.{Promises};
 ghost use Rattle.protocol.specs.Protocol.Walks.{asks, ruleAsks};
 ghost use Rattle.protocol.specs.Index.{Placed};
-ghost use Rattle.rules.specs.Fit.{bound, p4, fits, judged};
+ghost use Rattle.rules.specs.Fit.{bound, p45, fits, judged};
 ghost use Rattle.lists.specs.Below.{least, allBelow};
 ghost use Rattle.rules.specs.Fit.Laws.{hitOf, OfRule, Located, unfit, verdictOf, Indexes};
 use number::Number;
 use number::Seen;
 use protocol::figures;
+use protocol::figures::ACTIONS;
 use protocol::figures::CONCLUSIONS;
 use protocol::figures::PREMISES;
 use protocol::figures::SYMBOL_KIND;
@@ -43,10 +44,11 @@ fn hit_of(r: Seen) -> bool
     }
 }
 
-// A rule: its place, and those of its premises and of its conclusions.
+// A rule: its place, and those of its lists.
 pub struct RulePlaces {
     pub at: usize,
     pub premises: usize,
+    pub actions: usize,
     pub conclusions: usize,
 }
 
@@ -82,7 +84,7 @@ fn rule_asks(
     hit_of(walks::one_layout(file, arities, ars, at, kind, lo, hi))
 }
 
-// Whether variable v of a rule is of sort public, in a premise, or in no conclusion.
+// Whether variable v of a rule is of sort public, in a premise, or in no conclusion and no action.
 fn is_bound(file: &[u8], arities: &[u8], ars: &[u8], x: RulePlaces, v: u32) -> bool
     requires { ⌜ (length (now file) ≤ longest) × Located (now file) (now arities) (now ars) x ⌝ }
     ensures { λ b. ⌜ OfRule (now (file .entry)) (now (arities .entry)) (now (ars .entry)) (x .at) (λ (r : Rule). v < length (r .sorts) → b ≡ bound r v) ⌝ }
@@ -94,7 +96,9 @@ fn is_bound(file: &[u8], arities: &[u8], ars: &[u8], x: RulePlaces, v: u32) -> b
     if list_asks(file, arities, ars, x.premises, VARIABLE, n, n + 1) {
         return true;
     }
-    !list_asks(file, arities, ars, x.conclusions, VARIABLE, n, n + 1)
+    let below = list_asks(file, arities, ars, x.conclusions, VARIABLE, n, n + 1);
+    let beside = list_asks(file, arities, ars, x.actions, VARIABLE, n, n + 1);
+    !below & !beside
 }
 
 // The same for the first n variables.
@@ -112,10 +116,10 @@ fn all_bound(file: &[u8], arities: &[u8], ars: &[u8], x: RulePlaces, n: u32) -> 
     true
 }
 
-// P4 of a rule.
+// P4 and P5 of a rule.
 fn variables_bound(file: &[u8], arities: &[u8], ars: &[u8], x: RulePlaces) -> bool
     requires { ⌜ (length (now file) ≤ longest) × Located (now file) (now arities) (now ars) x ⌝ }
-    ensures { λ b. ⌜ OfRule (now (file .entry)) (now (arities .entry)) (now (ars .entry)) (x .at) (λ (r : Rule). b ≡ p4 r) ⌝ }
+    ensures { λ b. ⌜ OfRule (now (file .entry)) (now (arities .entry)) (now (ars .entry)) (x .at) (λ (r : Rule). b ≡ p45 r) ⌝ }
 {
     match walks::sorts_at(file, x.at) {
         Number::Value(n, _) => all_bound(file, arities, ars, x, n),
@@ -123,16 +127,18 @@ fn variables_bound(file: &[u8], arities: &[u8], ars: &[u8], x: RulePlaces) -> bo
     }
 }
 
-// P1 to P4 of the rule at a place. The places of its lists are found once.
+// P1 to P5 of the rule at a place. The places of its lists are found once.
 fn rule_fits(file: &[u8], arities: &[u8], ars: &[u8], at: usize) -> bool
     requires { ⌜ length (now file) ≤ longest ⌝ }
     ensures { λ b. ⌜ OfRule (now (file .entry)) (now (arities .entry)) (now (ars .entry)) at (λ (r : Rule). b ≡ fits r) ⌝ }
 {
     let above = places::list_at(file, arities, ars, at, PREMISES);
+    let beside = places::list_at(file, arities, ars, at, ACTIONS);
     let below = places::list_at(file, arities, ars, at, CONCLUSIONS);
     let x = RulePlaces {
         at: at,
         premises: above,
+        actions: beside,
         conclusions: below,
     };
     let fresh = rule_asks(file, arities, ars, at, term::FRESH, 0, number::NUMBER_LIMIT);

@@ -21,7 +21,7 @@ use Rattle.rules.specs.Fit.Meaning.{Fit}
 use Rattle.checker.specs.Files.{protocolLimit, protocolItem, layout, layoutRows, fitRows, protocolRuling, protocolRows}
 use Rattle.checker.specs.Files.Laws.{IsFit, decided, protocol-ruled}
 
--- the file holds the protocol p, which keeps to the limits and to P1 to P4
+-- the file holds the protocol p, which keeps to the limits and to P1 to P5
 pub record FitFile (file : List ℕ) (p : Protocol) : Type 0 where
   pub short : length file ≤ protocolLimit
   pub reads : protocol file ≡ got p (length file)
@@ -32,7 +32,7 @@ abbrev pub fitFileRows : List ℕ → List Row
 fitFileRows file = fixedRow 2 protocolItem (protocolLimit < length file) ∷ protocolRows file
 
 -- ── the rows say just this ──
--- 4 is absent just where P1 to P4 hold of every rule
+-- 4 is absent just where P1 to P5 hold of every rule
 fit-absent : (p : Protocol) → All Fit (p .rules) → Absent (fitRows p)
 fit-absent p all = ((λ k h. h .not-fit (all-nth Fit (p .rules) all k (h .which) (h .stands))), tt)
 

@@ -1,7 +1,7 @@
 -- The tests of a rule as the code makes them, the least of several, and the judgement of a file.
 use Prim.Native.Nat.{ℕ, _+_, _≤_, _<_}
 use mathlib.Core.List.{List}
-use mathlib.Core.Bool.{Bool, true, false, _||_, not}
+use mathlib.Core.Bool.{Bool, true, false, _||_, _&&_, not}
 use mathlib.Core.Path.{_≡_, ap, ap₂, sym, _∙_, subst}
 use native.Mathlib.Omega.{arith}
 use lib.ListN.{length, getD, take}
@@ -15,7 +15,7 @@ use Rattle.number.specs.Reading.{Read, got, fault, seen}
 use Rattle.lists.specs.Lists.{anyBy}
 use Rattle.number.specs.declared.Seen.{Seen}
 use Rattle.number.specs.declared.Seen.the-variants as sn
-use Rattle.protocol.specs.Protocol.{Fact, Rule, listOf, emptyRule, premises, conclusions, facts, layout, rule, protocol}
+use Rattle.protocol.specs.Protocol.{Fact, Rule, listOf, emptyRule, premises, actions, conclusions, facts, layout, rule, protocol}
 use Rattle.protocol.specs.Protocol.Walks.{asks, ruleAsks, sortsAt, layout-fault}
 use Rattle.protocol.specs.Places.{Here, valueOf, listPlace, sortOf}
 use Rattle.protocol.specs.Places.Laws.{vars-law, list-law, sort-law, rule-layout}
@@ -25,7 +25,7 @@ use Rattle.protocol.specs.declared.index.Index.the-variants as ix
 use Rattle.rules.specs.declared.fit.RulePlaces.{RulePlaces}
 use Rattle.rules.specs.declared.fit.FitVerdict.{FitVerdict}
 use Rattle.rules.specs.declared.fit.FitVerdict.the-variants as jd
-use Rattle.rules.specs.Fit.{p1, p4, bound, fits, Verdict, sound, broken, malformed, outcome, judged}
+use Rattle.rules.specs.Fit.{p1, p45, bound, fits, Verdict, sound, broken, malformed, outcome, judged}
 use Rattle.lists.specs.Below.{least, allBelow}
 
 -- ── what code has of a test ──
@@ -40,9 +40,10 @@ hit-is q r h k = ap hitOf (h ∙ ap (seen q) k)
 abbrev pub OfRule : List ℕ → List ℕ → List ℕ → ℕ → (Rule → Type 0) → Type 0
 OfRule file arities ars at P = (r : Rule) → Here (layout file arities ars) r at → P r
 
--- the places of a rule's premises and of its conclusions
+-- the places of a rule's lists
 pub record Located (file arities ars : List ℕ) (x : RulePlaces) : Type 0 where
   pub premises-at : x .premises ≡ listPlace file arities ars (x .at) 0
+  pub actions-at : x .actions ≡ listPlace file arities ars (x .at) 1
   pub conclusions-at : x .conclusions ≡ listPlace file arities ars (x .at) 2
 
 -- the answer on a list
@@ -71,34 +72,36 @@ module _ (file arities ars : List ℕ) (at : ℕ) where
   pub fresh-asked : (b : Bool) (r : Rule) → b ≡ ruleAsks 2 0 numberLimit r → not b ≡ p1 r
   fresh-asked b r h = ap not h
 
-  -- a variable that the code finds bound, by its sort, by a premise, or by no conclusion
+  -- a variable that the code finds bound, by its sort, by a premise, or by no conclusion and no action
   module _ (v m : ℕ) (hm : m ≡ valueOf (sortOf file at v)) where
     sort-is : (r : Rule) → Here (layout file arities ars) r at → v < length (r .sorts) → m ≡ getD (r .sorts) v 0
     sort-is r h l = hm ∙ sort-law file arities ars at r h v l
 
     pub bound-public : m ≡ 2 → OfRule file arities ars at (λ r. v < length (r .sorts) → true ≡ bound r v)
     bound-public e r h l =
-        sym (ap (λ (x : Bool). x || (anyBy (asks 0 v (v + 1)) (premises r) || not (anyBy (asks 0 v (v + 1)) (conclusions r))))
+        sym (ap (λ (x : Bool). x || (anyBy (asks 0 v (v + 1)) (premises r)
+        || (not (anyBy (asks 0 v (v + 1)) (conclusions r)) && not (anyBy (asks 0 v (v + 1)) (actions r)))))
         (eq-eqb (getD (r .sorts) v 0) 2 (sym (sort-is r h l) ∙ e)))
 
     module _ (a : Bool) (ha : OfRule file arities ars at (λ r. a ≡ anyBy (asks 0 v (v + 1)) (premises r))) where
       pub bound-above : a ≡ true → OfRule file arities ars at (λ r. v < length (r .sorts) → true ≡ bound r v)
       bound-above e r h l =
-          let none-below : Bool = not (anyBy (asks 0 v (v + 1)) (conclusions r)) in
+          let none-below : Bool = not (anyBy (asks 0 v (v + 1)) (conclusions r)) && not (anyBy (asks 0 v (v + 1)) (actions r)) in
           sym (or-right (eqb (getD (r .sorts) v 0) 2) (anyBy (asks 0 v (v + 1)) (premises r) || none-below)
           (ap (λ (x : Bool). x || none-below) (sym (ha r h) ∙ e)))
 
       pub bound-below :
-          (c : Bool) → OfRule file arities ars at (λ r. c ≡ anyBy (asks 0 v (v + 1)) (conclusions r)) → (m ≡ 2 → ⊥) → a ≡ false
-          → OfRule file arities ars at (λ r. v < length (r .sorts) → not c ≡ bound r v)
-      bound-below c hc ne e r h l =
+          (c d : Bool) → OfRule file arities ars at (λ r. c ≡ anyBy (asks 0 v (v + 1)) (conclusions r))
+          → OfRule file arities ars at (λ r. d ≡ anyBy (asks 0 v (v + 1)) (actions r)) → (m ≡ 2 → ⊥) → a ≡ false
+          → OfRule file arities ars at (λ r. v < length (r .sorts) → (not c && not d) ≡ bound r v)
+      bound-below c d hc hd ne e r h l =
           ap₂ _||_ (sym (ne-eqb (getD (r .sorts) v 0) 2 (λ k. ne (sort-is r h l ∙ k))))
-          (ap₂ (λ (x y : Bool). x || not y) (sym e ∙ ha r h) (hc r h))
+          (ap₂ _||_ (sym e ∙ ha r h) (ap₂ (λ (x y : Bool). not x && not y) (hc r h) (hd r h)))
 
   -- all of them
   pub all-is :
       (n d : ℕ) (b : Bool) → sortsAt file at ≡ got n d
-      → OfRule file arities ars at (λ r. n ≤ length (r .sorts) → b ≡ allBelow (bound r) n) → OfRule file arities ars at (λ r. b ≡ p4 r)
+      → OfRule file arities ars at (λ r. n ≤ length (r .sorts) → b ≡ allBelow (bound r) n) → OfRule file arities ars at (λ r. b ≡ p45 r)
   all-is n d b hn f r h =
       let z : n ≡ length (r .sorts) = ap valueOf (sym hn) ∙ vars-law file arities ars at r h in
       f r h (omega arith) ∙ ap (allBelow (bound r)) z

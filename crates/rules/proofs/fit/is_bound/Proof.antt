@@ -38,16 +38,24 @@ add-list-asks-2 c = search needs
 list-asks-requires-2 : tie.Need-list-asks-requires-2
 list-asks-requires-2 c κs = search needs
 
+add-list-asks-3 : tie.Need-add-list-asks-3
+add-list-asks-3 c = search needs
+
+list-asks-requires-3 : tie.Need-list-asks-requires-3
+list-asks-requires-3 c κs = search needs
+
 returns-3 : tie.Need-returns-3
 returns-3 c =
-    let c3 = c .before .before .before in
-    let c4 = c3 .before in
-    let c8 = c4 .before .before .before .before in
-    bound-below (now (c8 .args .file)) (now (c8 .args .arities)) (now (c8 .args .ars)) (c8 .args .x .at) (c8 .args .v) _ (c4 .sort-of .ensures) _
-    (asked-of (now (c8 .args .file)) (now (c8 .args .arities)) (now (c8 .args .ars)) (c8 .args .x .at) 0 _ (anyBy (asks 0 (c8 .args .v) (c8 .args .v + 1)))
-    (omega arith) (c8 .pre .1 .premises-at) (c .before .before .list-asks .ensures)) _
-    (asked-of (now (c8 .args .file)) (now (c8 .args .arities)) (now (c8 .args .ars)) (c8 .args .x .at) 2 _ (anyBy (asks 0 (c8 .args .v) (c8 .args .v + 1)))
-    (omega arith) (c8 .pre .1 .conclusions-at) (c .list-asks2 .ensures)) (c3 .if1 .left) (c .before .if2 .left)
+    let c4 = c .before .before .before .before in
+    let c5 = c4 .before in
+    let c9 = c5 .before .before .before .before in
+    bound-below (now (c9 .args .file)) (now (c9 .args .arities)) (now (c9 .args .ars)) (c9 .args .x .at) (c9 .args .v) _ (c5 .sort-of .ensures) _
+    (asked-of (now (c9 .args .file)) (now (c9 .args .arities)) (now (c9 .args .ars)) (c9 .args .x .at) 0 _ (anyBy (asks 0 (c9 .args .v) (c9 .args .v + 1)))
+    (omega arith) (c9 .pre .1 .premises-at) (c .before .before .before .list-asks .ensures)) _ _
+    (asked-of (now (c9 .args .file)) (now (c9 .args .arities)) (now (c9 .args .ars)) (c9 .args .x .at) 2 _ (anyBy (asks 0 (c9 .args .v) (c9 .args .v + 1)))
+    (omega arith) (c9 .pre .1 .conclusions-at) (c .before .list-asks2 .ensures))
+    (asked-of (now (c9 .args .file)) (now (c9 .args .arities)) (now (c9 .args .ars)) (c9 .args .x .at) 1 _ (anyBy (asks 0 (c9 .args .v) (c9 .args .v + 1)))
+    (omega arith) (c9 .pre .1 .actions-at) (c .list-asks3 .ensures)) (c4 .if1 .left) (c .before .before .if2 .left)
 
 pub is-bound-spec : {M : Type 1} → statement M
 is-bound-spec =
@@ -60,4 +68,6 @@ is-bound-spec =
     returns-2
     add-list-asks-2
     list-asks-requires-2
+    add-list-asks-3
+    list-asks-requires-3
     returns-3)

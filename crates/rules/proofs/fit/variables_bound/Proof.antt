@@ -1,6 +1,6 @@
 -- Where the rule reads, its variables are as many as the sorts; where it does not, nothing is promised.
 use Rattle.rules.specs.Fit.Laws.{all-is, none-there}
-use Rattle.rules.specs.Fit.{p4}
+use Rattle.rules.specs.Fit.{p45}
 use Rattle.protocol.specs.Protocol.{Rule}
 use Rattle.number.specs.Reading.{asRead}
 use mathlib.Core.Path.{_≡_, ap, sym, _∙_}
@@ -32,7 +32,7 @@ returns c =
 returns-2 : tie.Need-returns-2
 returns-2 c =
     let c6 = c .before .before .before .before .before .before in
-    none-there (now (c6 .args .file)) (now (c6 .args .arities)) (now (c6 .args .ars)) (c6 .args .x .at) (λ (r : Rule). false ≡ p4 r)
+    none-there (now (c6 .args .file)) (now (c6 .args .arities)) (now (c6 .args .ars)) (c6 .args .x .at) (λ (r : Rule). false ≡ p45 r)
     (sym (c .before .before .sorts-at .ensures) ∙ ap asRead (c .enum-told .given .1))
 
 pub variables-bound-spec : {M : Type 1} → statement M

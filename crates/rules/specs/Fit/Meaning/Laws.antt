@@ -1,4 +1,4 @@
--- The tests decide P1 to P4, for every rule within the limits.
+-- The tests decide P1 to P5, for every rule within the limits.
 use Prim.Native.Nat.{ℕ, _+_, _<_}
 use mathlib.Core.List.{List}
 use mathlib.Core.Bool.{Bool, true, false, _||_, _&&_, not, and-eq-true-iff}
@@ -14,12 +14,12 @@ use Rattle.lists.specs.Lists.{anyBy}
 use Rattle.lists.specs.All.{All}
 use Rattle.term.specs.Term.{variable, fresh, InRange, Occurs}
 use Rattle.lists.specs.Tests.{or-cases, or-right, not-from, not-both}
-use Rattle.protocol.specs.Protocol.{Rule, premises, conclusions, leafIn}
+use Rattle.protocol.specs.Protocol.{Rule, listOf, premises, actions, conclusions, leafIn}
 use Rattle.protocol.specs.Protocol.Walks.{symbolIn}
 use Rattle.protocol.specs.Protocol.Limits.{TermWithin, FactWithin, FactsWithin, RuleWithin}
-use Rattle.rules.specs.Fit.{p1, p2, p3, p4, bound, fits}
+use Rattle.rules.specs.Fit.{p1, p2, p3, p45, bound, fits}
 use Rattle.lists.specs.Some.{Some, some-part}
-use Rattle.rules.specs.Fit.Meaning.{Occurs, OccursIn, Fit}
+use Rattle.rules.specs.Fit.Meaning.{Occurs, OccursIn, Bound, Fit}
 use Rattle.lists.specs.All.Laws.{all-map}
 use Rattle.lists.specs.Below.{below-to, below-from}
 use Rattle.rules.specs.Fit.Meaning.Leaves.{lists-asked, asked-lists, variable-occurs, occurs-variable, among-asked, asked-two, asked-one}
@@ -32,44 +32,56 @@ module _ (arities ars : List ℕ) (r : Rule) (w : RuleWithin arities ars r) wher
       (λ f h. all-map (TermWithin arities) InRange (λ t h. h .range) (f .terms) (h .each)) fs (h .each))
       (r .lists) (w .laid .each)
 
-  -- a variable that stands in the rule is declared
-  in-sorts : (v : ℕ) → OccursIn variable v (conclusions r) → v < length (r .sorts)
-  in-sorts v s =
+  -- a variable that stands in a list of the rule is declared
+  in-sorts : (v list : ℕ) → OccursIn variable v (listOf list r) → v < length (r .sorts)
+  in-sorts v list s =
       by-size v (length (r .sorts)) (λ l. l)
       (λ l. absurd (not-both (anyBy (anyBy (leafIn 0 (length (r .sorts)) numberLimit)) (r .lists)) (w .bound)
       (asked-lists variable (length (r .sorts)) v (r .lists) ranges l
-      (some-part (λ f. Some (Occurs variable v) (f .terms)) (r .lists) 2 s))))
+      (some-part (λ f. Some (Occurs variable v) (f .terms)) (r .lists) list s))))
 
-  bound-to : (v : ℕ) → bound r v ≡ true → OccursIn variable v (conclusions r) → OccursIn variable v (premises r) ⊎ (getD (r .sorts) v 0 ≡ 2)
+  -- variable v stands in no conclusion and in no action, by the tests
+  abbrev nowhere : ℕ → Bool
+  nowhere v = not (anyBy (leafIn 0 v (v + 1)) (conclusions r)) && not (anyBy (leafIn 0 v (v + 1)) (actions r))
+
+  bound-to : (v : ℕ) → bound r v ≡ true → OccursIn variable v (conclusions r) ⊎ OccursIn variable v (actions r) → Bound r v
   bound-to v h s =
-      elim (or-cases (eqb (getD (r .sorts) v 0) 2) (anyBy (leafIn 0 v (v + 1)) (premises r) || not (anyBy (leafIn 0 v (v + 1)) (conclusions r))) h) [
+      elim (or-cases (eqb (getD (r .sorts) v 0) 2) (anyBy (leafIn 0 v (v + 1)) (premises r) || nowhere v) h) [
         | inl e ↦ inr (eqb-true (getD (r .sorts) v 0) 2 e)
         | inr e ↦
-            elim (or-cases (anyBy (leafIn 0 v (v + 1)) (premises r)) (not (anyBy (leafIn 0 v (v + 1)) (conclusions r))) e) [
+            elim (or-cases (anyBy (leafIn 0 v (v + 1)) (premises r)) (nowhere v) e) [
               | inl e ↦ inl (variable-occurs v (premises r) e)
-              | inr e ↦ absurd (not-both (anyBy (leafIn 0 v (v + 1)) (conclusions r)) e (occurs-variable v (conclusions r) s))
+              | inr e ↦
+                  let n = and-eq-true-iff (not (anyBy (leafIn 0 v (v + 1)) (conclusions r))) (not (anyBy (leafIn 0 v (v + 1)) (actions r))) .0 e in
+                  elim s [
+                    | inl s ↦ absurd (not-both (anyBy (leafIn 0 v (v + 1)) (conclusions r)) (n .0) (occurs-variable v (conclusions r) s))
+                    | inr s ↦ absurd (not-both (anyBy (leafIn 0 v (v + 1)) (actions r)) (n .1) (occurs-variable v (actions r) s))
+                  ]
             ]
       ]
 
-  bound-from : (v : ℕ) → (OccursIn variable v (conclusions r) → OccursIn variable v (premises r) ⊎ (getD (r .sorts) v 0 ≡ 2)) → bound r v ≡ true
-  bound-from v f = by-test (anyBy (leafIn 0 v (v + 1)) (conclusions r)) refl
+  bound-by : (v : ℕ) → Bound r v → bound r v ≡ true
+  bound-by v (inl s) =
+      or-right (eqb (getD (r .sorts) v 0) 2) _ (ap (λ (b : Bool). b || nowhere v) (occurs-variable v (premises r) s))
+  bound-by v (inr e) =
+      ap (λ (b : Bool). b || (anyBy (leafIn 0 v (v + 1)) (premises r) || nowhere v)) (eq-eqb (getD (r .sorts) v 0) 2 e)
+
+  bound-from : (v : ℕ) → (OccursIn variable v (conclusions r) → Bound r v) → (OccursIn variable v (actions r) → Bound r v) → bound r v ≡ true
+  bound-from v f g = by-tests (anyBy (leafIn 0 v (v + 1)) (conclusions r)) (anyBy (leafIn 0 v (v + 1)) (actions r)) refl refl
     where
-      by-test : (c : Bool) → anyBy (leafIn 0 v (v + 1)) (conclusions r) ≡ c → bound r v ≡ true
-      by-test true h =
-          elim (f (variable-occurs v (conclusions r) h)) [
-            | inl s ↦ or-right (eqb (getD (r .sorts) v 0) 2) _ (ap (λ (b : Bool). b || not (anyBy (leafIn 0 v (v + 1)) (conclusions r)))
-                (occurs-variable v (premises r) s))
-            | inr e ↦ ap (λ (b : Bool). b || (anyBy (leafIn 0 v (v + 1)) (premises r) || not (anyBy (leafIn 0 v (v + 1)) (conclusions r))))
-                (eq-eqb (getD (r .sorts) v 0) 2 e)
-          ]
-      by-test false h =
-          or-right (eqb (getD (r .sorts) v 0) 2) _ (or-right (anyBy (leafIn 0 v (v + 1)) (premises r)) _ (ap not h))
+      by-tests :
+          (c d : Bool) → anyBy (leafIn 0 v (v + 1)) (conclusions r) ≡ c → anyBy (leafIn 0 v (v + 1)) (actions r) ≡ d → bound r v ≡ true
+      by-tests true d h k = bound-by v (f (variable-occurs v (conclusions r) h))
+      by-tests false true h k = bound-by v (g (variable-occurs v (actions r) k))
+      by-tests false false h k =
+          or-right (eqb (getD (r .sorts) v 0) 2) _
+          (or-right (anyBy (leafIn 0 v (v + 1)) (premises r)) _ (ap₂ (λ (x y : Bool). not x && not y) h k))
 
   fit-to : fits r ≡ true → Fit r
   fit-to h =
-      let a = and-eq-true-iff (p1 r) (p2 r && (p3 r && p4 r)) .0 h in
-      let b = and-eq-true-iff (p2 r) (p3 r && p4 r) .0 (a .1) in
-      let c = and-eq-true-iff (p3 r) (p4 r) .0 (b .1) in
+      let a = and-eq-true-iff (p1 r) (p2 r && (p3 r && p45 r)) .0 h in
+      let b = and-eq-true-iff (p2 r) (p3 r && p45 r) .0 (a .1) in
+      let c = and-eq-true-iff (p3 r) (p45 r) .0 (b .1) in
       let d = and-eq-true-iff (not (anyBy (symbolIn 0 2) (conclusions r))) (not (anyBy (symbolIn 3 4) (conclusions r))) .0 (c .0) in
       record {
         p1 = λ n s. not-both (anyBy (anyBy (leafIn 2 0 numberLimit)) (r .lists)) (a .0) (asked-lists fresh 0 n (r .lists) ranges (omega arith) s);
@@ -88,7 +100,8 @@ module _ (arities ars : List ℕ) (r : Rule) (w : RuleWithin arities ars r) wher
                     (omega arith) s
               ])
         ];
-        p4 = λ v s. bound-to v (below-to (bound r) (length (r .sorts)) (c .1) v (in-sorts v s)) s;
+        p4 = λ v s. bound-to v (below-to (bound r) (length (r .sorts)) (c .1) v (in-sorts v 2 s)) (inl s);
+        p5 = λ v s. bound-to v (below-to (bound r) (length (r .sorts)) (c .1) v (in-sorts v 1 s)) (inr s);
       }
 
   fit-from : Fit r → fits r ≡ true
@@ -100,8 +113,8 @@ module _ (arities ars : List ℕ) (r : Rule) (w : RuleWithin arities ars r) wher
       (ap₂ _&&_
       (not-from (anyBy (symbolIn 0 2) (conclusions r)) (λ h. f .p3 (inr (asked-two 0 (conclusions r) h))))
       (not-from (anyBy (symbolIn 3 4) (conclusions r)) (λ h. f .p3 (inl (asked-one 3 (conclusions r) h)))))
-      (below-from (bound r) (length (r .sorts)) (λ v l. bound-from v (f .p4 v)))))
+      (below-from (bound r) (length (r .sorts)) (λ v l. bound-from v (f .p4 v) (f .p5 v)))))
 
-  -- the tests decide P1 to P4
+  -- the tests decide P1 to P5
   pub fit-exactly : (fits r ≡ true) ↔ Fit r
   fit-exactly = (fit-to, fit-from)
