@@ -75,14 +75,19 @@ fn last(k: usize) -> bool {
     k + 1 == MOST_NODES as usize
 }
 
-/// Rule 31 of eight values records them eight times, each time from another one on.
+/// Rule 31 takes eight values in and records them eight times, each time from another one on.
 fn turning() -> Vec<u8> {
     let turned = |first: usize| {
         let values = (0..8).map(|k| format!("x{}", (first + k) % 8));
         format!("04 {}", values.collect::<Vec<String>>().join(" "))
     };
     let actions: Vec<String> = (0..8).map(turned).collect();
-    let rule = format!("08 8*( 00 ) 00 08 {} 00", actions.join(" "));
+    let premises: Vec<String> = (0..8).map(|k| format!("01 x{k}")).collect();
+    let rule = format!(
+        "08 8*( 00 ) 08 {} 08 {} 00",
+        premises.join(" "),
+        actions.join(" ")
+    );
     notation::bytes(&format!("00 01 08 00 01 {rule}"))
 }
 

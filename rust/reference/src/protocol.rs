@@ -1,4 +1,4 @@
-//! "Protocol (4,096 bytes)": its file, its limits, the conditions P1 to P4, and rules by their number.
+//! "Protocol (4,096 bytes)": its file, its limits, the conditions P1 to P5, and rules by their number.
 
 use crate::number::{self, Fault, Read, Reader};
 use crate::term::{Prefix, Signature, Term, FREE, ONE};
@@ -254,23 +254,31 @@ impl Rule {
         self.premises.iter().chain(actions_and_conclusions)
     }
 
-    /// "Conditions P1 to P4": whether cause 4 is absent.
-    pub fn meets_conditions(&self) -> bool {
+    /// "Conditions P1 to P4" and document 02's fifth: which of them the rule meets.
+    pub fn conditions(&self) -> [bool; 5] {
         let is_fresh_name = |term: &Term| matches!(term, Term::Fresh(_));
         let p1 = !self.facts().any(|fact| fact.any(&is_fresh_name));
         let p2 = !has_symbol(&self.premises, &[K, OUT]);
         let p3 = !has_symbol(&self.conclusions, &[K, IN, FR]);
-        let p4 = (0..)
-            .zip(&self.variables)
-            .all(|(number, sort)| self.is_bound(number, *sort));
-        p1 && p2 && p3 && p4
+        let p4 = self.binds(&self.conclusions);
+        let p5 = self.binds(&self.actions);
+        [p1, p2, p3, p4, p5]
     }
 
-    /// "each variable of a conclusion is in a premise or is of sort public"
-    fn is_bound(&self, number: u32, sort: Sort) -> bool {
-        let is_it = |term: &Term| *term == Term::Variable(number);
-        let stands_in = |facts: &[Fact]| facts.iter().any(|fact| fact.any(&is_it));
-        !stands_in(&self.conclusions) || stands_in(&self.premises) || sort == Sort::Public
+    /// Whether cause 4 is absent.
+    pub fn meets_conditions(&self) -> bool {
+        self.conditions() == [true; 5]
+    }
+
+    /// Each variable of these facts "is in a premise or is of sort public".
+    fn binds(&self, facts: &[Fact]) -> bool {
+        let is_bound = |number: u32, sort: Sort| {
+            let is_it = |term: &Term| *term == Term::Variable(number);
+            let stands_in = |facts: &[Fact]| facts.iter().any(|fact| fact.any(&is_it));
+            !stands_in(facts) || stands_in(&self.premises) || sort == Sort::Public
+        };
+        let mut numbered = (0..).zip(&self.variables);
+        numbered.all(|(number, sort)| is_bound(number, *sort))
     }
 }
 

@@ -2,6 +2,8 @@
 
 use reference::calls::{canonical_form, check, draw, Outcome};
 use reference::corpus::{cases, expected_memory, Case, INDEX, OUTPUT_BYTE, WORK_BYTE};
+use reference::protocol::{Protocol, Rule};
+use reference::refusal::Refusal;
 use std::path::{Path, PathBuf};
 
 /// What the call answers, and the output and the work area after it. What they held before is no zero.
@@ -32,6 +34,28 @@ fn every_case_of_the_corpus() {
     assert!(different.is_empty(), "{different:#?}");
 }
 
+/// The cases that record a variable which no premise has: P5 alone refuses them, and `four` is their outcome by P1 to P4.
+#[test]
+fn cases_that_break_the_fifth_condition_alone() {
+    let cases = cases();
+    let mut broken = 0;
+    for (case, label) in cases.iter().zip(INDEX.lines()) {
+        if !label.contains("\"four\": ") {
+            continue;
+        }
+        let Outcome::Refused(Refusal { number: 4, item }) = case.outcome else {
+            panic!("{label}");
+        };
+        let rules = Protocol::read(case.files[0]).expect(label).rules;
+        let (before, rest) = rules.split_at(item as usize - 1);
+        assert!(before.iter().all(Rule::meets_conditions), "{label}");
+        let only_fifth = [true, true, true, true, false];
+        assert_eq!(rest[0].conditions(), only_fifth, "{label}");
+        broken += 1;
+    }
+    assert_eq!(broken, 93);
+}
+
 /// The line for the three files of a folder, or for its steps where it has no graph.
 fn line(folder: &Path) -> String {
     let file = |name: &str| std::fs::read(folder.join(name)).unwrap();
@@ -56,7 +80,7 @@ fn real_folders() -> Vec<PathBuf> {
 #[test]
 fn every_real_protocol() {
     let folders = real_folders();
-    assert_eq!(folders.len(), 22);
+    assert_eq!(folders.len(), 37);
     for folder in folders {
         let expected = std::fs::read_to_string(folder.join("expected.txt")).unwrap();
         assert_eq!(line(&folder), expected.trim_end(), "{}", folder.display());
@@ -84,5 +108,5 @@ fn every_real_graph_is_drawn_again() {
         assert_eq!(output[..graph.len()], graph, "{}", folder.display());
         drawn += 1;
     }
-    assert_eq!(drawn, 18);
+    assert_eq!(drawn, 29);
 }

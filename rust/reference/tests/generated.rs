@@ -5,7 +5,7 @@ use reference::generate::properties::Maker;
 use reference::generate::{canonical, exchanges, graphs, protocols};
 use reference::number::Reader;
 use reference::property;
-use reference::protocol::{Protocol, Rule};
+use reference::protocol::{Fact, Protocol, Rule, Sort};
 use reference::random::Random;
 use reference::refusal::{File, Refusal};
 use reference::steps::{nodes, read_steps};
@@ -222,4 +222,90 @@ fn fit_protocols_and_properties_read_back() {
             assert!(formula.is_fit(&[]));
         }
     }
+}
+
+/// Whether a variable of the rule stands in these facts: the term has it, or the term is it.
+fn stands_in(facts: &[Fact], number: u32) -> [bool; 2] {
+    let is_it = |term: &Term| *term == Term::Variable(number);
+    let below = facts.iter().any(|fact| fact.any(&is_it));
+    [below, facts.iter().any(|fact| fact.terms.iter().any(is_it))]
+}
+
+/// P5 is broken alone in the least rule that is refused, the first or a later one; also where a later rule breaks another condition; with a
+/// variable at the top of an action and only below a function, of sort message and of sort fresh; and with P4 where a conclusion has it.
+#[test]
+fn the_fifth_condition_is_broken_in_every_way() {
+    const ONLY_FIFTH: [bool; 5] = [true, true, true, true, false];
+    let mut random = Random::new(11);
+    let mut counts = BTreeMap::new();
+    let mut count = |what: &'static str, holds: bool| {
+        *counts.entry(what).or_insert(0) += usize::from(holds);
+    };
+    for _ in 0..2_000 {
+        let mut protocol = protocols::fit(&mut random);
+        protocols::break_condition(&mut random, &mut protocol);
+        let unfit = |rule: &Rule| !rule.meets_conditions();
+        let least = protocol.rules.iter().position(unfit).expect("a broken one");
+        let rule = &protocol.rules[least];
+        let alone = rule.conditions() == ONLY_FIFTH;
+        let later = &protocol.rules[least + 1..];
+        let number = rule.variables.len() as u32 - u32::from(!rule.variables.is_empty());
+        let [_, top] = stands_in(&rule.actions, number);
+        count("in the first rule", alone && least == 0);
+        count("in a later rule", alone && least > 0);
+        count(
+            "another condition in a later rule",
+            alone
+                && later
+                    .iter()
+                    .any(|rule| rule.conditions()[..4].contains(&false)),
+        );
+        count("at the top", alone && top);
+        count("below a function", alone && !top);
+        count(
+            "of sort message",
+            alone && rule.variables.last() == Some(&Sort::Message),
+        );
+        count(
+            "of sort fresh",
+            alone && rule.variables.last() == Some(&Sort::Fresh),
+        );
+        count(
+            "with the fourth",
+            !rule.conditions()[3] && !rule.conditions()[4],
+        );
+    }
+    println!("{counts:#?}");
+    assert_eq!(counts.len(), 8);
+    assert!(counts.values().all(|count| *count >= 5));
+}
+
+/// What P5 lets pass: a variable of an action that stands in no premise and is public; in persistent premises alone; below a function of a
+/// premise alone; and a variable that stands nowhere.
+#[test]
+fn fit_protocols_are_near_the_fifth_condition() {
+    let mut random = Random::new(12);
+    let mut counts = [0; 4];
+    for _ in 0..4_000 {
+        let protocol = protocols::fit(&mut random);
+        for rule in &protocol.rules {
+            for (number, sort) in (0..).zip(&rule.variables) {
+                let linear = rule
+                    .premises
+                    .iter()
+                    .filter(|fact| !protocol.persistent(fact));
+                let linear: Vec<Fact> = linear.cloned().collect();
+                let [recorded, _] = stands_in(&rule.actions, number);
+                let [bound, whole] = stands_in(&rule.premises, number);
+                let [by_linear, _] = stands_in(&linear, number);
+                let facts: Vec<Fact> = rule.facts().cloned().collect();
+                counts[0] += usize::from(recorded && !bound && *sort == Sort::Public);
+                counts[1] += usize::from(recorded && bound && !by_linear);
+                counts[2] += usize::from(recorded && bound && !whole);
+                counts[3] += usize::from(!stands_in(&facts, number)[0]);
+            }
+        }
+    }
+    println!("{counts:?}");
+    assert!(counts.iter().all(|count| *count >= 20));
 }

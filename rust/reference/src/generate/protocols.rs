@@ -4,9 +4,9 @@ use super::terms::Material;
 use crate::protocol::*;
 use crate::random::Random;
 use crate::refusal::File;
-use crate::term::{Fresh, Public, Signature, Term, FREE, H};
+use crate::term::{Fresh, Public, Signature, Term, FREE, FST, H, PAIR};
 
-/// A protocol within the limits that meets P1 to P4.
+/// A protocol within the limits that meets P1 to P5.
 pub fn fit(random: &mut Random) -> Protocol {
     let functions = random.below(6);
     let free = (0..functions).map(|_| random.below(5)).collect();
@@ -32,16 +32,21 @@ fn own_symbol(random: &mut Random) -> FactSymbol {
 }
 
 fn rule(random: &mut Random, protocol: &Protocol) -> Rule {
-    let variables: Vec<Sort> = (0..random.below(5)).map(|_| sort(random)).collect();
+    let mut variables: Vec<Sort> = (0..random.below(5)).map(|_| sort(random)).collect();
     let count = variables.len() as u32;
     let mut premises = facts(random, protocol, count, &[FR, IN]);
-    // Every variable stands in a premise, so that it may stand in a conclusion.
-    for number in 0..count {
-        let place = *random.choose(&[FR, IN]);
-        premises.push(fact_of(place, Term::Variable(number)));
+    // Every variable stands in a premise or is public, so that it may stand in a conclusion and in an action.
+    for (number, sort) in (0..).zip(&variables) {
+        if *sort != Sort::Public || random.percent(60) {
+            premises.push(binding(random, protocol, number));
+        }
     }
     if !premises.is_empty() && random.percent(20) {
         premises.push(random.choose(&premises).clone());
+    }
+    // One that stands nowhere takes a value too.
+    if random.percent(10) {
+        variables.push(sort(random));
     }
     Rule {
         premises,
@@ -49,6 +54,30 @@ fn rule(random: &mut Random, protocol: &Protocol) -> Rule {
         conclusions: facts(random, protocol, count, &[OUT]),
         variables,
     }
+}
+
+/// A premise that has this variable: as its term, mostly, or below a function, or perhaps of a persistent symbol.
+fn binding(random: &mut Random, protocol: &Protocol, number: u32) -> Fact {
+    let variable = Term::Variable(number);
+    let persistent = |own: &FactSymbol| own.persistent && own.arity > 0;
+    match random.below(20) {
+        0 => fact_of(IN, Term::apply(H, [variable])),
+        1 => fact_of(IN, removed(variable)),
+        2 => match protocol.own.iter().position(persistent) {
+            Some(place) => Fact {
+                symbol: 4 + place as u32,
+                terms: vec![variable; protocol.own[place].arity],
+            },
+            None => fact_of(IN, variable),
+        },
+        3..12 => fact_of(FR, variable),
+        _ => fact_of(IN, variable),
+    }
+}
+
+/// A term from which an equation would remove this one.
+fn removed(term: Term) -> Term {
+    Term::apply(FST, [Term::apply(PAIR, [Term::Public(Public(0)), term])])
 }
 
 fn sort(random: &mut Random) -> Sort {
@@ -99,35 +128,64 @@ fn some_rule<'a>(random: &mut Random, protocol: &'a mut Protocol) -> &'a mut Rul
     &mut protocol.rules[place]
 }
 
-/// Breaks one of P1 to P4 in one of its ways.
+/// Breaks one of P1 to P5 in one of its ways, and sometimes a second one, in whichever rule.
 pub fn break_condition(random: &mut Random, protocol: &mut Protocol) {
-    let way = random.below(9);
-    let rule = some_rule(random, protocol);
+    for _ in 0..*random.choose(&[1, 1, 1, 2]) {
+        let rule = some_rule(random, protocol);
+        if random.percent(30) {
+            record_unbound(random, rule);
+        } else {
+            break_one_of_four(random, rule);
+        }
+    }
+}
+
+/// Breaks one of P1 to P4.
+fn break_one_of_four(random: &mut Random, rule: &mut Rule) {
     let fresh = Term::Fresh(Fresh(0));
     let public = Term::Public(Public(0));
-    let facts = match way {
-        0 | 3 | 4 => &mut rule.premises,
-        1 => &mut rule.actions,
-        _ => &mut rule.conclusions,
-    };
-    let fact = match way {
-        0 => fact_of(IN, fresh),
-        1 => fact_of(K, Term::apply(H, [fresh])),
-        2 => fact_of(OUT, Term::apply(H, [fresh])),
-        3 => fact_of(K, public),
-        4 => fact_of(OUT, public),
-        5 => fact_of(K, public),
-        6 => fact_of(IN, public),
-        7 => fact_of(FR, public),
+    match random.below(9) {
+        0 => add(&mut rule.premises, IN, fresh),
+        1 => add(&mut rule.actions, K, Term::apply(H, [fresh])),
+        2 => add(&mut rule.conclusions, OUT, Term::apply(H, [fresh])),
+        3 => add(&mut rule.premises, K, public),
+        4 => add(&mut rule.premises, OUT, public),
+        5 => add(&mut rule.conclusions, K, public),
+        6 => add(&mut rule.conclusions, IN, public),
+        7 => add(&mut rule.conclusions, FR, public),
         _ => {
-            let number = rule.variables.len() as u32;
-            rule.variables
-                .push(*random.choose(&[Sort::Message, Sort::Fresh]));
-            fact_of(OUT, Term::Variable(number))
+            let variable = unbound(random, rule);
+            add(&mut rule.conclusions, OUT, variable);
         }
+    }
+}
+
+/// Breaks P5: an action has a variable that no premise has, at the top of its term, below a function, or where an
+/// equation would remove it. A conclusion perhaps has it too, which breaks P4 as well.
+fn record_unbound(random: &mut Random, rule: &mut Rule) {
+    let variable = unbound(random, rule);
+    let term = match random.below(4) {
+        0 => Term::apply(H, [variable.clone()]),
+        1 => removed(variable.clone()),
+        _ => variable.clone(),
     };
+    add(&mut rule.actions, *random.choose(&[FR, IN, OUT, K]), term);
+    if random.percent(10) {
+        add(&mut rule.conclusions, OUT, variable);
+    }
+}
+
+/// A further variable of a rule, not of sort public.
+fn unbound(random: &mut Random, rule: &mut Rule) -> Term {
+    let sort = *random.choose(&[Sort::Message, Sort::Fresh]);
+    rule.variables.push(sort);
+    Term::Variable(rule.variables.len() as u32 - 1)
+}
+
+/// Puts a fact of a built-in symbol behind these, or in place of the last one that there may be.
+fn add(facts: &mut Vec<Fact>, symbol: u32, term: Term) {
     facts.truncate(MOST_FACTS as usize - 1);
-    facts.push(fact);
+    facts.push(fact_of(symbol, term));
 }
 
 /// Brings one figure to its limit, or one above it, or uses something undeclared. A figure at its limit
