@@ -9,7 +9,7 @@ use Rattle.number.specs.Groups.{numberLimit}
 use Rattle.number.specs.Reading.{Read, got, fault}
 use Rattle.lists.specs.Lists.{anyBy}
 use Rattle.lists.specs.Below.{allBelow, least}
-use Rattle.protocol.specs.Protocol.{Rule, Protocol, emptyRule, premises, actions, conclusions, leafIn}
+use Rattle.protocol.specs.Protocol.{Fact, Rule, Protocol, emptyRule, premises, actions, conclusions, leafIn}
 use Rattle.protocol.specs.Protocol.Walks.{symbolIn}
 -- what the tests mean, in words of occurrence
 pub mod Meaning
@@ -28,12 +28,13 @@ p2 r = not (anyBy (symbolIn 2 4) (premises r))
 abbrev pub p3 : Rule → Bool
 p3 r = not (anyBy (symbolIn 0 2) (conclusions r)) && not (anyBy (symbolIn 3 4) (conclusions r))
 
+-- variable v stands in one of these facts
+abbrev pub stands : ℕ → List Fact → Bool
+stands v = anyBy (leafIn 0 v (v + 1))
+
 -- variable v is of sort public, or in a premise, or in no conclusion and no action
 abbrev pub bound : Rule → ℕ → Bool
-bound r v =
-    eqb (getD (r .sorts) v 0) 2
-    || (anyBy (leafIn 0 v (v + 1)) (premises r)
-    || (not (anyBy (leafIn 0 v (v + 1)) (conclusions r)) && not (anyBy (leafIn 0 v (v + 1)) (actions r))))
+bound r v = eqb (getD (r .sorts) v 0) 2 || (stands v (premises r) || (not (stands v (conclusions r)) && not (stands v (actions r))))
 
 -- P4, "each variable of a conclusion is in a premise or is of sort public";
 -- P5, document 02: "a variable in an action must also stand in a premise, or be of sort public"

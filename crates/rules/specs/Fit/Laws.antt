@@ -1,5 +1,5 @@
 -- The tests of a rule as the code makes them, the least of several, and the judgement of a file.
-use Prim.Native.Nat.{ℕ, _+_, _≤_, _<_}
+use Prim.Native.Nat.{ℕ, _≤_, _<_}
 use mathlib.Core.List.{List}
 use mathlib.Core.Bool.{Bool, true, false, _||_, _&&_, not}
 use mathlib.Core.Path.{_≡_, ap, ap₂, sym, _∙_, subst}
@@ -25,7 +25,7 @@ use Rattle.protocol.specs.declared.index.Index.the-variants as ix
 use Rattle.rules.specs.declared.fit.RulePlaces.{RulePlaces}
 use Rattle.rules.specs.declared.fit.FitVerdict.{FitVerdict}
 use Rattle.rules.specs.declared.fit.FitVerdict.the-variants as jd
-use Rattle.rules.specs.Fit.{p1, p45, bound, fits, Verdict, sound, broken, malformed, outcome, judged}
+use Rattle.rules.specs.Fit.{p1, stands, p45, bound, fits, Verdict, sound, broken, malformed, outcome, judged}
 use Rattle.lists.specs.Below.{least, allBelow}
 
 -- ── what code has of a test ──
@@ -79,20 +79,19 @@ module _ (file arities ars : List ℕ) (at : ℕ) where
 
     pub bound-public : m ≡ 2 → OfRule file arities ars at (λ r. v < length (r .sorts) → true ≡ bound r v)
     bound-public e r h l =
-        sym (ap (λ (x : Bool). x || (anyBy (asks 0 v (v + 1)) (premises r)
-        || (not (anyBy (asks 0 v (v + 1)) (conclusions r)) && not (anyBy (asks 0 v (v + 1)) (actions r)))))
+        sym (ap (λ (x : Bool). x || (stands v (premises r) || (not (stands v (conclusions r)) && not (stands v (actions r)))))
         (eq-eqb (getD (r .sorts) v 0) 2 (sym (sort-is r h l) ∙ e)))
 
-    module _ (a : Bool) (ha : OfRule file arities ars at (λ r. a ≡ anyBy (asks 0 v (v + 1)) (premises r))) where
+    module _ (a : Bool) (ha : OfRule file arities ars at (λ r. a ≡ stands v (premises r))) where
       pub bound-above : a ≡ true → OfRule file arities ars at (λ r. v < length (r .sorts) → true ≡ bound r v)
       bound-above e r h l =
-          let none-below : Bool = not (anyBy (asks 0 v (v + 1)) (conclusions r)) && not (anyBy (asks 0 v (v + 1)) (actions r)) in
-          sym (or-right (eqb (getD (r .sorts) v 0) 2) (anyBy (asks 0 v (v + 1)) (premises r) || none-below)
+          let none-below : Bool = not (stands v (conclusions r)) && not (stands v (actions r)) in
+          sym (or-right (eqb (getD (r .sorts) v 0) 2) (stands v (premises r) || none-below)
           (ap (λ (x : Bool). x || none-below) (sym (ha r h) ∙ e)))
 
       pub bound-below :
-          (c d : Bool) → OfRule file arities ars at (λ r. c ≡ anyBy (asks 0 v (v + 1)) (conclusions r))
-          → OfRule file arities ars at (λ r. d ≡ anyBy (asks 0 v (v + 1)) (actions r)) → (m ≡ 2 → ⊥) → a ≡ false
+          (c d : Bool) → OfRule file arities ars at (λ r. c ≡ stands v (conclusions r))
+          → OfRule file arities ars at (λ r. d ≡ stands v (actions r)) → (m ≡ 2 → ⊥) → a ≡ false
           → OfRule file arities ars at (λ r. v < length (r .sorts) → (not c && not d) ≡ bound r v)
       bound-below c d hc hd ne e r h l =
           ap₂ _||_ (sym (ne-eqb (getD (r .sorts) v 0) 2 (λ k. ne (sort-is r h l ∙ k))))

@@ -1,5 +1,5 @@
 -- The tests decide P1 to P5, for every rule within the limits.
-use Prim.Native.Nat.{ℕ, _+_, _<_}
+use Prim.Native.Nat.{ℕ, _<_}
 use mathlib.Core.List.{List}
 use mathlib.Core.Bool.{Bool, true, false, _||_, _&&_, not, and-eq-true-iff}
 use mathlib.Core.Logic.{_↔_, _⊎_, inl, inr}
@@ -17,7 +17,7 @@ use Rattle.lists.specs.Tests.{or-cases, or-right, not-from, not-both}
 use Rattle.protocol.specs.Protocol.{Rule, listOf, premises, actions, conclusions, leafIn}
 use Rattle.protocol.specs.Protocol.Walks.{symbolIn}
 use Rattle.protocol.specs.Protocol.Limits.{TermWithin, FactWithin, FactsWithin, RuleWithin}
-use Rattle.rules.specs.Fit.{p1, p2, p3, p45, bound, fits}
+use Rattle.rules.specs.Fit.{p1, p2, p3, stands, p45, bound, fits}
 use Rattle.lists.specs.Some.{Some, some-part}
 use Rattle.rules.specs.Fit.Meaning.{Occurs, OccursIn, Bound, Fit}
 use Rattle.lists.specs.All.Laws.{all-map}
@@ -42,20 +42,20 @@ module _ (arities ars : List ℕ) (r : Rule) (w : RuleWithin arities ars r) wher
 
   -- variable v stands in no conclusion and in no action, by the tests
   abbrev nowhere : ℕ → Bool
-  nowhere v = not (anyBy (leafIn 0 v (v + 1)) (conclusions r)) && not (anyBy (leafIn 0 v (v + 1)) (actions r))
+  nowhere v = not (stands v (conclusions r)) && not (stands v (actions r))
 
   bound-to : (v : ℕ) → bound r v ≡ true → OccursIn variable v (conclusions r) ⊎ OccursIn variable v (actions r) → Bound r v
   bound-to v h s =
-      elim (or-cases (eqb (getD (r .sorts) v 0) 2) (anyBy (leafIn 0 v (v + 1)) (premises r) || nowhere v) h) [
+      elim (or-cases (eqb (getD (r .sorts) v 0) 2) (stands v (premises r) || nowhere v) h) [
         | inl e ↦ inr (eqb-true (getD (r .sorts) v 0) 2 e)
         | inr e ↦
-            elim (or-cases (anyBy (leafIn 0 v (v + 1)) (premises r)) (nowhere v) e) [
+            elim (or-cases (stands v (premises r)) (nowhere v) e) [
               | inl e ↦ inl (variable-occurs v (premises r) e)
               | inr e ↦
-                  let n = and-eq-true-iff (not (anyBy (leafIn 0 v (v + 1)) (conclusions r))) (not (anyBy (leafIn 0 v (v + 1)) (actions r))) .0 e in
+                  let n = and-eq-true-iff (not (stands v (conclusions r))) (not (stands v (actions r))) .0 e in
                   elim s [
-                    | inl s ↦ absurd (not-both (anyBy (leafIn 0 v (v + 1)) (conclusions r)) (n .0) (occurs-variable v (conclusions r) s))
-                    | inr s ↦ absurd (not-both (anyBy (leafIn 0 v (v + 1)) (actions r)) (n .1) (occurs-variable v (actions r) s))
+                    | inl s ↦ absurd (not-both (stands v (conclusions r)) (n .0) (occurs-variable v (conclusions r) s))
+                    | inr s ↦ absurd (not-both (stands v (actions r)) (n .1) (occurs-variable v (actions r) s))
                   ]
             ]
       ]
@@ -64,18 +64,18 @@ module _ (arities ars : List ℕ) (r : Rule) (w : RuleWithin arities ars r) wher
   bound-by v (inl s) =
       or-right (eqb (getD (r .sorts) v 0) 2) _ (ap (λ (b : Bool). b || nowhere v) (occurs-variable v (premises r) s))
   bound-by v (inr e) =
-      ap (λ (b : Bool). b || (anyBy (leafIn 0 v (v + 1)) (premises r) || nowhere v)) (eq-eqb (getD (r .sorts) v 0) 2 e)
+      ap (λ (b : Bool). b || (stands v (premises r) || nowhere v)) (eq-eqb (getD (r .sorts) v 0) 2 e)
 
   bound-from : (v : ℕ) → (OccursIn variable v (conclusions r) → Bound r v) → (OccursIn variable v (actions r) → Bound r v) → bound r v ≡ true
-  bound-from v f g = by-tests (anyBy (leafIn 0 v (v + 1)) (conclusions r)) (anyBy (leafIn 0 v (v + 1)) (actions r)) refl refl
+  bound-from v f g = by-tests (stands v (conclusions r)) (stands v (actions r)) refl refl
     where
       by-tests :
-          (c d : Bool) → anyBy (leafIn 0 v (v + 1)) (conclusions r) ≡ c → anyBy (leafIn 0 v (v + 1)) (actions r) ≡ d → bound r v ≡ true
+          (c d : Bool) → stands v (conclusions r) ≡ c → stands v (actions r) ≡ d → bound r v ≡ true
       by-tests true d h k = bound-by v (f (variable-occurs v (conclusions r) h))
       by-tests false true h k = bound-by v (g (variable-occurs v (actions r) k))
       by-tests false false h k =
           or-right (eqb (getD (r .sorts) v 0) 2) _
-          (or-right (anyBy (leafIn 0 v (v + 1)) (premises r)) _ (ap₂ (λ (x y : Bool). not x && not y) h k))
+          (or-right (stands v (premises r)) _ (ap₂ (λ (x y : Bool). not x && not y) h k))
 
   fit-to : fits r ≡ true → Fit r
   fit-to h =
