@@ -1,4 +1,5 @@
-/* The calls from C, by the header alone: document 01's first case of canonical form, a short output, a short work area. */
+/* The calls from C, by the header alone: document 01's first case of canonical form, a short output, a short work area, a recorded
+   variable that no premise has. */
 #include "levtosziv.h"
 
 #include <stdio.h>
@@ -23,6 +24,8 @@ int main(void)
     const uint8_t term[] = {10, 10, 10, 1, 0, 2, 0, 2, 1, 11, 2, 0};
     /* exp(g,b) */
     const uint8_t form[] = {10, 1, 0, 2, 1};
+    /* Nothing --[ K(x) ]-> nothing, x a message. */
+    const uint8_t unbound[] = {0, 0, 1, 1, 0, 0, 1, 3, 0, 0, 0};
     uint8_t output[8];
     int failed = 0;
 
@@ -41,6 +44,9 @@ int main(void)
 
     answer = levtosziv_canonical(NULL, 0, term, sizeof term, output, sizeof output, work, sizeof work);
     failed += fails("an empty protocol", answer == ((uint64_t)3 << 32 | 1));
+
+    answer = levtosziv_canonical(unbound, sizeof unbound, term, sizeof term, output, sizeof output, work, sizeof work);
+    failed += fails("refused 4 1", answer == ((uint64_t)4 << 32 | 1));
     printf("C, canonical form: %d of %d as document 01 says\n", asked - failed, asked);
     return failed != 0;
 }

@@ -1,4 +1,5 @@
-/* Checking from C, by the header alone: document 01's printed case, without its last edge, no nodes at all, a short work area. */
+/* Checking from C, by the header alone: document 01's printed case, without its last edge, no nodes at all, a short work area, a recorded
+   variable that no premise has. */
 #include "levtosziv.h"
 
 #include <stdio.h>
@@ -23,6 +24,8 @@ int main(void)
     uint8_t graph[] = {4, 0, 2, 7, 31, 2, 7, 1, 2, 7, 2, 2, 7, 3, 1, 1, 2, 1, 2, 1, 3, 1, 3, 1, 4, 1};
     const uint8_t nothing[] = {0, 0};
     const uint8_t never[] = {0};
+    /* Nothing --[ K(x) ]-> nothing, x a message. */
+    const uint8_t unbound[] = {0, 0, 1, 1, 0, 0, 1, 3, 0, 0, 0};
     int failed = 0;
 
     memset(work, 0x5A, sizeof work);
@@ -43,6 +46,9 @@ int main(void)
 
     answer = levtosziv_check(protocol, sizeof protocol, NULL, 0, nothing, sizeof nothing, work, sizeof work);
     failed += fails("an empty property", answer == ((uint64_t)3 << 32 | 2));
+
+    answer = levtosziv_check(unbound, sizeof unbound, never, sizeof never, nothing, sizeof nothing, work, sizeof work);
+    failed += fails("refused 4 1", answer == ((uint64_t)4 << 32 | 1));
     printf("C, checking: %d of %d as document 01 says\n", asked - failed, asked);
     return failed != 0;
 }

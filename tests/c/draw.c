@@ -1,6 +1,6 @@
 /*
  * Drawing from C, by the header alone: the steps of document 01's printed case, whose graph is then checked; a short output, a step list that is
- * no run, a name made twice, a short work area.
+ * no run, a name made twice, a short work area, a recorded variable that no premise has.
  */
 #include "levtosziv.h"
 
@@ -28,6 +28,8 @@ int main(void)
     /* The rule of the protocol, without the name that it takes; a name twice. */
     const uint8_t no_run[] = {1, 31, 2, 7};
     const uint8_t twice[] = {2, 0, 2, 7, 0, 2, 7};
+    /* Nothing --[ K(x) ]-> nothing, x a message. */
+    const uint8_t unbound[] = {0, 0, 1, 1, 0, 0, 1, 3, 0, 0, 0};
     uint8_t output[32];
     int failed = 0;
 
@@ -56,6 +58,9 @@ int main(void)
 
     answer = levtosziv_draw(protocol, sizeof protocol, NULL, 0, output, sizeof output, work, sizeof work);
     failed += fails("an empty step list", answer == ((uint64_t)3 << 32 | 5));
+
+    answer = levtosziv_draw(unbound, sizeof unbound, steps, sizeof steps, output, sizeof output, work, sizeof work);
+    failed += fails("refused 4 1", answer == ((uint64_t)4 << 32 | 1));
     printf("C, drawing: %d of %d as document 01 says\n", asked - failed, asked);
     return failed != 0;
 }
