@@ -13,7 +13,7 @@ use Rattle.cases_proved.specs.Pinned.Equations as equations
 use Rattle.cases_proved.specs.Pinned.Properties as properties
 -- what a row claims, and how it is computed
 pub mod Row
--- each cause of the refusal table, with its number and item; P1 to P4; what a value is; the order of the causes
+-- each cause of the refusal table, with its number and item; P1 to P5; what a value is; the order of the causes
 pub mod Refusals
 -- the built-in rules, the apply-rules and the protocol's by number, argument order, sorts, linear and persistent facts
 pub mod Rules

@@ -12,7 +12,11 @@ use Rattle.lists.specs.All.Laws.{all-nth}
 use Rattle.octets.specs.Head.{Bytes}
 use Rattle.message.specs.Promise.{Message, SameMessage, messages}
 use Rattle.rewriting.specs.Table.{Ruling, passed, refused, Ruled}
+use Rattle.rewriting.specs.Table.Laws.{passed-absent, passed-good}
+use Rattle.number.specs.Reading.{got}
 use Rattle.protocol.specs.Protocol.{Fact, Protocol}
+use Rattle.protocol.specs.Protocol as readings
+use Rattle.rules.specs.Fit.Meaning.{Fit}
 use Rattle.protocol.specs.Protocol.Limits.{Within}
 use Rattle.steps.specs.Nodes.{Node, NodeWithin}
 use Rattle.steps.specs.Values.{NodeRight}
@@ -33,7 +37,7 @@ use Rattle.term.specs.Term.{Term, symbols}
 use Rattle.term.specs.Arity.{tagArities}
 use Rattle.term.specs.Sizes.{mostSymbols}
 use Rattle.checker.specs.Answer.{workNeed}
-use Rattle.checker.specs.Files.{termLimit}
+use Rattle.checker.specs.Files.{protocolLimit, termLimit}
 use Rattle.checker.specs.Files.Terms.{IsTerm}
 use Rattle.checker.specs.Canonical.{need, canonicalOutcome, canonicalRows, canonicalOutput, canonicalWork}
 use Rattle.checker.specs.Canonical.Cases as forms
@@ -41,7 +45,7 @@ use Rattle.checker.specs.Canonical.Inside as inside
 use Rattle.checker.specs.Canonical.Meaning.{FormWritten, written-meaning}
 use Rattle.checker.specs.Canonical.Laws.{Length, canonical-ruled}
 use Rattle.checker.specs.Canonical.Back.{canonical-unique, canonical-back}
-use Rattle.checker.specs.Files.Fit.{FitFile, fit-within}
+use Rattle.checker.specs.Files.Fit.{FitFile, fit-within, is-fit-file}
 use Rattle.checker.specs.Check.{graphLimit, Checked, checked, checkOutcome, checkRows, checkWork}
 use Rattle.checker.specs.Check.Fit.{FitProperty}
 use Rattle.checker.specs.Check.Cases.{sized, work-kept, work-cleared}
@@ -50,10 +54,10 @@ use Rattle.checker.specs.Draw.{drawOutcome, drawRows, drawOutput, drawWo
 use Rattle.checker.specs.Draw.Cases as drawing
 use Rattle.checker.specs.Draw.Cases.{output-kept}
 use Rattle.checker.specs.Draw.Cleared as cleared
-use Rattle.checker.specs.Draw.Laws.{DrawnLength, draw-ruled, draw-unique}
+use Rattle.checker.specs.Draw.Laws.{DrawnLength, draw-ruled, draw-unique, passed-draws}
 use Rattle.checker.specs.Draw.Bounds.{DrawSmall, draw-small}
 use Rattle.checker.specs.Draw.Written.{GraphWritten, graph-written}
-use Rattle.checker.specs.Check.Laws.{Holds, Answers, files-fit, holds-passed, passed-graph, check-ruled, check-unique, passed-answers}
+use Rattle.checker.specs.Check.Laws.{at-most, Holds, Answers, files-fit, holds-passed, passed-graph, check-ruled, check-unique, passed-answers}
 -- demand 3 whole, one statement
 pub mod Third
 
@@ -103,6 +107,17 @@ facts-equal p fit x y a b i j f g m n = formed-decides p fit f g (formed x a i f
         let (k, e) = mem-nth (factsOf p list z) h o in
         all-nth (FactFormed p) (factsOf p list z) (facts-formed p fit z c list) k h e
 
+-- ── document 02, Change 1: "rulings are given only on protocols that meet all five" ──
+-- the file holds a protocol of whose rules P1 to P5 hold
+pub record MeetsAll (protocol : List ℕ) : Type 0 where
+  pub is : Protocol
+  pub short : length protocol ≤ protocolLimit
+  pub reads : readings.protocol protocol ≡ got is (length protocol)
+  pub all-five : All Fit (is .rules)
+
+meets : (protocol : List ℕ) (p : Protocol) → FitFile protocol p → MeetsAll protocol
+meets protocol p fit = record { is = p; short = fit .short; reads = fit .reads; all-five = fit .each }
+
 -- ── 1, for canonical form: a length or one refusal, which the table alone fixes; and files that hold a fit protocol and a term of it, with
 -- room and work enough, give the length of the canonical form ──
 module _ (protocol term : List ℕ) (bytes : Bytes protocol) (term-bytes : Bytes term) where
@@ -120,6 +135,15 @@ module _ (protocol term : List ℕ) (bytes : Bytes protocol) (term-bytes : Bytes
       → symbols t ≤ mostSymbols → length term ≤ termLimit → (output work : ℕ) → workNeed ≤ work → need t ≤ output
       → canonicalOutcome protocol term output work ≡ passed (need t)
   form-written = canonical-back protocol term bytes term-bytes
+
+  pub form-meets-all : (output work n : ℕ) → canonicalOutcome protocol term output work ≡ passed n → MeetsAll protocol
+  form-meets-all output work n e =
+      let rows = canonicalRows protocol term output work in
+      let ruled = canonical-ruled protocol term bytes output work in
+      let a = passed-absent (Length protocol term) rows (canonicalOutcome protocol term output work) n ruled e in
+      let l = passed-good (Length protocol term) rows n (subst (Ruled rows (Length protocol term)) e ruled) in
+      meets protocol (l .holds .is)
+      (is-fit-file protocol bytes (l .holds .is) (at-most protocolLimit (length protocol) (λ m. a .1 .0 1 (refl, m))) (l .holds .fit))
 
   -- a refusal leaves the output; else the canonical term of that length starts it, and "Output past what was written never changes"
   pub form-output-left :
@@ -150,6 +174,11 @@ module _ (protocol steps : List ℕ) (bytes : Bytes protocol) (steps-bytes : Byt
       (output work : ℕ) (r : Ruling ℕ) → Ruled (drawRows protocol steps output work) (DrawnLength protocol steps) r
       → r ≡ drawOutcome protocol steps output work
   draw-one-outcome = draw-unique protocol steps bytes steps-bytes
+
+  pub draw-meets-all : (output work n : ℕ) → drawOutcome protocol steps output work ≡ passed n → MeetsAll protocol
+  draw-meets-all output work n e =
+      let d = passed-draws protocol steps bytes steps-bytes output work n e in
+      meets protocol (d .is-protocol) (d .files .fit)
 
   -- its figures are small: numbers to 15, items and lengths to 61,440
   pub draw-small-outcome : (output work : ℕ) → DrawSmall (drawOutcome protocol steps output work)
@@ -185,6 +214,11 @@ module _ (protocol property graph : List ℕ) (bytes : Bytes protocol) (property
       (work : ℕ) (r : Ruling Checked) → Ruled (checkRows protocol property graph work) (Answers protocol property graph) r
       → r ≡ checkOutcome protocol property graph work
   one-outcome = check-unique protocol property graph bytes property-bytes graph-bytes
+
+  pub meets-all : (work : ℕ) (c : Checked) → checkOutcome protocol property graph work ≡ passed c → MeetsAll protocol
+  meets-all work c e =
+      let a = passed-answers protocol property graph bytes property-bytes graph-bytes work c e in
+      meets protocol (a .is-protocol) (a .files .fit)
 
   -- its figures are small: numbers to 13, items to 4,096, 512 nodes, 4,096 edges
   pub small-outcome : (work : ℕ) → OutcomeSmall (checkOutcome protocol property graph work)

@@ -57,7 +57,7 @@ layoutRows item r = fixedRow 3 item (r ≡ fault) ∷ []
 abbrev pub fitRuling : Protocol → Ruling Protocol
 fitRuling p = rulingOf (leastPass 4 (λ k r. fits r) (p .rules) ∷ []) p
 
--- "P1 to P4 broken", 4, "rule, from 1"
+-- "P1 to P4 broken", 4, "rule, from 1"; document 02: "refusal 4 covers" the fifth condition too
 pub record Unfit (rules : List Rule) (k : ℕ) : Type 0 where
   pub which : Rule
   pub stands : nth rules k ≡ some which

@@ -42,7 +42,7 @@ pub record IsFit (file : List ℕ) (p : Protocol) : Type 0 where
   pub reads : Reads (protocol file) p
   pub fit : Absent (fitRows p)
 
--- the test of P1 to P4 finds the rules that break one
+-- the test of P1 to P5 finds the rules that break one
 module _ (p : Protocol) (within : Within p) where
   abbrev Limits : Rule → Type 0
   Limits = RuleWithin (tagArities (p .functions)) (factArities (p .symbols))
