@@ -1,0 +1,486 @@
+//! The subcommands: what each is given, and what it does.
+
+use crate::answer::{answer, Answer};
+use crate::bytes;
+use crate::case::*;
+use crate::diagnose::diagnose;
+use crate::failure::*;
+use crate::kernel::{Kernel, Refusal};
+use crate::layout;
+use crate::model::*;
+use crate::picture;
+use crate::print::{self, Style};
+use crate::render;
+use crate::show;
+use crate::table;
+use crate::text;
+use clap::{CommandFactory, Parser, Subcommand, ValueEnum};
+use std::io::Write;
+use std::path::{Path, PathBuf};
+
+/// Checks, draws and shows attack graphs. Every ruling is the proved core's.
+///
+/// Exit codes: 0 done, whatever the ruling; 10 an attack and 11 a refusal where --fail-on asks for it; 2 wrong arguments; 3 a text that does not parse; 4 a file that cannot be read or written; 70 the tool and the core disagree.
+#[derive(Parser)]
+#[command(name = "levtosziv", version)]
+pub struct Arguments {
+    #[command(subcommand)]
+    command: Command,
+}
+
+#[derive(Clone, Copy, PartialEq, ValueEnum)]
+enum Form {
+    /// Sentences, with the reason
+    Words,
+    /// The report program's line
+    Line,
+    /// A line of JSON for each case
+    Json,
+}
+
+#[derive(Clone, Copy, PartialEq, ValueEnum)]
+enum FailOn {
+    Attack,
+    Refused,
+}
+
+/// Which of a text's lemmas and runs.
+#[derive(clap::Args)]
+struct Which {
+    /// Only this lemma
+    #[arg(long)]
+    lemma: Option<String>,
+    /// Only this run or graph
+    #[arg(long)]
+    run: Option<String>,
+}
+
+impl Which {
+    fn choice(&self) -> Choice {
+        Choice {
+            lemma: self.lemma.clone(),
+            run: self.run.clone(),
+        }
+    }
+}
+
+#[derive(Subcommand)]
+enum Command {
+    /// Rule on each run or graph of a text with each lemma, or on a folder's files
+    Check {
+        /// A text (.lev), or a folder with protocol.bin, property.bin, and graph.bin or steps.bin
+        input: PathBuf,
+        #[command(flatten)]
+        which: Which,
+        /// A text with the names for a folder's bytes
+        #[arg(long)]
+        names: Option<PathBuf>,
+        #[arg(long, value_enum, default_value = "words")]
+        format: Form,
+        /// The same as --format json
+        #[arg(long)]
+        json: bool,
+        /// Exit with 10 for an attack, 11 for a refusal
+        #[arg(long, value_enum, value_delimiter = ',')]
+        fail_on: Vec<FailOn>,
+    },
+    /// Write a text's case as bytes into a folder
+    Build {
+        text: PathBuf,
+        folder: PathBuf,
+        #[command(flatten)]
+        which: Which,
+    },
+    /// Print a folder's files, or one of them, as text
+    Show {
+        input: PathBuf,
+        /// A text with the names for these bytes
+        #[arg(long)]
+        names: Option<PathBuf>,
+    },
+    /// Draw the graph of a run, or of a folder's steps.bin
+    Draw {
+        input: PathBuf,
+        /// Only this run
+        #[arg(long)]
+        run: Option<String>,
+        /// A text with the names for a folder's bytes
+        #[arg(long)]
+        names: Option<PathBuf>,
+        /// Write the graph's bytes there, and print nothing
+        #[arg(short, long)]
+        output: Option<PathBuf>,
+    },
+    /// The canonical form of a message, such as "exp('g'^~a, inv(~a))"
+    Term {
+        term: String,
+        /// A text with the functions and names
+        #[arg(long)]
+        theory: Option<PathBuf>,
+    },
+    /// The graph of a case as a picture, by the ending: .dot .svg .png .pdf .json
+    Picture {
+        input: PathBuf,
+        output: PathBuf,
+        #[command(flatten)]
+        which: Which,
+        /// A text with the names for a folder's bytes
+        #[arg(long)]
+        names: Option<PathBuf>,
+        /// Leave out the steps that make names
+        #[arg(long)]
+        simplify: bool,
+    },
+    /// All rules of a theory with their numbers and variables
+    Rules { text: PathBuf },
+    /// A row of the refusal table, with an example
+    Explain { number: u32 },
+    /// Lay a text out anew
+    Fmt {
+        text: PathBuf,
+        /// Change the file itself
+        #[arg(long)]
+        write: bool,
+    },
+    /// What a shell needs to complete the arguments
+    Completions { shell: clap_complete::Shell },
+}
+
+pub fn run(arguments: Arguments) -> Result<i32, Failure> {
+    match arguments.command {
+        Command::Check {
+            input,
+            which,
+            names,
+            format,
+            json,
+            fail_on,
+        } => {
+            let form = if json { Form::Json } else { format };
+            let cases = cases(&input, &which.choice(), names.as_deref())?;
+            check(&cases, form, &fail_on)
+        }
+        Command::Build {
+            text,
+            folder,
+            which,
+        } => build(&text, &folder, &which.choice()),
+        Command::Show { input, names } => {
+            let (text, whole) = show::show(&input, names.as_deref())?;
+            say(&text);
+            Ok(if whole { DONE } else { NO_FILE })
+        }
+        Command::Draw {
+            input,
+            run,
+            names,
+            output,
+        } => draw(&input, run, names.as_deref(), output.as_deref()),
+        Command::Term { term, theory } => canonical(&term, theory.as_deref()),
+        Command::Picture {
+            input,
+            output,
+            which,
+            names,
+            simplify,
+        } => {
+            let case = only_case(&input, &which.choice(), names.as_deref())?;
+            draw_picture(&case, &output, simplify)
+        }
+        Command::Rules { text } => rules(&text),
+        Command::Explain { number } => explain(number),
+        Command::Fmt { text, write } => fmt(&text, write),
+        Command::Completions { shell } => {
+            let mut command = Arguments::command();
+            let mut script = Vec::new();
+            clap_complete::generate(shell, &mut command, "levtosziv", &mut script);
+            say(&String::from_utf8_lossy(&script));
+            Ok(DONE)
+        }
+    }
+}
+
+/// To standard output. A reader that has gone away is no failure.
+fn say(text: &str) {
+    let _ = std::io::stdout().write_all(text.as_bytes());
+}
+
+fn unwritten(path: &Path, error: std::io::Error) -> Failure {
+    Failure::File(format!("{}: {error}", path.display()))
+}
+
+fn write(path: &Path, bytes: &[u8]) -> Result<(), Failure> {
+    std::fs::write(path, bytes).map_err(|e| unwritten(path, e))
+}
+
+fn check(cases: &[Case], form: Form, fail_on: &[FailOn]) -> Result<i32, Failure> {
+    let mut code = DONE;
+    let mut disagreements = Vec::new();
+    for case in cases {
+        let answer = answer(case);
+        match form {
+            Form::Line => say(&format!("{}\n", answer.line())),
+            Form::Json => say(&format!("{}\n", answer.json())),
+            Form::Words => say_words(&answer),
+        }
+        disagreements.extend(answer.disagreement());
+        let asked = match answer.word() {
+            "attack" if fail_on.contains(&FailOn::Attack) => ATTACK,
+            "refused" if fail_on.contains(&FailOn::Refused) => REFUSED,
+            _ => DONE,
+        };
+        // An attack wins over a refusal.
+        code = match (code, asked) {
+            (ATTACK, _) | (_, DONE) => code,
+            _ => asked,
+        };
+    }
+    match disagreements.is_empty() {
+        true => Ok(code),
+        false => Err(Failure::Disagreement(disagreements.join("\n"))),
+    }
+}
+
+fn say_words(answer: &Answer) {
+    let case = answer.case;
+    say(&format!(
+        "{} / {}: {}\n",
+        case.title,
+        case.lemma,
+        answer.line()
+    ));
+    if let (Some(error), Some(places)) = (answer.located(), &case.places) {
+        say(&places.source.message(&error));
+        return;
+    }
+    for line in answer.words() {
+        say(&format!("  {line}\n"));
+    }
+}
+
+/// The one case that is asked for.
+fn only_case(input: &Path, choice: &Choice, names: Option<&Path>) -> Result<Case, Failure> {
+    let mut all = cases(input, choice, names)?;
+    if all.len() > 1 {
+        let known: Vec<String> = all
+            .iter()
+            .map(|case| format!("--run {} --lemma {}", case.title, case.lemma))
+            .collect();
+        let message = format!("which of these?\n  {}", known.join("\n  "));
+        return Err(Failure::Arguments(message));
+    }
+    Ok(all.remove(0))
+}
+
+fn build(text: &Path, folder: &Path, choice: &Choice) -> Result<i32, Failure> {
+    if text.is_dir() {
+        let message = format!("{}: a text is built, and this is a folder", text.display());
+        return Err(Failure::Arguments(message));
+    }
+    let case = only_case(text, choice, None)?;
+    let source = case
+        .places
+        .as_ref()
+        .map_or("", |places| &places.source.text);
+    std::fs::create_dir_all(folder).map_err(|e| unwritten(folder, e))?;
+    write(&folder.join(PROTOCOL_FILE), &case.protocol_bytes)?;
+    write(&folder.join(PROPERTY_FILE), &case.property_bytes)?;
+    write(&folder.join(STEPS_FILE), &bytes::encode_steps(&case.nodes))?;
+    write(&folder.join(THEORY_FILE), source.as_bytes())?;
+    let graph = folder.join(GRAPH_FILE);
+    match case.undrawn {
+        None => write(&graph, &case.graph_bytes)?,
+        Some(_) => {
+            // A graph that lies there from before is not that of these steps.
+            let _ = std::fs::remove_file(&graph);
+            say_words(&answer(&case));
+        }
+    }
+    Ok(DONE)
+}
+
+fn draw(
+    input: &Path,
+    run: Option<String>,
+    names: Option<&Path>,
+    output: Option<&Path>,
+) -> Result<i32, Failure> {
+    let cases = match input.is_dir() {
+        true => vec![steps_case(input, names)?],
+        false => text_runs(input, run)?,
+    };
+    if output.is_some() && cases.len() > 1 {
+        let known: Vec<&str> = cases.iter().map(|case| case.title.as_str()).collect();
+        let message = format!("which of these runs? --run {}", known.join(", --run "));
+        return Err(Failure::Arguments(message));
+    }
+    for case in &cases {
+        match (case.undrawn, output) {
+            (Some(refusal), _) => say_undrawn(case, &refusal),
+            (None, Some(path)) => write(path, &case.graph_bytes)?,
+            (None, None) => {
+                let edges = Some(case.edges());
+                let mut kernel = case.kernel();
+                say(&print::run(
+                    &case.title,
+                    &case.nodes,
+                    edges,
+                    &case.names,
+                    &case.protocol,
+                    &mut kernel,
+                ));
+            }
+        }
+    }
+    Ok(DONE)
+}
+
+/// A refusal of drawing, which no property has part in.
+fn say_undrawn(case: &Case, refusal: &Refusal) {
+    say(&format!("{}: {}\n", case.title, refusal_line(refusal)));
+    let answer = Answer {
+        case,
+        ruling: crate::kernel::Ruling::Refused(*refusal),
+        reading: crate::witness::Reading::Silent,
+        diagnosis: Some(diagnose(case, refusal)),
+        hint: None,
+    };
+    match (answer.located(), &case.places) {
+        (Some(error), Some(places)) => say(&places.source.message(&error)),
+        _ => answer
+            .words()
+            .iter()
+            .for_each(|line| say(&format!("  {line}\n"))),
+    }
+}
+
+/// The runs of a text, each as a case without a property.
+fn text_runs(input: &Path, run: Option<String>) -> Result<Vec<Case>, Failure> {
+    let (source, theory) = read_theory(input)?;
+    let choice = Choice { lemma: None, run };
+    let protocol_bytes = bytes::encode_protocol(&theory.protocol);
+    let mut kernel = Kernel::new(&protocol_bytes);
+    let runs = chosen_runs(&theory, &choice)?;
+    let case = |run: &&text::Run| {
+        let mut drawn = drawn(run, &theory, &mut kernel);
+        if drawn.steps_bytes.is_none() {
+            // A graph's own edges are not looked at.
+            let steps = bytes::encode_steps(&drawn.nodes);
+            drawn.graph = kernel.draw(&steps);
+            drawn.steps_bytes = Some(steps);
+        }
+        case_without_property(&source, &theory, &protocol_bytes, &drawn)
+    };
+    Ok(runs.iter().map(case).collect())
+}
+
+fn canonical(term: &str, theory: Option<&Path>) -> Result<i32, Failure> {
+    let theory = match theory {
+        Some(path) => Some(read_theory(path)?.1),
+        None => None,
+    };
+    let source = Source {
+        name: "term".into(),
+        text: term.into(),
+    };
+    let (term, names) = match text::parse_term(term, theory.as_ref()) {
+        Ok(parsed) => parsed,
+        Err(error) => return Err(Failure::Text(source, error)),
+    };
+    let protocol = theory.map(|theory| theory.protocol).unwrap_or_default();
+    let mut kernel = Kernel::new(&bytes::encode_protocol(&protocol));
+    match kernel.canonical(&term, &protocol) {
+        Ok(Some(form)) => say(&format!("{}\n", Style::of(&names).term(&form))),
+        Ok(None) => {
+            let message = "the core's answer is no term".to_string();
+            return Err(Failure::Disagreement(message));
+        }
+        Err(refusal) => {
+            say(&format!("{}\n", refusal_line(&refusal)));
+            if let Some(row) = table::row(refusal.number) {
+                say(&format!("  Refused: {}.\n", row.cause));
+            }
+        }
+    }
+    Ok(DONE)
+}
+
+fn draw_picture(case: &Case, output: &Path, simplify: bool) -> Result<i32, Failure> {
+    let answer = answer(case);
+    let ending = output.extension().map(|ending| ending.to_string_lossy());
+    let picture = match ending.as_deref() {
+        Some("json") => picture::json(&answer).into_bytes(),
+        Some("dot") => picture::dot(&answer, simplify).into_bytes(),
+        Some(format @ ("svg" | "png" | "pdf")) => {
+            render::render(&picture::dot(&answer, simplify), format).map_err(Failure::File)?
+        }
+        _ => {
+            let message = "a picture's file ends in .dot, .svg, .png, .pdf or .json";
+            return Err(Failure::Arguments(message.into()));
+        }
+    };
+    write(output, &picture)?;
+    match answer.disagreement() {
+        Some(message) => Err(Failure::Disagreement(message)),
+        None => Ok(DONE),
+    }
+}
+
+fn rules(path: &Path) -> Result<i32, Failure> {
+    let (_, theory) = read_theory(path)?;
+    let (protocol, names) = (&theory.protocol, &theory.names);
+    for number in protocol.rule_numbers() {
+        let Some(rule) = protocol.rule(number) else {
+            continue;
+        };
+        let variables = names.rule_variables(number, rule.sorts.len());
+        let style = Style {
+            names,
+            variables: Some((&variables, &rule.sorts)),
+        };
+        let parameters = (0..rule.sorts.len() as u32).map(|n| style.term(&Term::Variable(n)));
+        let parameters: Vec<String> = parameters.collect();
+        let part = |facts: &[Fact]| style.facts(facts, protocol);
+        say(&format!(
+            "{number:>3} {}({}): [{}] --[{}]-> [{}]\n",
+            names.rule(number),
+            parameters.join(", "),
+            part(&rule.premises),
+            part(&rule.actions),
+            part(&rule.conclusions)
+        ));
+    }
+    Ok(DONE)
+}
+
+fn explain(number: u32) -> Result<i32, Failure> {
+    let Some(row) = table::row(number) else {
+        let message = format!(
+            "there is no refusal {number}; the table has 1 to {}",
+            table::ROWS.len()
+        );
+        return Err(Failure::Arguments(message));
+    };
+    say(&format!("refused {number}: {}\n", row.cause));
+    say(&format!("The item is {}.\n{}\n", row.item, row.advice));
+    if !row.example.is_empty() {
+        say("\nFor example, this text is refused so:\n\n");
+        row.example
+            .lines()
+            .for_each(|line| say(&format!("    {line}\n")));
+    }
+    Ok(DONE)
+}
+
+fn fmt(path: &Path, in_place: bool) -> Result<i32, Failure> {
+    let (source, _) = read_theory(path)?;
+    let laid_out = match layout::layout(&source.text) {
+        Ok(text) => text,
+        Err(error) => return Err(Failure::Text(source, error)),
+    };
+    match in_place {
+        true => write(path, laid_out.as_bytes())?,
+        false => say(&laid_out),
+    }
+    Ok(DONE)
+}

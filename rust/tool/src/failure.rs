@@ -1,0 +1,92 @@
+//! Why the tool ends without doing what it was asked, and with which exit code.
+
+use crate::text;
+use codespan_reporting::diagnostic::{Diagnostic, Label};
+use codespan_reporting::files::SimpleFile;
+use codespan_reporting::term::termcolor::{Buffer, ColorChoice, StandardStream, WriteColor};
+use codespan_reporting::term::{self, Chars, Config};
+use std::io::IsTerminal;
+
+pub const DONE: i32 = 0;
+pub const WRONG_ARGUMENTS: i32 = 2;
+pub const NO_TEXT: i32 = 3;
+pub const NO_FILE: i32 = 4;
+pub const ATTACK: i32 = 10;
+pub const REFUSED: i32 = 11;
+pub const DISAGREEMENT: i32 = 70;
+
+/// A text with the name that messages give it.
+#[derive(Clone, Debug)]
+pub struct Source {
+    pub name: String,
+    pub text: String,
+}
+
+impl Source {
+    /// Line and column of a byte, from 1.
+    pub fn line_and_column(&self, at: usize) -> (usize, usize) {
+        let before = &self.text[..at.min(self.text.len())];
+        let line = before.matches('\n').count() + 1;
+        let start = before.rfind('\n').map_or(0, |i| i + 1);
+        (line, before[start..].chars().count() + 1)
+    }
+
+    /// A message with file, line, column, the line itself and a caret.
+    pub fn message(&self, error: &text::Error) -> String {
+        let mut buffer = Buffer::no_color();
+        self.emit(error, &mut buffer);
+        String::from_utf8_lossy(buffer.as_slice()).into_owned()
+    }
+
+    /// The same to standard error, in colours on a terminal.
+    pub fn complain(&self, error: &text::Error) {
+        let colours = match std::io::stderr().is_terminal() {
+            true => ColorChoice::Auto,
+            false => ColorChoice::Never,
+        };
+        self.emit(error, &mut StandardStream::stderr(colours));
+    }
+
+    fn emit(&self, error: &text::Error, writer: &mut dyn WriteColor) {
+        let file = SimpleFile::new(&self.name, &self.text);
+        let label = Label::primary((), error.span.clone()).with_message(&error.label);
+        let diagnostic = Diagnostic::error()
+            .with_message(&error.message)
+            .with_labels(vec![label])
+            .with_notes(error.notes.clone());
+        let config = Config {
+            chars: Chars::ascii(),
+            ..Config::default()
+        };
+        // Where standard error is closed there is no one to tell.
+        let _ = term::emit(writer, &config, &file, &diagnostic);
+    }
+}
+
+#[derive(Debug)]
+pub enum Failure {
+    Arguments(String),
+    Text(Source, text::Error),
+    File(String),
+    Disagreement(String),
+}
+
+impl Failure {
+    /// Says what happened on standard error, and gives the exit code.
+    pub fn report(&self) -> i32 {
+        match self {
+            Failure::Text(source, error) => {
+                source.complain(error);
+                NO_TEXT
+            }
+            Failure::Arguments(message) => said(message, WRONG_ARGUMENTS),
+            Failure::File(message) => said(message, NO_FILE),
+            Failure::Disagreement(message) => said(message, DISAGREEMENT),
+        }
+    }
+}
+
+fn said(message: &str, code: i32) -> i32 {
+    eprintln!("error: {message}");
+    code
+}

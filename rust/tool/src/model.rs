@@ -1,0 +1,403 @@
+//! What the files hold, as trees, with names beside the numbers.
+
+use std::collections::BTreeMap;
+use std::ops::Range;
+
+/// Bytes of a text, from and to.
+pub type Span = Range<usize>;
+
+/// "A term is written in prefix order, tag first".
+#[derive(Clone, Debug, PartialEq, Eq, PartialOrd, Ord, Hash)]
+pub enum Term {
+    Variable(u32),
+    Public(u32),
+    Fresh(u32),
+    Apply(u32, Vec<Term>),
+    /// A term of more than `MOST_SHOWN_SYMBOLS` symbols, which no call accepts: its bytes and its count of symbols.
+    Large(Vec<u8>, usize),
+}
+
+/// A term with more symbols is kept and shown as bytes, so that no tree is deep.
+pub const MOST_SHOWN_SYMBOLS: usize = 1_000;
+
+impl Term {
+    pub fn symbols(&self) -> usize {
+        match self {
+            Term::Apply(_, arguments) => 1 + arguments.iter().map(Term::symbols).sum::<usize>(),
+            Term::Large(_, symbols) => *symbols,
+            _ => 1,
+        }
+    }
+
+    /// The term with values in place of its variables.
+    pub fn fill(&self, values: &[Term]) -> Term {
+        match self {
+            Term::Variable(n) => values.get(*n as usize).unwrap_or(self).clone(),
+            Term::Apply(tag, arguments) => Term::Apply(
+                *tag,
+                arguments.iter().map(|term| term.fill(values)).collect(),
+            ),
+            other => other.clone(),
+        }
+    }
+
+    /// The term and all terms in it, the outer ones first.
+    pub fn each<'a>(&'a self, visit: &mut dyn FnMut(&'a Term)) {
+        visit(self);
+        if let Term::Apply(_, arguments) = self {
+            arguments.iter().for_each(|term| term.each(visit));
+        }
+    }
+
+    pub fn any(&self, test: impl Fn(&Term) -> bool) -> bool {
+        let mut found = false;
+        self.each(&mut |term| found |= test(term));
+        found
+    }
+
+    pub fn holds_variable(&self, number: u32) -> bool {
+        self.any(|term| *term == Term::Variable(number))
+    }
+}
+
+#[derive(Clone, Debug, PartialEq, Eq, PartialOrd, Ord, Hash)]
+pub struct Fact {
+    pub symbol: u32,
+    pub terms: Vec<Term>,
+}
+
+pub const FR: u32 = 0;
+pub const IN: u32 = 1;
+pub const OUT: u32 = 2;
+pub const K: u32 = 3;
+pub const FIRST_OWN_FACT: u32 = 4;
+pub const GIVEN_FACTS: [&str; 4] = ["Fr", "In", "Out", "K"];
+
+pub const FIRST_TAG: u32 = 3;
+pub const ENC: u32 = 4;
+pub const DEC: u32 = 5;
+pub const PAIR: u32 = 7;
+pub const FST: u32 = 8;
+pub const SND: u32 = 9;
+pub const EXP: u32 = 10;
+pub const MUL: u32 = 12;
+pub const FIRST_FREE: u32 = 13;
+/// Name and arity of the built-in functions, from `FIRST_TAG`.
+pub const BUILT_IN: [(&str, u32); 10] = [
+    ("one", 0),
+    ("enc", 2),
+    ("dec", 2),
+    ("h", 1),
+    ("pair", 2),
+    ("fst", 1),
+    ("snd", 1),
+    ("exp", 2),
+    ("inv", 1),
+    ("mul", 2),
+];
+/// Names that Tamarin uses for the same.
+pub const ALIASES: [(&str, &str); 2] = [("senc", "enc"), ("sdec", "dec")];
+
+pub const FRESH: u32 = 0;
+pub const IRECV: u32 = 1;
+pub const ISEND: u32 = 2;
+pub const PUB: u32 = 3;
+/// Rules 0 to 4, as Tamarin names them.
+pub const INTRUDER: [&str; 5] = ["fresh", "irecv", "isend", "pub", "ifresh"];
+pub const FIRST_RULE: u32 = 31;
+
+/// The rule that applies the function of this tag: "Rule t+2".
+pub fn apply_rule(tag: u32) -> u32 {
+    tag + 2
+}
+
+pub const SORT_MESSAGE: u32 = 0;
+pub const SORT_FRESH: u32 = 1;
+pub const SORT_PUBLIC: u32 = 2;
+pub const SORT_TIME: u32 = 3;
+/// What stands before a variable of each sort.
+pub const SORT_SIGNS: [&str; 4] = ["", "~", "$", "#"];
+
+/// The most that the files may have, as document 01 puts in brackets.
+pub mod limits {
+    pub const PROTOCOL_BYTES: usize = 4_096;
+    pub const PROPERTY_BYTES: usize = 1_024;
+    pub const STEPS_BYTES: usize = 32_768;
+    pub const GRAPH_BYTES: usize = 61_440;
+    pub const FUNCTIONS: u32 = 16;
+    pub const FUNCTION_ARITY: u32 = 4;
+    pub const FACT_SYMBOLS: u32 = 32;
+    pub const FACT_ARITY: u32 = 8;
+    pub const RULES: u32 = 64;
+    pub const RULE_VARIABLES: u32 = 16;
+    pub const RULE_FACTS: u32 = 8;
+    pub const RULE_TERM_SYMBOLS: usize = 64;
+    pub const NEW_VARIABLES: u32 = 8;
+    pub const VARIABLES_IN_SCOPE: usize = 16;
+    pub const NESTING: u32 = 16;
+    pub const NODES: u32 = 512;
+    pub const EDGES: u32 = 4_096;
+    pub const NUMBER: u32 = 2_097_151;
+    pub const VALUE_SYMBOLS: usize = 128;
+    pub const FILLED_IN_SYMBOLS: usize = 256;
+}
+
+#[derive(Clone, Debug, PartialEq, Eq)]
+pub struct Rule {
+    pub sorts: Vec<u32>,
+    pub premises: Vec<Fact>,
+    pub actions: Vec<Fact>,
+    pub conclusions: Vec<Fact>,
+}
+
+impl Rule {
+    pub fn facts(&self) -> impl Iterator<Item = &Fact> {
+        self.premises
+            .iter()
+            .chain(&self.actions)
+            .chain(&self.conclusions)
+    }
+}
+
+#[derive(Clone, Debug, Default, PartialEq, Eq)]
+pub struct Protocol {
+    /// The arities of the free functions.
+    pub functions: Vec<u32>,
+    /// The own fact symbols: arity, and whether persistent.
+    pub facts: Vec<(u32, bool)>,
+    pub rules: Vec<Rule>,
+}
+
+#[derive(Clone, Debug, PartialEq, Eq)]
+pub enum Formula {
+    False,
+    Equal(Term, Term),
+    Unequal(Term, Term),
+    Before(u32, u32),
+    NotBefore(u32, u32),
+    SameTime(u32, u32),
+    NotSameTime(u32, u32),
+    Action(Fact, u32),
+    NoAction(Fact, u32),
+    And(Box<Formula>, Box<Formula>),
+    Or(Box<Formula>, Box<Formula>),
+    Exists(Quantifier),
+    ForAll(Quantifier),
+}
+
+impl Formula {
+    /// The files have no tag for truth; this stands for it.
+    pub fn truth() -> Formula {
+        Formula::Equal(Term::Public(0), Term::Public(0))
+    }
+
+    /// Whether some guard or action is of this symbol.
+    pub fn names(&self, symbol: u32) -> bool {
+        match self {
+            Formula::Action(fact, _) | Formula::NoAction(fact, _) => fact.symbol == symbol,
+            Formula::And(a, b) | Formula::Or(a, b) => a.names(symbol) || b.names(symbol),
+            Formula::Exists(q) | Formula::ForAll(q) => {
+                q.guard.symbol == symbol || q.body.names(symbol)
+            }
+            _ => false,
+        }
+    }
+}
+
+#[derive(Clone, Debug, PartialEq, Eq)]
+pub struct Quantifier {
+    pub sorts: Vec<u32>,
+    pub guard: Fact,
+    pub time: u32,
+    pub body: Box<Formula>,
+    /// The new variables' names and the quantifier's place, where a text has it.
+    pub written: Option<(Vec<String>, Span)>,
+}
+
+#[derive(Clone, Debug, PartialEq, Eq)]
+pub struct Node {
+    pub rule: u32,
+    pub values: Vec<Term>,
+}
+
+/// Source node, conclusion, target node, premise, all from 1.
+pub type Edge = [u32; 4];
+
+#[derive(Clone, Debug, Default, PartialEq, Eq)]
+pub struct Graph {
+    pub nodes: Vec<Node>,
+    pub edges: Vec<Edge>,
+}
+
+/// A node's premises, actions and conclusions with its values filled in.
+#[derive(Clone, Debug, Default, PartialEq, Eq)]
+pub struct Filled {
+    pub premises: Vec<Fact>,
+    pub actions: Vec<Fact>,
+    pub conclusions: Vec<Fact>,
+}
+
+impl Filled {
+    pub fn facts(&self) -> impl Iterator<Item = &Fact> {
+        self.premises
+            .iter()
+            .chain(&self.actions)
+            .chain(&self.conclusions)
+    }
+}
+
+#[derive(Clone, Debug, Default)]
+pub struct Names {
+    pub theory: Option<String>,
+    pub functions: Vec<String>,
+    pub facts: Vec<String>,
+    pub rules: Vec<String>,
+    /// Of each rule, its variables.
+    pub variables: Vec<Vec<String>>,
+    pub public: BTreeMap<u32, String>,
+    pub fresh: BTreeMap<u32, String>,
+}
+
+fn numbered(letter: &str, count: usize) -> Vec<String> {
+    (0..count).map(|i| format!("{letter}{i}")).collect()
+}
+
+impl Names {
+    /// Names made up for a protocol that has none.
+    pub fn generated(protocol: &Protocol) -> Names {
+        let variables = |rule: &Rule| numbered("x", rule.sorts.len());
+        Names {
+            functions: numbered("f", protocol.functions.len()),
+            facts: numbered("F", protocol.facts.len()),
+            rules: numbered("R", protocol.rules.len()),
+            variables: protocol.rules.iter().map(variables).collect(),
+            ..Names::default()
+        }
+    }
+
+    pub fn function(&self, tag: u32) -> &str {
+        match tag.checked_sub(FIRST_FREE) {
+            None => BUILT_IN[(tag - FIRST_TAG) as usize].0,
+            Some(i) => &self.functions[i as usize],
+        }
+    }
+
+    pub fn fact(&self, symbol: u32) -> &str {
+        match symbol.checked_sub(FIRST_OWN_FACT) {
+            None => GIVEN_FACTS[symbol as usize],
+            Some(i) => &self.facts[i as usize],
+        }
+    }
+
+    pub fn rule(&self, number: u32) -> String {
+        let first_apply = apply_rule(FIRST_TAG);
+        let name = match number {
+            0..=4 => Some(INTRUDER[number as usize].to_string()),
+            5..=14 => Some(format!("c_{}", BUILT_IN[(number - first_apply) as usize].0)),
+            15..=30 => {
+                let function = self
+                    .functions
+                    .get((number - apply_rule(FIRST_FREE)) as usize);
+                function.map(|name| format!("c_{name}"))
+            }
+            _ => self.rules.get((number - FIRST_RULE) as usize).cloned(),
+        };
+        name.unwrap_or_else(|| format!("?{number}"))
+    }
+
+    /// The names of a rule's variables.
+    pub fn rule_variables(&self, number: u32, count: usize) -> Vec<String> {
+        match number.checked_sub(FIRST_RULE) {
+            Some(i) => self.variables[i as usize].clone(),
+            None => numbered("x", count),
+        }
+    }
+
+    pub fn public(&self, number: u32) -> String {
+        self.public
+            .get(&number)
+            .cloned()
+            .unwrap_or_else(|| format!("p{number}"))
+    }
+
+    pub fn fresh(&self, number: u32) -> String {
+        self.fresh
+            .get(&number)
+            .cloned()
+            .unwrap_or_else(|| format!("n{number}"))
+    }
+}
+
+impl Protocol {
+    /// The arity of a function; none of a variable's or name's tag, nor of an undeclared function.
+    pub fn arity(&self, tag: u32) -> Option<u32> {
+        match tag {
+            0..=2 => None,
+            3..=12 => Some(BUILT_IN[(tag - FIRST_TAG) as usize].1),
+            _ => self.functions.get((tag - FIRST_FREE) as usize).copied(),
+        }
+    }
+
+    /// Arity of a fact symbol, and whether it is persistent.
+    pub fn symbol(&self, symbol: u32) -> Option<(u32, bool)> {
+        match symbol.checked_sub(FIRST_OWN_FACT) {
+            None => Some((1, symbol == K)),
+            Some(i) => self.facts.get(i as usize).copied(),
+        }
+    }
+
+    pub fn linear(&self, symbol: u32) -> bool {
+        matches!(self.symbol(symbol), Some((_, false)))
+    }
+
+    /// A rule by its number, built-in or the protocol's own.
+    pub fn rule(&self, number: u32) -> Option<Rule> {
+        let fact = |symbol, term| {
+            vec![Fact {
+                symbol,
+                terms: vec![term],
+            }]
+        };
+        let x = || Term::Variable(0);
+        let rule = |sort, premises, actions, conclusions| {
+            Some(Rule {
+                sorts: vec![sort],
+                premises,
+                actions,
+                conclusions,
+            })
+        };
+        match number {
+            0 => rule(SORT_FRESH, vec![], vec![], fact(FR, x())),
+            1 => rule(SORT_MESSAGE, fact(OUT, x()), vec![], fact(K, x())),
+            2 => rule(SORT_MESSAGE, fact(K, x()), fact(K, x()), fact(IN, x())),
+            3 => rule(SORT_PUBLIC, vec![], vec![], fact(K, x())),
+            4 => rule(SORT_FRESH, fact(FR, x()), vec![], fact(K, x())),
+            5..=30 => self.applying(number - 2),
+            _ => self.rules.get((number - FIRST_RULE) as usize).cloned(),
+        }
+    }
+
+    /// The rule by which the intruder applies a function to what it knows.
+    fn applying(&self, tag: u32) -> Option<Rule> {
+        let arity = self.arity(tag)?;
+        let known = |term| Fact {
+            symbol: K,
+            terms: vec![term],
+        };
+        let variables: Vec<Term> = (0..arity).map(Term::Variable).collect();
+        Some(Rule {
+            sorts: vec![SORT_MESSAGE; arity as usize],
+            premises: variables.iter().cloned().map(known).collect(),
+            actions: Vec::new(),
+            conclusions: vec![known(Term::Apply(tag, variables))],
+        })
+    }
+
+    /// The numbers of all rules that there are.
+    pub fn rule_numbers(&self) -> Vec<u32> {
+        (0..FIRST_RULE + self.rules.len() as u32)
+            .filter(|number| self.rule(*number).is_some())
+            .collect()
+    }
+}
