@@ -84,13 +84,20 @@ impl Writer {
     fn token(&mut self, token: &Token, next: &Token, text: &str, breaks: usize) {
         match token {
             Token::Word(word) if self.begins_item(word, next) => self.begin_item(word, breaks),
+            Token::Word(word) if word == "begin" && self.item == "theory" => {
+                self.out.push(if breaks > 0 { '\n' } else { ' ' });
+            }
             _ if self.last().is_none() => {}
             _ if (breaks > 0 && !self.head) || self.ended => self.new_line(),
             _ if self.blank_before(token) => self.out.push(' '),
             _ => {}
         }
         self.ended = false;
-        self.out += text;
+        self.out += &match (token, next) {
+            // As the printer writes a step's number.
+            (Token::Number(_), Token::Sign(":")) if self.at_line_start() => format!("{text:>3}"),
+            _ => text.to_string(),
+        };
         match token {
             Token::Sign("(" | "[" | "--[") => self.depth += 1,
             Token::Sign(")" | "]" | "]->") => self.depth = self.depth.saturating_sub(1),
@@ -100,6 +107,10 @@ impl Writer {
             _ => {}
         }
         self.before.push(token.clone());
+    }
+
+    fn at_line_start(&self) -> bool {
+        self.out.trim_end_matches(' ').ends_with('\n')
     }
 
     fn begin_item(&mut self, word: &str, breaks: usize) {

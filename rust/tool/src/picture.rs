@@ -19,7 +19,7 @@ const REFUSED_COLOUR: &str = "#f4b6b6";
 const HEAD: &str = "digraph G {
   graph [fontname=\"Helvetica\", nodesep=0.3, ranksep=0.35];
   node [fontname=\"Helvetica\", fontsize=9, shape=record, height=0.2, margin=\"0.06,0.03\"];
-  edge [arrowsize=0.6];
+  edge [fontname=\"Helvetica\", fontsize=9, arrowsize=0.6];
 ";
 
 /// The graph of an answered case; `simplify` leaves out the steps that make names.
@@ -58,7 +58,7 @@ impl<'a> Picture<'a> {
         let matches = answer.witness().map(|witness| &witness.matches);
         let diagnosis = answer.diagnosis.as_ref();
         Picture {
-            short: Short::new(&facts, case.names.functions.len()),
+            short: Short::new(&facts, &case.names.functions),
             witness: matches.into_iter().flatten().map(|m| m.node).collect(),
             refused: diagnosis.map_or(Place::Nowhere, |d| d.place.clone()),
             style: Style::of(&case.names),
@@ -72,7 +72,7 @@ impl<'a> Picture<'a> {
     fn caption(&self) -> String {
         let case = self.case;
         let text = format!("{} / {}: {}", case.title, case.lemma, self.answer.line());
-        format!("  label=\"{}\"; labelloc=t;\n", escape(&text))
+        format!("  label=\"{}\"; labelloc=t; fontsize=12;\n", escape(&text))
     }
 
     fn hidden(&self, n: usize) -> bool {
@@ -168,7 +168,7 @@ impl<'a> Picture<'a> {
         let style = Style::of(&names);
         let row = |(i, term): (usize, &Term)| {
             let whole = style.term(&self.short.shorten(term, true));
-            format!("{} = {}\\l", letter(i), escape(&whole))
+            format!("{} = {}\\l", self.short.letters[i], escape(&whole))
         };
         let rows: Vec<String> = self.short.terms.iter().enumerate().map(row).collect();
         format!(
@@ -182,19 +182,20 @@ impl<'a> Picture<'a> {
 struct Short {
     /// The smaller first, so that the larger are said with them.
     terms: Vec<Term>,
+    /// Those of the alphabet that name no function.
+    letters: Vec<String>,
     /// A shortened term is a function without arguments, of a tag behind those of the protocol.
     first_tag: u32,
 }
 
-const MOST_SHORT: usize = 26;
 const LEAST_SYMBOLS: usize = 4;
 const LEAST_OFTEN: usize = 3;
-fn letter(i: usize) -> String {
-    char::from(b'A' + i as u8).to_string()
-}
-
 impl Short {
-    fn new(facts: &[Filled], functions: usize) -> Short {
+    fn new(facts: &[Filled], functions: &[String]) -> Short {
+        let letters = ('A'..='Z').map(String::from);
+        let letters: Vec<String> = letters
+            .filter(|letter| !functions.contains(letter))
+            .collect();
         let mut count: HashMap<&Term, usize> = HashMap::new();
         for term in facts
             .iter()
@@ -209,11 +210,12 @@ impl Short {
             .filter(|(symbols, ..)| *symbols >= LEAST_SYMBOLS)
             .collect();
         often.sort_by_key(|(symbols, term, often)| (std::cmp::Reverse(symbols * often), *term));
-        often.truncate(MOST_SHORT);
+        often.truncate(letters.len());
         often.sort_by_key(|(symbols, term, _)| (*symbols, *term));
         Short {
             terms: often.into_iter().map(|(_, term, _)| term.clone()).collect(),
-            first_tag: FIRST_FREE + functions as u32,
+            first_tag: FIRST_FREE + functions.len() as u32,
+            letters,
         }
     }
 
@@ -234,7 +236,7 @@ impl Short {
     /// The names with the letters as functions.
     fn names(&self, names: &Names) -> Names {
         let mut names = names.clone();
-        names.functions.extend((0..self.terms.len()).map(letter));
+        names.functions.extend(self.letters.iter().cloned());
         names
     }
 }

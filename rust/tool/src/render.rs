@@ -9,17 +9,18 @@ use std::time::Duration;
 
 /// How long each program gets.
 const PATIENCE: Duration = Duration::from_secs(10);
-/// Points between two levels, and for each character of a label.
+/// In points: from level to level, for each character of a label, and between two nodes.
 const LEVEL_HEIGHT: f64 = 110.0;
-const CHARACTER_WIDTH: f64 = 4.0;
+const CHARACTER_WIDTH: f64 = 4.5;
+const GAP: f64 = 24.0;
 
 /// The picture of a DOT text, in one of Graphviz' formats.
 pub fn render(dot: &str, format: &str) -> Result<Vec<u8>, String> {
     if let Some(picture) = graphviz("dot", &[], dot, format)? {
         return Ok(picture);
     }
-    let placed = graphviz("neato", &["-n2", "-Gsplines=line"], &levels(dot), format)?;
-    placed.ok_or_else(|| "the graph is too large for a picture; .dot and .json hold it".into())
+    let picture = graphviz("neato", &["-n2", "-Gsplines=line"], &placed(dot), format)?;
+    picture.ok_or_else(|| "the graph is too large for a picture; .dot and .json hold it".into())
 }
 
 /// The picture, or nothing where that takes too long.
@@ -82,31 +83,53 @@ fn ends(line: &str) -> Option<(u32, u32)> {
     Some((number(source)?, number(target)?))
 }
 
-/// The DOT text with a place for each node: levels by the longest way from a source.
-fn levels(dot: &str) -> String {
+/// A node's line: its number, and what stands behind the opening bracket.
+fn node(line: &str) -> Option<(u32, &str)> {
+    let (number, rest) = line.strip_prefix("  n")?.split_once(" [")?;
+    Some((number.parse().ok()?, rest))
+}
+
+/// The width of a node in points, by the longest row of its label.
+fn width(rest: &str) -> f64 {
+    let label = rest.split("label=").last().unwrap_or_default();
+    let longest = label.split("}|{").map(str::len).max().unwrap_or(0);
+    longest as f64 * CHARACTER_WIDTH + GAP
+}
+
+/// The level of each node that has an edge into it: the longest way from a source.
+fn levels(dot: &str) -> HashMap<u32, u32> {
     let mut edges: Vec<(u32, u32)> = dot.lines().filter_map(ends).collect();
     edges.sort_by_key(|(_, target)| *target);
-    let mut level: HashMap<u32, u32> = HashMap::new();
+    let mut levels: HashMap<u32, u32> = HashMap::new();
     for (source, target) in edges {
-        let below = level.get(&source).map_or(1, |l| l + 1);
-        let here = level.entry(target).or_insert(0);
+        let below = levels.get(&source).map_or(1, |level| level + 1);
+        let here = levels.entry(target).or_insert(0);
         *here = (*here).max(below);
     }
-    let mut widths: HashMap<u32, f64> = HashMap::new();
+    levels
+}
+
+/// The DOT text with a place for each node: its level, and side by side there, about the middle.
+fn placed(dot: &str) -> String {
+    let levels = levels(dot);
+    let level = |number: u32| levels.get(&number).copied().unwrap_or(0);
+    let mut next: HashMap<u32, f64> = HashMap::new();
+    for (number, rest) in dot.lines().filter_map(node) {
+        *next.entry(level(number)).or_default() -= width(rest) / 2.0;
+    }
     let mut out = String::new();
     for line in dot.lines() {
-        let node = line.strip_prefix("  n").and_then(|l| l.split_once(" ["));
-        let node = node.and_then(|(n, rest)| Some((n.parse::<u32>().ok()?, rest)));
-        let Some((number, rest)) = node else {
+        let Some((number, rest)) = node(line) else {
             out += &format!("{line}\n");
             continue;
         };
-        let level = level.get(&number).copied().unwrap_or(0);
-        let width = rest.len() as f64 * CHARACTER_WIDTH;
-        let x = widths.entry(level).or_default();
-        let (middle, y) = (*x + width / 2.0, -LEVEL_HEIGHT * f64::from(level));
+        let x = next.entry(level(number)).or_default();
+        let (middle, y) = (
+            *x + width(rest) / 2.0,
+            -LEVEL_HEIGHT * f64::from(level(number)),
+        );
+        *x += width(rest);
         out += &format!("  n{number} [pos=\"{middle},{y}\", {rest}\n");
-        *x += width;
     }
     out
 }

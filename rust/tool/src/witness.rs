@@ -28,7 +28,11 @@ pub struct Witness {
 impl Witness {
     fn and(mut self, other: Witness) -> Witness {
         self.matches.extend(other.matches);
-        self.missing.extend(other.missing);
+        for missing in other.missing {
+            if !self.missing.contains(&missing) {
+                self.missing.push(missing);
+            }
+        }
         self
     }
 }
