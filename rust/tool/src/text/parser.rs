@@ -78,8 +78,13 @@ impl<'a> Parser<'a> {
     }
 
     pub fn unexpected<T>(&self, wanted: &str) -> Parse<T> {
+        // At the end of the file, the place is behind the last token and not in an empty line.
+        let span = match self.peek() {
+            Token::End => self.since(0).end..self.since(0).end,
+            _ => self.span(),
+        };
         error(
-            self.span(),
+            span,
             format!("expected {wanted}, found {}", self.peek()),
             format!("expected {wanted}"),
         )

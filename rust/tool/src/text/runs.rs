@@ -95,7 +95,8 @@ impl Resolver {
             };
             let Some(slot) = values.get_mut(place) else {
                 let (most, here) = (values.len(), raw.arguments.len());
-                let message = format!("`{}` takes {most} values, here it has {here}", raw.rule);
+                let s = if most == 1 { "" } else { "s" };
+                let message = format!("`{}` takes {most} value{s}, here it has {here}", raw.rule);
                 return error(raw.span.clone(), message, shape());
             };
             if slot.replace(self.value(term, scope)?).is_some() {
