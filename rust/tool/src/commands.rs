@@ -17,13 +17,14 @@ use crate::text;
 use clap::{CommandFactory, Parser, Subcommand, ValueEnum};
 use std::io::Write;
 use std::path::{Path, PathBuf};
+use std::thread;
 
 /// Checks, draws and shows attack graphs. Every ruling is the proved core's.
 ///
 /// Exit codes: 0 done, whatever the ruling; 10 an attack and 11 a refusal where --fail-on asks for it; 2 wrong arguments; 3 a text that does not parse; 4 a file that cannot be read or written; 70 the tool and the core disagree.
 #[derive(Parser)]
 #[command(name = "levtosziv", version)]
-pub struct Arguments {
+struct Arguments {
     #[command(subcommand)]
     command: Command,
 }
@@ -146,7 +147,23 @@ enum Command {
     Completions { shell: clap_complete::Shell },
 }
 
-pub fn run(arguments: Arguments) -> Result<i32, Failure> {
+/// A check needs 573 KB of stack, and trees of 1,000 levels some more.
+const STACK: usize = 64 << 20;
+
+/// All that the program does.
+pub fn program() {
+    let arguments = Arguments::parse();
+    let code = thread::Builder::new()
+        .stack_size(STACK)
+        .spawn(|| run(arguments).unwrap_or_else(|failure| failure.report()))
+        .ok()
+        .and_then(|thread| thread.join().ok());
+    // Where standard output is closed there is no one to write to.
+    let _ = std::io::stdout().flush();
+    std::process::exit(code.unwrap_or(DISAGREEMENT));
+}
+
+fn run(arguments: Arguments) -> Result<i32, Failure> {
     match arguments.command {
         Command::Check {
             input,
