@@ -112,7 +112,7 @@ pub fn read_theory(path: &Path) -> Result<(Source, Theory), Failure> {
     };
     match parsed {
         Ok(theory) => Ok((source, theory)),
-        Err(error) => Err(Failure::Text(source, error)),
+        Err(error) => Err(Failure::Text(Box::new((source, error)))),
     }
 }
 

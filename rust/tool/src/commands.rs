@@ -1,6 +1,7 @@
-//! The subcommands: what each is given, and what it does.
+//! What the subcommands do.
 
 use crate::answer::{answer, Answer};
+use crate::arguments::*;
 use crate::bytes;
 use crate::case::*;
 use crate::diagnose::diagnose;
@@ -14,138 +15,10 @@ use crate::render;
 use crate::show;
 use crate::table;
 use crate::text;
-use clap::{CommandFactory, Parser, Subcommand, ValueEnum};
+use clap::{CommandFactory, Parser};
 use std::io::Write;
-use std::path::{Path, PathBuf};
+use std::path::Path;
 use std::thread;
-
-/// Checks, draws and shows attack graphs. Every ruling is the proved core's.
-///
-/// Exit codes: 0 done, whatever the ruling; 10 an attack and 11 a refusal where --fail-on asks for it; 2 wrong arguments; 3 a text that does not parse; 4 a file that cannot be read or written; 70 the tool and the core disagree.
-#[derive(Parser)]
-#[command(name = "levtosziv", version)]
-struct Arguments {
-    #[command(subcommand)]
-    command: Command,
-}
-
-#[derive(Clone, Copy, PartialEq, ValueEnum)]
-enum Form {
-    /// Sentences, with the reason
-    Words,
-    /// The report program's line
-    Line,
-    /// A line of JSON for each case
-    Json,
-}
-
-#[derive(Clone, Copy, PartialEq, ValueEnum)]
-enum FailOn {
-    Attack,
-    Refused,
-}
-
-/// Which of a text's lemmas and runs.
-#[derive(clap::Args)]
-struct Which {
-    /// Only this lemma
-    #[arg(long)]
-    lemma: Option<String>,
-    /// Only this run or graph
-    #[arg(long)]
-    run: Option<String>,
-}
-
-impl Which {
-    fn choice(&self) -> Choice {
-        Choice {
-            lemma: self.lemma.clone(),
-            run: self.run.clone(),
-        }
-    }
-}
-
-#[derive(Subcommand)]
-enum Command {
-    /// Rule on each run or graph of a text with each lemma, or on a folder's files
-    Check {
-        /// A text (.lev), or a folder with protocol.bin, property.bin, and graph.bin or steps.bin
-        input: PathBuf,
-        #[command(flatten)]
-        which: Which,
-        /// A text with the names for a folder's bytes
-        #[arg(long)]
-        names: Option<PathBuf>,
-        #[arg(long, value_enum, default_value = "words")]
-        format: Form,
-        /// The same as --format json
-        #[arg(long)]
-        json: bool,
-        /// Exit with 10 for an attack, 11 for a refusal
-        #[arg(long, value_enum, value_delimiter = ',')]
-        fail_on: Vec<FailOn>,
-    },
-    /// Write a text's case as bytes into a folder
-    Build {
-        text: PathBuf,
-        folder: PathBuf,
-        #[command(flatten)]
-        which: Which,
-    },
-    /// Print a folder's files, or one of them, as text
-    Show {
-        input: PathBuf,
-        /// A text with the names for these bytes
-        #[arg(long)]
-        names: Option<PathBuf>,
-    },
-    /// Draw the graph of a run, or of a folder's steps.bin
-    Draw {
-        input: PathBuf,
-        /// Only this run
-        #[arg(long)]
-        run: Option<String>,
-        /// A text with the names for a folder's bytes
-        #[arg(long)]
-        names: Option<PathBuf>,
-        /// Write the graph's bytes there, and print nothing
-        #[arg(short, long)]
-        output: Option<PathBuf>,
-    },
-    /// The canonical form of a message, such as "exp('g'^~a, inv(~a))"
-    Term {
-        term: String,
-        /// A text with the functions and names
-        #[arg(long)]
-        theory: Option<PathBuf>,
-    },
-    /// The graph of a case as a picture, by the ending: .dot .svg .png .pdf .json
-    Picture {
-        input: PathBuf,
-        output: PathBuf,
-        #[command(flatten)]
-        which: Which,
-        /// A text with the names for a folder's bytes
-        #[arg(long)]
-        names: Option<PathBuf>,
-        /// Leave out the steps that make names
-        #[arg(long)]
-        simplify: bool,
-    },
-    /// All rules of a theory with their numbers and variables
-    Rules { text: PathBuf },
-    /// A row of the refusal table, with an example
-    Explain { number: u32 },
-    /// Lay a text out anew
-    Fmt {
-        text: PathBuf,
-        /// Change the file itself
-        #[arg(long)]
-        write: bool,
-    },
-    /// What a shell needs to complete the arguments
-    Completions { shell: clap_complete::Shell },
-}
 
 /// A check needs 573 KB of stack, and trees of 1,000 levels some more.
 const STACK: usize = 64 << 20;
@@ -165,52 +38,22 @@ pub fn program() {
 
 fn run(arguments: Arguments) -> Result<i32, Failure> {
     match arguments.command {
-        Command::Check {
-            input,
-            which,
-            names,
-            format,
-            json,
-            fail_on,
-        } => {
-            let form = if json { Form::Json } else { format };
-            let cases = cases(&input, &which.choice(), names.as_deref())?;
-            check(&cases, form, &fail_on)
-        }
-        Command::Build {
-            text,
-            folder,
-            which,
-        } => build(&text, &folder, &which.choice()),
+        Command::Check(given) => check(&given),
+        Command::Build(given) => build(&given.text, &given.folder, &given.which.choice()),
         Command::Show { input, names } => {
             let (text, whole) = show::show(&input, names.as_deref())?;
             say(&text);
             Ok(if whole { DONE } else { NO_FILE })
         }
-        Command::Draw {
-            input,
-            run,
-            names,
-            output,
-        } => draw(&input, run, names.as_deref(), output.as_deref()),
+        Command::Draw(given) => draw(&given),
         Command::Term { term, theory } => canonical(&term, theory.as_deref()),
-        Command::Picture {
-            input,
-            output,
-            which,
-            names,
-            simplify,
-        } => {
-            let case = only_case(&input, &which.choice(), names.as_deref())?;
-            draw_picture(&case, &output, simplify)
-        }
+        Command::Picture(given) => draw_picture(&given),
         Command::Rules { text } => rules(&text),
         Command::Explain { number } => explain(number),
         Command::Fmt { text, write } => fmt(&text, write),
         Command::Completions { shell } => {
-            let mut command = Arguments::command();
             let mut script = Vec::new();
-            clap_complete::generate(shell, &mut command, "levtosziv", &mut script);
+            clap_complete::generate(shell, &mut Arguments::command(), "levtosziv", &mut script);
             say(&String::from_utf8_lossy(&script));
             Ok(DONE)
         }
@@ -230,10 +73,12 @@ fn write(path: &Path, bytes: &[u8]) -> Result<(), Failure> {
     std::fs::write(path, bytes).map_err(|e| unwritten(path, e))
 }
 
-fn check(cases: &[Case], form: Form, fail_on: &[FailOn]) -> Result<i32, Failure> {
+fn check(given: &Check) -> Result<i32, Failure> {
+    let form = if given.json { Form::Json } else { given.format };
+    let cases = cases(&given.input, &given.which.choice(), given.names.as_deref())?;
     let mut code = DONE;
     let mut disagreements = Vec::new();
-    for case in cases {
+    for case in &cases {
         let answer = answer(case);
         match form {
             Form::Line => say(&format!("{}\n", answer.line())),
@@ -242,8 +87,8 @@ fn check(cases: &[Case], form: Form, fail_on: &[FailOn]) -> Result<i32, Failure>
         }
         disagreements.extend(answer.disagreement());
         let asked = match answer.word() {
-            "attack" if fail_on.contains(&FailOn::Attack) => ATTACK,
-            "refused" if fail_on.contains(&FailOn::Refused) => REFUSED,
+            "attack" if given.fail_on.contains(&FailOn::Attack) => ATTACK,
+            "refused" if given.fail_on.contains(&FailOn::Refused) => REFUSED,
             _ => DONE,
         };
         // An attack wins over a refusal.
@@ -316,15 +161,11 @@ fn build(text: &Path, folder: &Path, choice: &Choice) -> Result<i32, Failure> {
     Ok(DONE)
 }
 
-fn draw(
-    input: &Path,
-    run: Option<String>,
-    names: Option<&Path>,
-    output: Option<&Path>,
-) -> Result<i32, Failure> {
-    let cases = match input.is_dir() {
-        true => vec![steps_case(input, names)?],
-        false => text_runs(input, run)?,
+fn draw(given: &Draw) -> Result<i32, Failure> {
+    let output = given.output.as_deref();
+    let cases = match given.input.is_dir() {
+        true => vec![steps_case(&given.input, given.names.as_deref())?],
+        false => text_runs(&given.input, given.run.clone())?,
     };
     if output.is_some() && cases.len() > 1 {
         let known: Vec<&str> = cases.iter().map(|case| case.title.as_str()).collect();
@@ -402,7 +243,7 @@ fn canonical(term: &str, theory: Option<&Path>) -> Result<i32, Failure> {
     };
     let (term, names) = match text::parse_term(term, theory.as_ref()) {
         Ok(parsed) => parsed,
-        Err(error) => return Err(Failure::Text(source, error)),
+        Err(error) => return Err(Failure::Text(Box::new((source, error)))),
     };
     let protocol = theory.map(|theory| theory.protocol).unwrap_or_default();
     let mut kernel = Kernel::new(&bytes::encode_protocol(&protocol));
@@ -422,8 +263,10 @@ fn canonical(term: &str, theory: Option<&Path>) -> Result<i32, Failure> {
     Ok(DONE)
 }
 
-fn draw_picture(case: &Case, output: &Path, simplify: bool) -> Result<i32, Failure> {
-    let answer = answer(case);
+fn draw_picture(given: &Picture) -> Result<i32, Failure> {
+    let case = only_case(&given.input, &given.which.choice(), given.names.as_deref())?;
+    let (output, simplify) = (&given.output, given.simplify);
+    let answer = answer(&case);
     let ending = output.extension().map(|ending| ending.to_string_lossy());
     let picture = match ending.as_deref() {
         Some("json") => picture::json(&answer).into_bytes(),
@@ -493,7 +336,7 @@ fn fmt(path: &Path, in_place: bool) -> Result<i32, Failure> {
     let (source, _) = read_theory(path)?;
     let laid_out = match layout::layout(&source.text) {
         Ok(text) => text,
-        Err(error) => return Err(Failure::Text(source, error)),
+        Err(error) => return Err(Failure::Text(Box::new((source, error)))),
     };
     match in_place {
         true => write(path, laid_out.as_bytes())?,

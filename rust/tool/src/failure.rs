@@ -66,7 +66,7 @@ impl Source {
 #[derive(Debug)]
 pub enum Failure {
     Arguments(String),
-    Text(Source, text::Error),
+    Text(Box<(Source, text::Error)>),
     File(String),
     Disagreement(String),
 }
@@ -75,7 +75,8 @@ impl Failure {
     /// Says what happened on standard error, and gives the exit code.
     pub fn report(&self) -> i32 {
         match self {
-            Failure::Text(source, error) => {
+            Failure::Text(both) => {
+                let (source, error) = &**both;
                 source.complain(error);
                 NO_TEXT
             }

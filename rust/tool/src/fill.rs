@@ -140,10 +140,8 @@ impl<'a> Filler<'a> {
         for premise in premises {
             match (premise.symbol, &premise.terms[..]) {
                 (FR, [name]) if !self.has(FR, name) => self.push_rule(FRESH, vec![name.clone()]),
-                (IN, [message]) if !self.has(IN, message) => {
-                    if self.try_to_know(message) {
-                        self.push_rule(ISEND, vec![message.clone()]);
-                    }
+                (IN, [message]) if !self.has(IN, message) && self.try_to_know(message) => {
+                    self.push_rule(ISEND, vec![message.clone()]);
                 }
                 (K, [message]) => {
                     self.try_to_know(message);

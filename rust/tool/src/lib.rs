@@ -2,6 +2,7 @@
 //! canonical form is the core's; the tool encodes, decodes, names, explains and shows.
 
 pub mod answer;
+pub mod arguments;
 pub mod bytes;
 pub mod case;
 pub mod commands;

@@ -16,6 +16,9 @@ const INTRUDER_COLOUR: &str = "#ffffff";
 const WITNESS_COLOUR: &str = "#ffd27f";
 const REFUSED_COLOUR: &str = "#f4b6b6";
 
+/// A fact's text is cut there.
+const MOST_CHARACTERS: usize = 200;
+
 const HEAD: &str = "digraph G {
   graph [fontname=\"Helvetica\", nodesep=0.3, ranksep=0.35];
   node [fontname=\"Helvetica\", fontsize=9, shape=record, height=0.2, margin=\"0.06,0.03\"];
@@ -88,7 +91,11 @@ impl<'a> Picture<'a> {
             .collect();
         let symbol = fact.symbol;
         let names = self.short.names(self.style.names);
-        Style::of(&names).fact(&Fact { symbol, terms }, &self.case.protocol)
+        let text = Style::of(&names).fact(&Fact { symbol, terms }, &self.case.protocol);
+        match text.char_indices().nth(MOST_CHARACTERS) {
+            Some((end, _)) => format!("{}..", &text[..end]),
+            None => text,
+        }
     }
 
     fn ports(&self, facts: &[Fact], letter: char) -> Option<String> {
@@ -172,7 +179,7 @@ impl<'a> Picture<'a> {
         };
         let rows: Vec<String> = self.short.terms.iter().enumerate().map(row).collect();
         format!(
-            "  legend [shape=note, style=filled, fillcolor=\"#fffff0\", color=\"#888888\", label=\"{}\"];\n",
+            "  legend [id=\"legend\", shape=note, style=filled, fillcolor=\"#fffff0\", color=\"#888888\", label=\"{}\"];\n",
             rows.concat()
         )
     }

@@ -34,13 +34,14 @@ pub const ROWS: [Row; 15] = [
         cause: "a file is not laid out as one of its kind",
         item: FILE,
         advice: "A count over its limit, a number not in its shortest form, an undeclared symbol or rule variable, bytes missing or left over.",
-        example: "functions: f0/0, f1/0, f2/0, f3/0, f4/0, f5/0, f6/0, f7/0, f8/0, f9/0, f10/0, f11/0, f12/0, f13/0, f14/0, f15/0, f16/0\nlemma l: F\nrun r:\n",
+        example: "rule A: [ In(a), In(b), In(c), In(d), In(e), In(f), In(g), In(i), In(j) ] --> [ ]\nlemma l: F\nrun r:\n",
     },
     Row {
         number: 4,
         cause: "a rule breaks one of the conditions P1 to P4",
         item: "the rule, from 1",
-        advice: "P1: no fresh name in a rule. P2: no K or Out among premises. P3: no K, In or Fr among conclusions. P4: each variable of a conclusion is in a premise or is of sort public.",
+        advice: "P1: no fresh name in a rule. P2: no K or Out among premises. P3: no K, In or Fr among conclusions. \
+            P4: each variable of a conclusion is in a premise or is of sort public.",
         example: "rule A: [ ] --> [ Out(x) ]\nlemma l: F\nrun r:\n",
     },
     Row {
@@ -54,7 +55,8 @@ pub const ROWS: [Row; 15] = [
         number: 6,
         cause: "there is no such rule",
         item: "the node, from 1",
-        advice: "Rules are numbered 0 to 4, 5 up for each function, 31 up for the protocol's own. In a text a rule has a name, so only bytes can be refused so.",
+        advice: "Rules are numbered 0 to 4, 5 up for each function, 31 up for the protocol's own. \
+            In a text a rule has a name, so only bytes can be refused so.",
         example: "",
     },
     Row {
@@ -69,7 +71,8 @@ pub const ROWS: [Row; 15] = [
         cause: "a filled-in term is too large",
         item: "the node, from 1 (0 for a term)",
         advice: "A term of a rule has at most 256 symbols once the values are in place of its variables, before it is brought to canonical form.",
-        example: "rule A: [ In(x) ] --> [ Out(<x, x, x, x, x, x, x, x, x, x, x, x, x, x, x, x, x>) ]\nlemma l: F\nrun r:\n  A(<'a', 'a', 'a', 'a', 'a', 'a', 'a', 'a'>)\n",
+        example: "rule A: [ In(x) ] --> [ Out(<x, x, x, x, x, x, x, x, x, x, x, x, x, x, x, x, x>) ]\nlemma l: F\n\
+            run r:\n  A(<'a', 'a', 'a', 'a', 'a', 'a', 'a', 'a'>)\n",
     },
     Row {
         number: 9,

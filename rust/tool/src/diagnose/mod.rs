@@ -1,11 +1,13 @@
 //! Words for a refusal. The core has named the cause and the place; this looks there for the reason, and is silent where it finds none.
 
+mod property;
+mod state;
+
 use crate::bytes::{self, Fault, Part};
 use crate::case::*;
 use crate::kernel::{Kernel, Refusal};
 use crate::model::*;
 use crate::print::{self, Style};
-use std::collections::HashMap;
 
 /// Where a refusal is.
 #[derive(Clone, Debug, PartialEq)]
@@ -198,15 +200,9 @@ impl At<'_> {
         let Some(formula) = &self.case.formula else {
             return;
         };
-        let mut search = Unfit {
-            names: &self.case.names,
-            scope: Vec::new(),
-            quantifier: None,
-        };
-        if let Some(reason) = search.formula(formula) {
-            self.say(reason);
-        }
-        if let Some(span) = search.quantifier {
+        let (reason, span) = property::unfit(formula, &self.case.names);
+        self.diagnosis.reasons.extend(reason);
+        if let Some(span) = span {
             self.diagnosis.place = Place::Text(span);
         }
     }
@@ -367,167 +363,5 @@ impl At<'_> {
                 ));
             }
         }
-    }
-
-    /// Runs the steps before the node, and says what its premises lack.
-    fn missing(&mut self, number: usize) {
-        // Of each fact, the steps that made what is in the state, and those that used it up.
-        let mut made: HashMap<&Fact, Vec<usize>> = HashMap::new();
-        let mut used: HashMap<&Fact, usize> = HashMap::new();
-        let mut short = Vec::new();
-        for (n, facts) in self.facts[..number].iter().enumerate() {
-            for premise in &facts.premises {
-                let linear = self.case.protocol.linear(premise.symbol);
-                match made.get_mut(premise) {
-                    Some(makers) if !makers.is_empty() => {
-                        if linear {
-                            makers.remove(0);
-                            used.insert(premise, n + 1);
-                        }
-                    }
-                    _ if n + 1 == number => short.push(premise),
-                    _ => {}
-                }
-            }
-            if n + 1 < number {
-                facts
-                    .conclusions
-                    .iter()
-                    .for_each(|c| made.entry(c).or_default().push(n + 1));
-            }
-        }
-        let mut reasons = Vec::new();
-        for premise in short {
-            let hint = self.why_missing(premise, number, &made, used.get(premise));
-            reasons.push(format!(
-                "{} needs {}: {hint}",
-                self.step(number),
-                self.fact(premise)
-            ));
-        }
-        self.diagnosis.reasons = reasons;
-    }
-
-    fn why_missing(
-        &self,
-        premise: &Fact,
-        number: usize,
-        made: &HashMap<&Fact, Vec<usize>>,
-        used: Option<&usize>,
-    ) -> String {
-        if let Some(by) = used {
-            return format!("it was there, and step {by} used it up");
-        }
-        let later = self.facts[number..]
-            .iter()
-            .position(|f| f.conclusions.contains(premise));
-        if let Some(k) = later {
-            return format!("only step {} makes it, which is later", number + k + 1);
-        }
-        let there = made
-            .iter()
-            .filter(|(fact, makers)| fact.symbol == premise.symbol && !makers.is_empty());
-        let mut there: Vec<String> = there
-            .map(|(fact, makers)| format!("{} (step {})", self.fact(fact), makers[0]))
-            .collect();
-        there.sort();
-        let name = self.case.names.fact(premise.symbol);
-        match there.len() {
-            0 => format!("no {name} is in the state"),
-            1..=6 => format!("in the state: {}", there.join(", ")),
-            more => format!("in the state are {more} other facts {name}"),
-        }
-    }
-}
-
-/// The first place where a property's variable is not as it must be.
-struct Unfit<'a> {
-    names: &'a Names,
-    /// Names and sorts.
-    scope: Vec<(String, u32)>,
-    /// Where it stands in a text.
-    quantifier: Option<Span>,
-}
-
-fn sort_name(sort: u32) -> &'static str {
-    match sort {
-        SORT_TIME => "time",
-        _ => "message",
-    }
-}
-
-impl Unfit<'_> {
-    fn variable(&self, number: u32, sort: u32) -> Option<String> {
-        match self.scope.get(number as usize) {
-            None => Some(format!("variable ?{number} is in no scope")),
-            Some((name, is)) if *is != sort => {
-                let (is, wanted) = (sort_name(*is), sort_name(sort));
-                Some(format!(
-                    "`{name}` is a {is}, and a {wanted} must stand there"
-                ))
-            }
-            _ => None,
-        }
-    }
-
-    fn term(&self, term: &Term) -> Option<String> {
-        match term {
-            Term::Variable(number) => self.variable(*number, SORT_MESSAGE),
-            _ => None,
-        }
-    }
-
-    fn fact(&self, fact: &Fact, time: u32) -> Option<String> {
-        let in_terms = fact.terms.iter().find_map(|term| self.term(term));
-        in_terms.or_else(|| self.variable(time, SORT_TIME))
-    }
-
-    fn formula(&mut self, formula: &Formula) -> Option<String> {
-        let times = |a: &u32, b: &u32| {
-            self.variable(*a, SORT_TIME)
-                .or_else(|| self.variable(*b, SORT_TIME))
-        };
-        match formula {
-            Formula::False => None,
-            Formula::Equal(a, b) | Formula::Unequal(a, b) => self.term(a).or_else(|| self.term(b)),
-            Formula::Before(a, b)
-            | Formula::NotBefore(a, b)
-            | Formula::SameTime(a, b)
-            | Formula::NotSameTime(a, b) => times(a, b),
-            Formula::Action(fact, time) | Formula::NoAction(fact, time) => self.fact(fact, *time),
-            Formula::And(a, b) | Formula::Or(a, b) => self.formula(a).or_else(|| self.formula(b)),
-            Formula::Exists(q) | Formula::ForAll(q) => self.quantified(q),
-        }
-    }
-
-    fn quantified(&mut self, q: &Quantifier) -> Option<String> {
-        let outside = self.scope.len();
-        let before = self.quantifier.clone();
-        for (i, sort) in q.sorts.iter().enumerate() {
-            let written = q.written.as_ref().map(|(names, _)| names[i].clone());
-            self.scope
-                .push((written.unwrap_or(format!("?{}", outside + i)), *sort));
-        }
-        self.quantifier = q.written.as_ref().map(|(_, span)| span.clone());
-        let guard = self.names.fact(q.guard.symbol);
-        let free = (outside..self.scope.len()).find(|n| {
-            let number = *n as u32;
-            let in_guard = q.guard.terms.contains(&Term::Variable(number));
-            q.time != number && !in_guard
-        });
-        let found = match free {
-            Some(n) => Some(format!(
-                "`{}` is new here, and does not stand in the guard {guard}",
-                self.scope[n].0
-            )),
-            None => self
-                .fact(&q.guard, q.time)
-                .or_else(|| self.formula(&q.body)),
-        };
-        self.scope.truncate(outside);
-        if found.is_none() {
-            self.quantifier = before;
-        }
-        found
     }
 }
