@@ -3,7 +3,7 @@
 use crate::case::{line, refusal_line, Case};
 use crate::diagnose::{diagnose, Diagnosis, Place};
 use crate::hint;
-use crate::kernel::{Refusal, Ruling};
+use crate::kernel::{Counts, Refusal, Ruling};
 use crate::print;
 use crate::table;
 use crate::text;
@@ -86,12 +86,12 @@ impl Answer<'_> {
             _ if self.reading == Reading::Differs => return Vec::new(),
             Ruling::Refused(refusal) => return self.refused_words(refusal),
             Ruling::Attack(c) => vec![format!(
-                "An attack: the graph is a run of the protocol ({} steps, {} with an action, {} edges), and `{lemma}` is false of it.",
-                c.nodes, c.with_action, c.edges
+                "An attack: the graph is a run of the protocol ({}), and `{lemma}` is false of it.",
+                counted(c)
             )],
             Ruling::Run(c) => vec![format!(
-                "No attack: the graph is a run of the protocol ({} steps, {} with an action, {} edges), and `{lemma}` holds of it.",
-                c.nodes, c.with_action, c.edges
+                "No attack: the graph is a run of the protocol ({}), and `{lemma}` holds of it.",
+                counted(c)
             )],
         };
         if let Some(witness) = self.witness() {
@@ -203,6 +203,15 @@ impl Answer<'_> {
             Place::Text(_) | Place::Property | Place::Nowhere => None,
         }
     }
+}
+
+fn counted(counts: &Counts) -> String {
+    let plural = |n: u32, word: &str| match n {
+        1 => format!("1 {word}"),
+        _ => format!("{n} {word}s"),
+    };
+    let (nodes, edges) = (plural(counts.nodes, "step"), plural(counts.edges, "edge"));
+    format!("{nodes}, {} with an action, {edges}", counts.with_action)
 }
 
 impl std::fmt::Display for Json {

@@ -271,6 +271,9 @@ impl FormulaPrinter<'_> {
     }
 
     fn atom(&self, atom: &Formula) -> String {
+        if *atom == Formula::truth() {
+            return "T".into();
+        }
         let (positive, text) = match atom {
             Formula::Equal(a, b) | Formula::Unequal(a, b) => (
                 matches!(atom, Formula::Equal(..)),
