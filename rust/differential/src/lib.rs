@@ -15,7 +15,7 @@ pub mod sized;
 /// Step lists whose cost is measured.
 pub mod step_lists;
 
-use levtosziv::{Refusal, Ruling, Written};
+use levtosziv::{Refusal, Ruling};
 use reference::calls::{fit_protocol, Counts, Outcome};
 use reference::cases::{data, expected, facts, Case};
 use reference::number::Reader;
@@ -95,24 +95,24 @@ fn refused(Refusal { number, item }: Refusal) -> Outcome {
 }
 
 /// The proved call's answer in the reference's words.
-pub fn outcome(written: Written) -> Outcome {
+pub fn outcome(written: Result<usize, Refusal>) -> Outcome {
     match written {
-        Written::Length(length) => Outcome::Written(length),
-        Written::Refused(refusal) => refused(refusal),
+        Ok(length) => Outcome::Written(length as u32),
+        Err(refusal) => refused(refusal),
     }
 }
 
 /// The answer of checking.
-pub fn ruled(ruling: Ruling) -> Outcome {
+pub fn ruled(ruling: Result<Ruling, Refusal>) -> Outcome {
     let counts = |counts: levtosziv::Counts| Counts {
         nodes: counts.nodes,
         with_action: counts.with_action,
         edges: counts.edges,
     };
     match ruling {
-        Ruling::Attack(found) => Outcome::Attack(counts(found)),
-        Ruling::Run(found) => Outcome::Run(counts(found)),
-        Ruling::Refused(refusal) => refused(refusal),
+        Ok(Ruling::Attack(found)) => Outcome::Attack(counts(found)),
+        Ok(Ruling::Run(found)) => Outcome::Run(counts(found)),
+        Err(refusal) => refused(refusal),
     }
 }
 

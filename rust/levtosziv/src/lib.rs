@@ -1,34 +1,58 @@
 //! The proved calls, safe to use from Rust. What the C header asks of a caller, Rust's types ensure: the slices do not overlap, and
 //! each pointer is good for its length.
+//!
+//! Document 01's printed case, a party that sends its secret in the clear:
+//!
+//! ```
+//! use levtosziv::{Ruling, Work};
+//!
+//! let protocol = [0, 1, 1, 0, 1, 1, 1, 1, 0, 0, 0, 1, 4, 0, 0, 1, 2, 0, 0];
+//! let property = [12, 2, 0, 3, 4, 0, 0, 1, 12, 1, 3, 3, 0, 0, 2, 0];
+//! let steps = [4, 0, 2, 7, 31, 2, 7, 1, 2, 7, 2, 2, 7];
+//!
+//! let mut work = Work::new();
+//! let mut graph = vec![0; levtosziv::GRAPH_BYTES];
+//! let length = work.draw(&protocol, &steps, &mut graph)?;
+//! match work.check(&protocol, &property, &graph[..length])? {
+//!     Ruling::Attack(counts) => assert_eq!((counts.nodes, counts.edges), (4, 3)),
+//!     Ruling::Run(_) => unreachable!("the secret is sent"),
+//! }
+//! # Ok::<(), levtosziv::Refusal>(())
+//! ```
+//!
+//! A call needs stack beside its work area: checking was measured to need 573 KB at most, so a thread with 1 MB left has enough.
 
-/// Document 01's refusal: its number and its item.
-#[derive(Clone, Copy, Debug, PartialEq, Eq)]
-pub struct Refusal {
-    pub number: u32,
-    pub item: u32,
-}
+#![deny(missing_docs)]
 
-/// What drawing and canonical form answer: the length written, or a refusal.
-#[derive(Clone, Copy, Debug, PartialEq, Eq)]
-pub enum Written {
-    Length(u32),
-    Refused(Refusal),
-}
+mod refusal;
+
+pub use refusal::{Cause, Refusal};
+
+/// The bytes of a work area; a longer one does no harm.
+pub const WORK_BYTES: usize = 65_536;
+/// An output of so many bytes is long enough for every graph.
+pub const GRAPH_BYTES: usize = 61_440;
+/// An output of so many bytes is long enough for every term.
+pub const TERM_BYTES: usize = 1_024;
 
 /// "nodes, nodes with an action, edges"
 #[derive(Clone, Copy, Debug, PartialEq, Eq)]
 pub struct Counts {
+    /// The nodes of the graph.
     pub nodes: u32,
+    /// Those of them whose rule has an action.
     pub with_action: u32,
+    /// The edges of the graph.
     pub edges: u32,
 }
 
-/// What checking answers: the graph is an attack, a run, or refused.
+/// What checking says of an accepted graph.
 #[derive(Clone, Copy, Debug, PartialEq, Eq)]
 pub enum Ruling {
+    /// The property is false of the graph's trace.
     Attack(Counts),
+    /// The property holds of it.
     Run(Counts),
-    Refused(Refusal),
 }
 
 extern "C" {
@@ -75,31 +99,42 @@ fn refusal(answer: u64) -> Refusal {
 }
 
 /// The outcome of drawing or of canonical form.
-fn written(answer: u64) -> Written {
+fn written(answer: u64) -> Result<usize, Refusal> {
     match answer >> 56 {
-        0 => Written::Refused(refusal(answer)),
-        3 => Written::Length(answer as u32),
+        0 => Err(refusal(answer)),
+        3 => Ok(answer as u32 as usize),
         other => unreachable!("no outcome has the number {other}"),
     }
 }
 
 /// The outcome of checking.
-fn ruling(answer: u64) -> Ruling {
+fn ruling(answer: u64) -> Result<Ruling, Refusal> {
     let counts = Counts {
         nodes: u32::from((answer >> 32) as u16),
         with_action: u32::from((answer >> 16) as u16),
         edges: u32::from(answer as u16),
     };
     match answer >> 56 {
-        0 => Ruling::Refused(refusal(answer)),
-        1 => Ruling::Attack(counts),
-        2 => Ruling::Run(counts),
+        0 => Err(refusal(answer)),
+        1 => Ok(Ruling::Attack(counts)),
+        2 => Ok(Ruling::Run(counts)),
         other => unreachable!("no outcome has the number {other}"),
     }
 }
 
 /// Rules on the graph under the protocol, and judges the property over its trace.
-pub fn check(protocol: &[u8], property: &[u8], graph: &[u8], work: &mut [u8]) -> Ruling {
+///
+/// ```
+/// let mut work = vec![0; levtosziv::WORK_BYTES];
+/// let refused = levtosziv::check(&[0, 0, 0], &[0], &[], &mut work).unwrap_err();
+/// assert_eq!(refused.to_string(), "refused 3 3: a file is not laid out as one of its kind (the graph)");
+/// ```
+pub fn check(
+    protocol: &[u8],
+    property: &[u8],
+    graph: &[u8],
+    work: &mut [u8],
+) -> Result<Ruling, Refusal> {
     // SAFETY: each pointer is that of a slice with the length beside it, and the borrows keep the slices apart.
     ruling(unsafe {
         levtosziv_check(
@@ -115,8 +150,20 @@ pub fn check(protocol: &[u8], property: &[u8], graph: &[u8], work: &mut [u8]) ->
     })
 }
 
-/// Writes a graph of the steps, which are a run of the protocol, to the start of the output.
-pub fn draw(protocol: &[u8], steps: &[u8], output: &mut [u8], work: &mut [u8]) -> Written {
+/// Writes a graph of the steps, which are a run of the protocol, to the start of the output; gives its length.
+///
+/// ```
+/// let mut work = vec![0; levtosziv::WORK_BYTES];
+/// let mut output = [0xFF; 4];
+/// assert_eq!(levtosziv::draw(&[0, 0, 0], &[0], &mut output, &mut work), Ok(2));
+/// assert_eq!(output, [0, 0, 0xFF, 0xFF]); // no nodes, no edges
+/// ```
+pub fn draw(
+    protocol: &[u8],
+    steps: &[u8],
+    output: &mut [u8],
+    work: &mut [u8],
+) -> Result<usize, Refusal> {
     // SAFETY: each pointer is that of a slice with the length beside it, and the borrows keep the slices apart.
     written(unsafe {
         levtosziv_draw(
@@ -132,8 +179,22 @@ pub fn draw(protocol: &[u8], steps: &[u8], output: &mut [u8], work: &mut [u8]) -
     })
 }
 
-/// Writes the canonical form of the term file's term, read under the protocol, to the start of the output.
-pub fn canonical_form(protocol: &[u8], term: &[u8], output: &mut [u8], work: &mut [u8]) -> Written {
+/// Writes the canonical form of the term file's term, read under the protocol, to the start of the output; gives its length.
+///
+/// ```
+/// let mut work = vec![0; levtosziv::WORK_BYTES];
+/// let mut output = [0; levtosziv::TERM_BYTES];
+/// let inverse_of_one = [11, 3];
+/// let length = levtosziv::canonical_form(&[0, 0, 0], &inverse_of_one, &mut output, &mut work)?;
+/// assert_eq!(output[..length], [3]);
+/// # Ok::<(), levtosziv::Refusal>(())
+/// ```
+pub fn canonical_form(
+    protocol: &[u8],
+    term: &[u8],
+    output: &mut [u8],
+    work: &mut [u8],
+) -> Result<usize, Refusal> {
     // SAFETY: each pointer is that of a slice with the length beside it, and the borrows keep the slices apart.
     written(unsafe {
         levtosziv_canonical(
@@ -147,4 +208,56 @@ pub fn canonical_form(protocol: &[u8], term: &[u8], output: &mut [u8], work: &mu
             work.len(),
         )
     })
+}
+
+/// A work area of its own, for any number of calls.
+///
+/// ```
+/// let mut work = levtosziv::Work::new();
+/// assert!(work.check(&[0, 0, 0], &[0], &[0, 0]).is_ok());
+/// ```
+#[derive(Clone, Debug)]
+pub struct Work(Box<[u8]>);
+
+impl Work {
+    /// An area of [`WORK_BYTES`].
+    pub fn new() -> Self {
+        Work(vec![0; WORK_BYTES].into_boxed_slice())
+    }
+
+    /// As [`check`].
+    pub fn check(
+        &mut self,
+        protocol: &[u8],
+        property: &[u8],
+        graph: &[u8],
+    ) -> Result<Ruling, Refusal> {
+        check(protocol, property, graph, &mut self.0)
+    }
+
+    /// As [`draw`].
+    pub fn draw(
+        &mut self,
+        protocol: &[u8],
+        steps: &[u8],
+        output: &mut [u8],
+    ) -> Result<usize, Refusal> {
+        draw(protocol, steps, output, &mut self.0)
+    }
+
+    /// As [`canonical_form`].
+    pub fn canonical_form(
+        &mut self,
+        protocol: &[u8],
+        term: &[u8],
+        output: &mut [u8],
+    ) -> Result<usize, Refusal> {
+        canonical_form(protocol, term, output, &mut self.0)
+    }
+}
+
+impl Default for Work {
+    fn default() -> Self {
+        Work::new()
+    }
 }

@@ -3,7 +3,7 @@
 use crate::case::{line, refusal_line, Case};
 use crate::diagnose::{diagnose, Diagnosis, Place};
 use crate::hint;
-use crate::kernel::{Counts, Refusal, Ruling};
+use crate::kernel::{Counts, Refusal, Ruled, Ruling};
 use crate::print;
 use crate::table;
 use crate::text;
@@ -13,7 +13,7 @@ use serde::Serialize;
 /// What a case was answered, and what the tool adds to it.
 pub struct Answer<'a> {
     pub case: &'a Case,
-    pub ruling: Ruling,
+    pub ruling: Ruled,
     pub reading: Reading,
     pub diagnosis: Option<Diagnosis>,
     pub hint: Option<String>,
@@ -23,7 +23,7 @@ pub struct Answer<'a> {
 pub fn answer(case: &Case) -> Answer<'_> {
     let ruling = case.ruling();
     let diagnosis = match &ruling {
-        Ruling::Refused(refusal) => Some(diagnose(case, refusal)),
+        Err(refusal) => Some(diagnose(case, refusal)),
         _ => None,
     };
     let reading = witness::read(case, &ruling);
@@ -47,15 +47,15 @@ impl Answer<'_> {
 
     pub fn word(&self) -> &'static str {
         match self.ruling {
-            Ruling::Attack(_) => "attack",
-            Ruling::Run(_) => "run",
-            Ruling::Refused(_) => "refused",
+            Ok(Ruling::Attack(_)) => "attack",
+            Ok(Ruling::Run(_)) => "run",
+            Err(_) => "refused",
         }
     }
 
     pub fn refusal(&self) -> Option<&Refusal> {
         match &self.ruling {
-            Ruling::Refused(refusal) => Some(refusal),
+            Err(refusal) => Some(refusal),
             _ => None,
         }
     }
@@ -84,12 +84,12 @@ impl Answer<'_> {
         let lemma = &self.case.lemma;
         let mut words = match &self.ruling {
             _ if self.reading == Reading::Differs => return Vec::new(),
-            Ruling::Refused(refusal) => return self.refused_words(refusal),
-            Ruling::Attack(c) => vec![format!(
+            Err(refusal) => return self.refused_words(refusal),
+            Ok(Ruling::Attack(c)) => vec![format!(
                 "An attack: the graph is a run of the protocol ({}), and `{lemma}` is false of it.",
                 counted(c)
             )],
-            Ruling::Run(c) => vec![format!(
+            Ok(Ruling::Run(c)) => vec![format!(
                 "No attack: the graph is a run of the protocol ({}), and `{lemma}` holds of it.",
                 counted(c)
             )],
@@ -106,7 +106,7 @@ impl Answer<'_> {
         let Some(row) = table::row(refusal.number) else {
             return Vec::new();
         };
-        let mut words = vec![format!("Refused: {}.", row.cause)];
+        let mut words = vec![format!("Refused: {}.", row.cause.words())];
         if let Some(diagnosis) = &self.diagnosis {
             words.extend(diagnosis.reasons.clone());
         }
@@ -162,7 +162,7 @@ impl Answer<'_> {
         let mut reasons = diagnosis.reasons.iter().cloned();
         Some(text::Error {
             span,
-            message: format!("{}: {}", refusal_line(refusal), row.cause),
+            message: format!("{}: {}", refusal_line(refusal), row.cause.words()),
             label: reasons.next().unwrap_or_default(),
             notes: reasons.collect(),
         })
@@ -170,8 +170,8 @@ impl Answer<'_> {
 
     pub fn json(&self) -> Json {
         let counts = match self.ruling {
-            Ruling::Attack(counts) | Ruling::Run(counts) => Some(counts),
-            Ruling::Refused(_) => None,
+            Ok(Ruling::Attack(counts) | Ruling::Run(counts)) => Some(counts),
+            Err(_) => None,
         };
         Json {
             case: self.case.title.clone(),

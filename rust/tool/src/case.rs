@@ -3,7 +3,7 @@
 use crate::bytes;
 use crate::failure::{Failure, Source};
 use crate::fill;
-use crate::kernel::{Kernel, Refusal, Ruling};
+use crate::kernel::{Kernel, Refusal, Ruled, Ruling};
 use crate::model::*;
 use crate::text::{self, near, Lemma, Run, Theory};
 use std::fs::File;
@@ -54,27 +54,27 @@ impl Case {
     }
 
     /// The core's answer. Where drawing refused, protocol and property are asked about first, with the empty graph.
-    pub fn ruling(&self) -> Ruling {
+    pub fn ruling(&self) -> Ruled {
         let mut kernel = self.kernel();
         let Some(refusal) = self.undrawn else {
             return kernel.check(&self.property_bytes, &self.graph_bytes);
         };
         if refusal.number <= 2 {
-            return Ruling::Refused(refusal);
+            return Err(refusal);
         }
         match kernel.check(&self.property_bytes, &[0, 0]) {
-            Ruling::Refused(earlier) => Ruling::Refused(earlier),
-            _ => Ruling::Refused(refusal),
+            Err(earlier) => Err(earlier),
+            _ => Err(refusal),
         }
     }
 }
 
 /// The answer as the report program prints it.
-pub fn line(ruling: &Ruling) -> String {
+pub fn line(ruling: &Ruled) -> String {
     match ruling {
-        Ruling::Attack(c) => format!("attack {} {} {}", c.nodes, c.with_action, c.edges),
-        Ruling::Run(c) => format!("run {} {} {}", c.nodes, c.with_action, c.edges),
-        Ruling::Refused(refusal) => refusal_line(refusal),
+        Ok(Ruling::Attack(c)) => format!("attack {} {} {}", c.nodes, c.with_action, c.edges),
+        Ok(Ruling::Run(c)) => format!("run {} {} {}", c.nodes, c.with_action, c.edges),
+        Err(refusal) => refusal_line(refusal),
     }
 }
 

@@ -198,7 +198,7 @@ fn say_undrawn(case: &Case, refusal: &Refusal) {
     say(&format!("{}: {}\n", case.title, refusal_line(refusal)));
     let answer = Answer {
         case,
-        ruling: crate::kernel::Ruling::Refused(*refusal),
+        ruling: Err(*refusal),
         reading: crate::witness::Reading::Silent,
         diagnosis: Some(diagnose(case, refusal)),
         hint: None,
@@ -256,7 +256,7 @@ fn canonical(term: &str, theory: Option<&Path>) -> Result<i32, Failure> {
         Err(refusal) => {
             say(&format!("{}\n", refusal_line(&refusal)));
             if let Some(row) = table::row(refusal.number) {
-                say(&format!("  Refused: {}.\n", row.cause));
+                say(&format!("  Refused: {}.\n", row.cause.words()));
             }
         }
     }
@@ -321,7 +321,7 @@ fn explain(number: u32) -> Result<i32, Failure> {
         );
         return Err(Failure::Arguments(message));
     };
-    say(&format!("refused {number}: {}\n", row.cause));
+    say(&format!("refused {number}: {}\n", row.cause.words()));
     say(&format!("The item is {}.\n{}\n", row.item, row.advice));
     if !row.example.is_empty() {
         say("\nFor example, this text is refused so:\n\n");

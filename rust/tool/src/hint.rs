@@ -2,7 +2,7 @@
 
 use crate::bytes;
 use crate::case::Case;
-use crate::kernel::{Kernel, Ruling};
+use crate::kernel::{Kernel, Ruled, Ruling};
 use crate::model::*;
 use crate::print::Style;
 
@@ -10,8 +10,9 @@ use crate::print::Style;
 const MOST_TRIED: usize = 64;
 
 /// Of a run whose property names K: what the intruder knows at its end and never sends.
-pub fn never_sent(case: &Case, ruling: &Ruling) -> Option<String> {
-    let (Some(graph), Some(formula), Ruling::Run(_)) = (&case.graph, &case.formula, ruling) else {
+pub fn never_sent(case: &Case, ruling: &Ruled) -> Option<String> {
+    let (Some(graph), Some(formula), Ok(Ruling::Run(_))) = (&case.graph, &case.formula, ruling)
+    else {
         return None;
     };
     if !formula.names(K) {
@@ -71,6 +72,6 @@ fn attacks_if_sent(case: &Case, graph: &Graph, message: &Term, kernel: &mut Kern
         values: vec![message.clone()],
     });
     let drawn = kernel.draw(&bytes::encode_steps(&nodes));
-    let ruling = drawn.map(|graph| kernel.check(&case.property_bytes, &graph));
+    let ruling = drawn.and_then(|graph| kernel.check(&case.property_bytes, &graph));
     matches!(ruling, Ok(Ruling::Attack(_)))
 }

@@ -2,48 +2,45 @@
 
 use crate::bytes;
 use crate::model::*;
-pub use levtosziv::{Counts, Refusal, Ruling, Written};
+pub use levtosziv::{Counts, Refusal, Ruling};
+use levtosziv::{Work, GRAPH_BYTES, TERM_BYTES};
 
-const WORK_BYTES: usize = 65_536;
-const TERM_BYTES: usize = 1_024;
+/// What checking answers.
+pub type Ruled = Result<Ruling, Refusal>;
 
 /// The calls under one protocol.
 pub struct Kernel {
     protocol: Vec<u8>,
-    work: Vec<u8>,
+    work: Work,
 }
 
 impl Kernel {
     pub fn new(protocol: &[u8]) -> Self {
         Kernel {
             protocol: protocol.to_vec(),
-            work: vec![0; WORK_BYTES],
+            work: Work::new(),
         }
     }
 
-    pub fn check(&mut self, property: &[u8], graph: &[u8]) -> Ruling {
-        levtosziv::check(&self.protocol, property, graph, &mut self.work)
+    pub fn check(&mut self, property: &[u8], graph: &[u8]) -> Ruled {
+        self.work.check(&self.protocol, property, graph)
     }
 
     pub fn draw(&mut self, steps: &[u8]) -> Result<Vec<u8>, Refusal> {
-        let mut output = vec![0; limits::GRAPH_BYTES];
-        match levtosziv::draw(&self.protocol, steps, &mut output, &mut self.work) {
-            Written::Length(length) => {
-                output.truncate(length as usize);
-                Ok(output)
-            }
-            Written::Refused(refusal) => Err(refusal),
-        }
+        let mut output = vec![0; GRAPH_BYTES];
+        let length = self.work.draw(&self.protocol, steps, &mut output)?;
+        output.truncate(length);
+        Ok(output)
     }
 
     /// The canonical form of a term. None where the core's answer is no term of the protocol, which no proved core gives.
     pub fn canonical(&mut self, term: &Term, declared: &Protocol) -> Result<Option<Term>, Refusal> {
         let mut output = [0; TERM_BYTES];
         let term = bytes::encode_term(term);
-        match levtosziv::canonical_form(&self.protocol, &term, &mut output, &mut self.work) {
-            Written::Length(length) => Ok(bytes::term(&output[..length as usize], declared).ok()),
-            Written::Refused(refusal) => Err(refusal),
-        }
+        let length = self
+            .work
+            .canonical_form(&self.protocol, &term, &mut output)?;
+        Ok(bytes::term(&output[..length], declared).ok())
     }
 
     /// The canonical form, or the term itself where the core gives none.

@@ -1,7 +1,7 @@
 //! The actions that make a property false. The core has ruled; this reads the property once more, only to show why, and is compared with the ruling.
 
 use crate::case::Case;
-use crate::kernel::Ruling;
+use crate::kernel::{Ruled, Ruling};
 use crate::model::*;
 use crate::print::Style;
 use serde::Serialize;
@@ -50,11 +50,11 @@ pub enum Reading {
 /// Comparisons of a guard with an action before the reading is given up.
 const MOST_COMPARISONS: usize = 5_000_000;
 
-pub fn read(case: &Case, ruling: &Ruling) -> Reading {
+pub fn read(case: &Case, ruling: &Ruled) -> Reading {
     let (Some(graph), Some(formula)) = (&case.graph, &case.formula) else {
         return Reading::Silent;
     };
-    if matches!(ruling, Ruling::Refused(_)) {
+    if ruling.is_err() {
         return Reading::Silent;
     }
     let mut kernel = case.kernel();
@@ -70,8 +70,8 @@ pub fn read(case: &Case, ruling: &Ruling) -> Reading {
         return Reading::Silent;
     }
     match (ruling, found) {
-        (Ruling::Attack(_), Some(witness)) => Reading::Agrees(Some(witness)),
-        (Ruling::Run(_), None) => Reading::Agrees(None),
+        (Ok(Ruling::Attack(_)), Some(witness)) => Reading::Agrees(Some(witness)),
+        (Ok(Ruling::Run(_)), None) => Reading::Agrees(None),
         _ => Reading::Differs,
     }
 }

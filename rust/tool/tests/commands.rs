@@ -63,14 +63,15 @@ fn exit_codes() {
 fn each_refusal_is_explained_by_an_example_that_is_refused_so() {
     let folder = folder("explained");
     for row in ROWS {
-        let said = stdout(&levtosziv(&["explain", &row.number.to_string()], &folder));
-        assert!(said.starts_with(&format!("refused {}: {}\n", row.number, row.cause)));
+        let (number, cause) = (row.cause as u32, row.cause.words());
+        let said = stdout(&levtosziv(&["explain", &number.to_string()], &folder));
+        assert!(said.starts_with(&format!("refused {number}: {cause}\n")));
         if row.example.is_empty() {
             continue;
         }
         put(&folder, &[("t.lev", row.example.as_bytes())]);
         let output = stdout(&levtosziv(&["check", "t.lev"], &folder));
-        let head = format!("error: refused {} ", row.number);
+        let head = format!("error: refused {number} ");
         assert!(output.contains(&head), "{output}");
         assert!(output.contains("--> t.lev:"), "{output}");
         let json = stdout(&levtosziv(&["check", "t.lev", "--json"], &folder));

@@ -20,11 +20,11 @@ fn explained(folder: &Path) {
     }
     let answer = answer(&case);
     assert_ne!(answer.reading, Reading::Differs, "{folder:?}");
-    if let Ruling::Refused(refusal) = answer.ruling {
+    if let Err(refusal) = answer.ruling {
         let reasons = &answer.diagnosis.as_ref().unwrap().reasons;
         assert!(!reasons.is_empty(), "{folder:?}: refused {refusal:?}");
     }
-    if let Ruling::Attack(_) = answer.ruling {
+    if let Ok(Ruling::Attack(_)) = answer.ruling {
         assert!(answer.witness().is_some(), "{folder:?}");
     }
 }

@@ -31,7 +31,7 @@ fn held(input: &CheckInput, folder: &std::path::Path) -> bool {
     let answer = answer(&case);
     assert_ne!(answer.reading, Reading::Differs);
     match answer.ruling {
-        Ruling::Refused(refusal) => {
+        Err(refusal) => {
             let reasons = &answer.diagnosis.as_ref().unwrap().reasons;
             assert!(!reasons.is_empty(), "refused {refusal:?}");
             match refusal.number {
@@ -79,7 +79,7 @@ fn drawn() {
         let case = case_of(&folder);
         let answer = answer(&case);
         assert_ne!(answer.reading, Reading::Differs);
-        if let Ruling::Refused(refusal) = answer.ruling {
+        if let Err(refusal) = answer.ruling {
             let reasons = &answer.diagnosis.as_ref().unwrap().reasons;
             assert!(!reasons.is_empty(), "refused {refusal:?}");
         }

@@ -6,7 +6,7 @@
 use differential::sized::{
     actions, chain, deductions, nested, nothing, term, Files, CHAINS, GUARDS, TERMS,
 };
-use levtosziv::{Ruling, Written};
+use levtosziv::{Refusal, Ruling};
 use reference::calls::{Outcome, WORK_AREA};
 use reference::corpus::cases;
 use reference::refusal::File;
@@ -83,8 +83,8 @@ impl Bench {
         }
         let [mut work, mut their_work] = [(); 2].map(|()| vec![0; WORK_AREA]);
         let said = match check(files, &mut work) {
-            Ruling::Attack(counts) | Ruling::Run(counts) => counts,
-            refused => panic!("{name}: {refused:?}"),
+            Ok(Ruling::Attack(counts) | Ruling::Run(counts)) => counts,
+            Err(refusal) => panic!("{name}: {refusal}"),
         };
         if self.once {
             return None;
@@ -94,7 +94,7 @@ impl Bench {
             name,
             &said,
             || {
-                black_box(check(files, &mut work));
+                let _ = black_box(check(files, &mut work));
             },
             || {
                 black_box(check_by_reference(files, &mut their_work));
@@ -122,7 +122,7 @@ impl Bench {
             &format!(", {} of them together", all.len()),
             || {
                 for files in &all {
-                    black_box(check(files, &mut work));
+                    let _ = black_box(check(files, &mut work));
                 }
             },
             || {
@@ -141,9 +141,7 @@ impl Bench {
         let [mut work, mut their_work] = [(); 2].map(|()| vec![0; WORK_AREA]);
         let [mut output, mut their_output] = [(); 2].map(|()| vec![0; File::Graph.limit()]);
         let drawn = draw(files, &mut output, &mut work);
-        let Written::Length(length) = drawn else {
-            panic!("{name}: {drawn:?}");
-        };
+        let length = drawn.unwrap_or_else(|refusal| panic!("{name}: {refusal}"));
         if self.once {
             return None;
         }
@@ -151,7 +149,7 @@ impl Bench {
             name,
             &format!(" ({} bytes to {length})", files.steps.len()),
             || {
-                black_box(draw(files, &mut output, &mut work));
+                let _ = black_box(draw(files, &mut output, &mut work));
             },
             || {
                 let call = reference::calls::draw;
@@ -199,7 +197,8 @@ impl Bench {
                     &format!("{shape}, {names} names"),
                     "",
                     || {
-                        black_box(levtosziv::canonical_form(&protocol, &term, output, work));
+                        let call = levtosziv::canonical_form;
+                        let _ = black_box(call(&protocol, &term, output, work));
                     },
                     || {
                         let call = reference::calls::canonical_form;
@@ -227,11 +226,11 @@ impl Bench {
     }
 }
 
-fn check(files: &Files, work: &mut [u8]) -> levtosziv::Ruling {
+fn check(files: &Files, work: &mut [u8]) -> Result<Ruling, Refusal> {
     levtosziv::check(&files.protocol, &files.property, &files.graph, work)
 }
 
-fn draw(files: &Files, output: &mut [u8], work: &mut [u8]) -> Written {
+fn draw(files: &Files, output: &mut [u8], work: &mut [u8]) -> Result<usize, Refusal> {
     levtosziv::draw(&files.protocol, &files.steps, output, work)
 }
 
