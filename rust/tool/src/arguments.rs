@@ -61,6 +61,7 @@ pub struct Check {
     /// A text with the names for a folder's bytes
     #[arg(long)]
     pub names: Option<PathBuf>,
+    /// How the answer is written
     #[arg(long, value_enum, default_value = "words")]
     pub format: Form,
     /// The same as --format json
@@ -148,4 +149,7 @@ pub enum Command {
     },
     /// What a shell needs to complete the arguments
     Completions { shell: clap_complete::Shell },
+    /// The man page
+    #[command(hide = true)]
+    Man,
 }

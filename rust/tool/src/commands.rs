@@ -8,6 +8,7 @@ use crate::diagnose::diagnose;
 use crate::failure::*;
 use crate::kernel::{Kernel, Refusal};
 use crate::layout;
+use crate::man;
 use crate::model::*;
 use crate::picture;
 use crate::print::{self, Style};
@@ -55,6 +56,12 @@ fn run(arguments: Arguments) -> Result<i32, Failure> {
             let mut script = Vec::new();
             clap_complete::generate(shell, &mut Arguments::command(), "levtosziv", &mut script);
             say(&String::from_utf8_lossy(&script));
+            Ok(DONE)
+        }
+        Command::Man => {
+            let mut command = Arguments::command();
+            command.build();
+            say(&man::page(&command));
             Ok(DONE)
         }
     }

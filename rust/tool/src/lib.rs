@@ -12,6 +12,7 @@ pub mod fill;
 pub mod hint;
 pub mod kernel;
 pub mod layout;
+pub mod man;
 pub mod model;
 pub mod picture;
 pub mod print;
