@@ -54,10 +54,7 @@ impl Answer<'_> {
     }
 
     pub fn refusal(&self) -> Option<&Refusal> {
-        match &self.ruling {
-            Err(refusal) => Some(refusal),
-            _ => None,
-        }
+        self.ruling.as_ref().err()
     }
 
     pub fn witness(&self) -> Option<&Witness> {

@@ -32,8 +32,6 @@ pub fn program() {
         .spawn(|| run(arguments).unwrap_or_else(|failure| failure.report()))
         .ok()
         .and_then(|thread| thread.join().ok());
-    // Where standard output is closed there is no one to write to.
-    let _ = std::io::stdout().flush();
     std::process::exit(code.unwrap_or(DISAGREEMENT));
 }
 
@@ -67,9 +65,20 @@ fn run(arguments: Arguments) -> Result<i32, Failure> {
     }
 }
 
-/// To standard output. A reader that has gone away is no failure.
+/// To standard output. A reader that has gone away is no failure; any other reason ends the program.
 fn say(text: &str) {
-    let _ = std::io::stdout().write_all(text.as_bytes());
+    let mut out = std::io::stdout();
+    let written = out.write_all(text.as_bytes()).and_then(|()| out.flush());
+    if let Err(error) = written.or_else(ignore_closed) {
+        std::process::exit(Failure::File(format!("standard output: {error}")).report());
+    }
+}
+
+fn ignore_closed(error: std::io::Error) -> std::io::Result<()> {
+    match error.kind() {
+        std::io::ErrorKind::BrokenPipe => Ok(()),
+        _ => Err(error),
+    }
 }
 
 fn unwritten(path: &Path, error: std::io::Error) -> Failure {

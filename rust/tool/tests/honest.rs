@@ -47,7 +47,9 @@ fn a_core_that_refuses_all() {
         assert_eq!(stdout(&words), format!("{name} / property: refused 99 0\n"));
         assert_eq!(words.status.code(), Some(11));
         let json = stdout(&said(&["check", ".", "--json"]));
-        let expected = format!("{{\"case\":\"{name}\",\"property\":\"property\",\"line\":\"refused 99 0\",\"ruling\":\"refused\",\"refusal\":99,\"item\":0,\"words\":[]}}\n");
+        let case =
+            format!("{{\"case\":\"{name}\",\"property\":\"property\",\"line\":\"refused 99 0\"");
+        let expected = case + ",\"ruling\":\"refused\",\"refusal\":99,\"item\":0,\"words\":[]}\n";
         assert_eq!(json, expected);
         assert_eq!(
             stdout(&said(&["draw", "."])),

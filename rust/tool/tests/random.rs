@@ -7,7 +7,6 @@ use reference::calls::WORK_AREA;
 use reference::generate::graphs::{check_input, draw_input, session_input, CheckInput};
 use reference::random::Random;
 use tool::answer::answer;
-use tool::kernel::Ruling;
 use tool::witness::Reading;
 
 const CASES: usize = 600;

@@ -31,10 +31,23 @@ fn damaged(text: &str, random: &mut Random) -> String {
         match random.below(3) {
             0 => text.insert_str(from, PIECES[random.below(PIECES.len())]),
             1 => text.replace_range(from..to, ""),
-            _ => text.insert_str(from, &text[from..to].to_string()),
+            _ => {
+                let again = text[from..to].to_string();
+                text.insert_str(from, &again);
+            }
         }
     }
     text
+}
+
+/// What `fmt` must keep.
+fn tokens_and_comments(text: &str) -> Vec<String> {
+    let pieces = text::pieces(text).unwrap();
+    let said = pieces.into_iter().map(|piece| match piece {
+        text::Piece::Token(token, _) => format!("{token:?}"),
+        text::Piece::Comment(span) => text[span].trim_end().to_string(),
+    });
+    said.collect()
 }
 
 /// All that is made of an answer.
@@ -68,6 +81,7 @@ fn texts() {
             Ok(_) => {
                 parsed += 1;
                 let laid_out = layout::layout(&text).unwrap();
+                assert_eq!(tokens_and_comments(&laid_out), tokens_and_comments(&text));
                 assert_eq!(layout::layout(&laid_out).unwrap(), laid_out);
                 std::fs::write(&file, &text).unwrap();
                 for case in cases(&file, &Choice::default(), None).unwrap_or_default() {

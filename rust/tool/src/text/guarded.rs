@@ -22,6 +22,20 @@ struct Pending<'a> {
     span: &'a Span,
 }
 
+impl Pending<'_> {
+    /// The new variables that a guard binds: those that stand in it; if no other action could bind the rest, all, and the core refuses.
+    fn bound_by(&mut self, fact: &RawFact, time: &Raw) -> Scope {
+        let new = std::mem::take(&mut self.new);
+        if !self.conditions.iter().any(|condition| is_action(condition)) {
+            return new;
+        }
+        let standing = |(name, _): &(String, u32)| stands(fact, time, name);
+        let (bound, left) = new.into_iter().partition(standing);
+        self.new = left;
+        bound
+    }
+}
+
 fn boxed(join: fn(Box<Formula>, Box<Formula>) -> Formula) -> impl Fn(Formula, Formula) -> Formula {
     move |a, b| join(Box::new(a), Box::new(b))
 }
@@ -182,18 +196,8 @@ impl Resolver {
                 "a guard is an action in front, such as A(x) @ #i",
             );
         };
-        let new = std::mem::take(&mut pending.new);
-        let standing = |(name, _): &&(String, u32)| stands(fact, time, name);
-        let left: Scope = new.iter().filter(|v| !standing(v)).cloned().collect();
-        let nested = !left.is_empty() && pending.conditions.iter().any(|c| is_action(c));
-        // What no action holds is left with the last guard, where the core refuses it.
-        let bound = match nested {
-            true => new.iter().filter(standing).cloned().collect(),
-            false => new,
-        };
-        if nested {
-            pending.new = left;
-        }
+        let bound = pending.bound_by(fact, time);
+        let nested = !pending.new.is_empty();
         let outside = scope.len();
         scope.extend(bound.iter().cloned());
         let guard = self.action_fact(fact, scope)?;

@@ -44,11 +44,10 @@ impl Resolver {
         let mut steps = Vec::new();
         for step in &raw.steps {
             match step {
+                RawStep::Let(name, term) if self.tag(name).is_some() => {
+                    return error(term.span.clone(), format!("`{name}` is a function"), "");
+                }
                 RawStep::Let(name, term) => {
-                    if self.tag(name).is_some() {
-                        let message = format!("`{name}` is a function");
-                        return error(term.span.clone(), message, "");
-                    }
                     let term = self.value(term, &scope)?;
                     scope.lets.insert(name.clone(), term);
                 }
