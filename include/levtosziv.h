@@ -109,7 +109,7 @@ static inline const char *levtosziv_words(unsigned refusal)
     case LEVTOSZIV_WORK_AREA_SHORT: return "the work area is short";
     case LEVTOSZIV_FILE_TOO_LONG: return "a file is over its byte limit";
     case LEVTOSZIV_LAYOUT: return "a file is not laid out as one of its kind";
-    case LEVTOSZIV_CONDITIONS_BROKEN: return "a rule breaks one of the conditions P1 to P4";
+    case LEVTOSZIV_CONDITIONS_BROKEN: return "a rule breaks one of the conditions P1 to P5";
     case LEVTOSZIV_VARIABLE: return "a variable of the property is out of scope, of the wrong sort, or new and not in its guard";
     case LEVTOSZIV_NO_SUCH_RULE: return "there is no such rule";
     case LEVTOSZIV_VALUE: return "a value is not canonical, holds a variable, has the wrong sort, or is too large";

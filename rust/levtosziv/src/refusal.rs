@@ -22,7 +22,7 @@ pub enum Cause {
     FileTooLong = 2,
     /// A file is not laid out as one of its kind; the item is the file.
     Layout = 3,
-    /// A rule breaks one of the conditions P1 to P4; the item is the rule, from 1.
+    /// A rule breaks one of the conditions P1 to P5; the item is the rule, from 1.
     ConditionsBroken = 4,
     /// A variable of the property is out of scope, of the wrong sort, or new and not in its guard; the item is 0.
     Variable = 5,
@@ -74,7 +74,7 @@ impl Cause {
             Cause::WorkAreaShort => "the work area is short",
             Cause::FileTooLong => "a file is over its byte limit",
             Cause::Layout => "a file is not laid out as one of its kind",
-            Cause::ConditionsBroken => "a rule breaks one of the conditions P1 to P4",
+            Cause::ConditionsBroken => "a rule breaks one of the conditions P1 to P5",
             Cause::Variable => "a variable of the property is out of scope, of the wrong sort, or new and not in its guard",
             Cause::NoSuchRule => "there is no such rule",
             Cause::Value => "a value is not canonical, holds a variable, has the wrong sort, or is too large",

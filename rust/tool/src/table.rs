@@ -38,7 +38,8 @@ pub const ROWS: [Row; 15] = [
         cause: Cause::ConditionsBroken,
         item: "the rule, from 1",
         advice: "P1: no fresh name in a rule. P2: no K or Out among premises. P3: no K, In or Fr among conclusions. \
-            P4: each variable of a conclusion is in a premise or is of sort public.",
+            P4: each variable of a conclusion is in a premise or is of sort public. \
+            P5: so is each variable of an action.",
         example: "rule A: [ ] --> [ Out(x) ]\nlemma l: F\nrun r:\n",
     },
     Row {

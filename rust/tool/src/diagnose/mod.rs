@@ -184,13 +184,32 @@ impl At<'_> {
         {
             self.say(format!("P3: rule {name} has the conclusion {}; no K, In or Fr is a conclusion of a protocol's rule", said(fact)));
         }
+        self.unbound(number);
+    }
+
+    /// P4 and P5: variables of a rule that are not public and stand in no premise.
+    fn unbound(&mut self, number: usize) {
+        let case = self.case;
+        let rule = &case.protocol.rules[number - 1];
+        let name = &case.names.rules[number - 1];
+        let style = Style {
+            names: &case.names,
+            variables: Some((&case.names.variables[number - 1], &rule.sorts)),
+        };
+        let lists = [
+            ("P4", "a conclusion", &rule.conclusions),
+            ("P5", "an action", &rule.actions),
+        ];
         for n in (0..rule.sorts.len()).filter(|n| rule.sorts[*n] != SORT_PUBLIC) {
-            let variable = n as u32;
-            let holds = |fact: &Fact| fact.terms.iter().any(|t| t.holds_variable(variable));
-            if rule.conclusions.iter().any(holds) && !rule.premises.iter().any(holds) {
-                let variable = style.term(&Term::Variable(variable));
+            let variable = Term::Variable(n as u32);
+            let holds = |fact: &Fact| fact.terms.iter().any(|t| t.holds_variable(n as u32));
+            if rule.premises.iter().any(holds) {
+                continue;
+            }
+            for (condition, list, _) in lists.iter().filter(|(.., facts)| facts.iter().any(holds)) {
+                let variable = style.term(&variable);
                 self.say(format!(
-                    "P4: {variable} stands in a conclusion of rule {name} and in no premise"
+                    "{condition}: {variable} stands in {list} of rule {name} and in no premise"
                 ));
             }
         }
