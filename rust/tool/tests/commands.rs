@@ -60,6 +60,24 @@ fn exit_codes() {
 }
 
 #[test]
+fn a_recorded_variable_without_a_premise_is_named() {
+    let folder = folder("recorded");
+    let theory = "rule A: [ In(x) ] --[ A(x) ]-> [ ]
+rule B: [ In(x) ] --[ A(h(y)) ]-> [ ]
+rule C: [ ] --[ A($x) ]-> [ ]
+lemma l: F
+run r:
+";
+    put(&folder, &[("recorded.lev", theory.as_bytes())]);
+    let said = stdout(&levtosziv(&["check", "recorded.lev"], &folder));
+    assert!(said.contains("refused 4 2"), "{said}");
+    assert!(
+        said.contains("P5: y stands in an action of rule B and in no premise"),
+        "{said}"
+    );
+}
+
+#[test]
 fn each_refusal_is_explained_by_an_example_that_is_refused_so() {
     let folder = folder("explained");
     for row in ROWS {
