@@ -17,8 +17,8 @@ use Rattle.lists.specs.Some.{Some, here, later}
 use Rattle.rewriting.specs.Facts.{Facts, count, linears, persistents}
 use Rattle.rewriting.specs.Facts.Laws.{same-left, count-same, count-linears}
 use Rattle.rewriting.specs.Graph.{Node, nameOf}
-use Rattle.rewriting.specs.Machine.{State, start, ran, madeAlready, lacks, fails, after, runFrom, run, IsRun}
-use Rattle.rewriting.specs.Machine.Laws.{failed-ran, Enough, lacks-enough, enough-lacks}
+use Rattle.rewriting.specs.Machine.{State, start, ran, madeAlready, lacks, fails, after, runFrom, IsRun}
+use Rattle.rewriting.specs.Machine.Laws.{failed-ran, lacks-enough, enough-lacks}
 use Rattle.rewriting.specs.Rewriting.{Contents, empty, Leaves, Takes, entered, Reaches, Rewrites}
 use Rattle.rewriting.specs.Rewriting as rewriting
 
