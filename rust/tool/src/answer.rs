@@ -91,8 +91,12 @@ impl Answer<'_> {
                 counted(c)
             )],
         };
-        if let Some(witness) = self.witness() {
-            words.extend(self.witness_words(witness));
+        match &self.reading {
+            Reading::Agrees(Some(witness)) => words.extend(self.witness_words(witness)),
+            Reading::Silent => {
+                words.push("To say why, the property takes too long to read.".into())
+            }
+            _ => {}
         }
         words.extend(self.formula_words());
         words.extend(self.hint.clone());
@@ -127,12 +131,15 @@ impl Answer<'_> {
 
     /// The formula as written, and the guarded form that was judged.
     fn formula_words(&self) -> Vec<String> {
-        let (Some(written), Some(formula)) = (&self.case.as_written, &self.case.formula) else {
+        let Some(formula) = &self.case.formula else {
             return Vec::new();
+        };
+        let judged = print::formula(formula, &self.case.names);
+        let Some(written) = &self.case.as_written else {
+            return vec![format!("as judged: {judged}")];
         };
         let written: Vec<&str> = written.split_whitespace().collect();
         let written = written.join(" ");
-        let judged = print::formula(formula, &self.case.names);
         match written == judged {
             true => vec![format!("as written and judged: {judged}")],
             false => vec![
