@@ -1,7 +1,7 @@
 -- The rows by a statement that the test decides say what those by the test say, and 14 what the machine says.
 use mathlib.Core.Path.{_≡_, refl}
 use mathlib.Core.Logic.{_↔_}
-use mathlib.Core.Bool.{true}
+use mathlib.Core.Bool.{Bool, true}
 use mathlib.Core.List.{List}
 use mathlib.Core.Option.{some}
 use Prim.Native.Nat.{ℕ, zero, suc}
@@ -19,6 +19,20 @@ use Rattle.rewriting.specs.Table.Laws.{RestateAll, as-it-stands}
 use Rattle.rewriting.specs.Causes.{NameTwice, EndMissing, FactsDiffer, NotOneEdge, UsedTwice, graphRows, PremisesMissing, drawRows}
 use Rattle.rewriting.specs.Whole.{Lacking, machineRows}
 
+-- two facts that differ do so by every statement that makes them the same
+differ-as :
+    {Fact : Type 0} {Same Other : Fact → Fact → Type 0} {linear : Fact → Bool} {nodes : List (Node Fact)} {edges : List Edge} {k : ℕ}
+    → (h : FactsDiffer Same linear nodes edges k) → (Other (h .from) (h .to) → Same (h .from) (h .to)) → FactsDiffer Other linear nodes edges k
+differ-as h f = record {
+  edge = h .edge;
+  stands = h .stands;
+  from = h .from;
+  to = h .to;
+  has-source = h .has-source;
+  has-target = h .has-target;
+  differ = λ s. h .differ (f s);
+}
+
 -- ── a graph: the test decides between the conclusions and the premises of the nodes ──
 module _
     (F : Facts)
@@ -29,24 +43,8 @@ module _
     (edges : List Edge) where
   differ-exactly : (k : ℕ) → FactsDiffer (Tested F) (F .linear) nodes edges k ↔ FactsDiffer Same (F .linear) nodes edges k
   differ-exactly k = (
-    (λ h. record {
-      edge = h .edge;
-      stands = h .stands;
-      from = h .from;
-      to = h .to;
-      has-source = h .has-source;
-      has-target = h .has-target;
-      differ = λ s. h .differ (decides (h .edge .source) (h .edge .target) (h .from) (h .to) (h .has-source) (h .has-target) .1 s);
-    }),
-    (λ h. record {
-      edge = h .edge;
-      stands = h .stands;
-      from = h .from;
-      to = h .to;
-      has-source = h .has-source;
-      has-target = h .has-target;
-      differ = λ t. h .differ (decides (h .edge .source) (h .edge .target) (h .from) (h .to) (h .has-source) (h .has-target) .0 t);
-    }),
+    (λ h. differ-as h (decides (h .edge .source) (h .edge .target) (h .from) (h .to) (h .has-source) (h .has-target) .1)),
+    (λ h. differ-as h (decides (h .edge .source) (h .edge .target) (h .from) (h .to) (h .has-source) (h .has-target) .0)),
   )
 
   pub graph-rows : RestateAll (graphRows (Tested F) (F .linear) nodes edges) (graphRows Same (F .linear) nodes edges)
