@@ -20,7 +20,7 @@ use Rattle.rewriting.specs.Refusals.{graphPasses}
 module _ (F : Facts) (nodes : List (Node (F .Fact))) (edges : List Edge) where
   open Facts F using (Fact, same, linear)
 
-  absent-accepted : Absent (graphRows (Tested F) linear nodes edges) → Accepted F nodes edges
+  absent-accepted : Absent (graphRows (Tested F) linear nodes edges) → Accepted (Tested F) (F .linear) nodes edges
   absent-accepted (names, (ends, (facts, (fed, (spent, _))))) = record {
     joins = λ e m.
         let (i, s) = mem-nth edges e m in
@@ -55,7 +55,7 @@ module _ (F : Facts) (nodes : List (Node (F .Fact))) (edges : List Edge) where
     names-once = names-once nodes (absent-none nodes names);
   }
 
-  accepted-absent : Accepted F nodes edges → Absent (graphRows (Tested F) linear nodes edges)
+  accepted-absent : Accepted (Tested F) (F .linear) nodes edges → Absent (graphRows (Tested F) linear nodes edges)
   accepted-absent acc = (
     none-absent nodes (once-names nodes (acc .names-once)),
     (
@@ -83,18 +83,18 @@ module _ (F : Facts) (nodes : List (Node (F .Fact))) (edges : List Edge) where
   )
 
   -- "a graph is accepted exactly when": no row of 9 to 13 applies to the accepted graphs, and to no other.
-  pub absent-exactly : Absent (graphRows (Tested F) linear nodes edges) ↔ Accepted F nodes edges
+  pub absent-exactly : Absent (graphRows (Tested F) linear nodes edges) ↔ Accepted (Tested F) (F .linear) nodes edges
   absent-exactly = (absent-accepted, accepted-absent)
 
   module _ {A : Type 0} (a : A) where
     -- The passes answer what the table says, and the value that they hand on is good if it is good of an accepted graph.
     pub check-table :
-        (Good : A → Type 0) → (Accepted F nodes edges → Good a)
+        (Good : A → Type 0) → (Accepted (Tested F) (F .linear) nodes edges → Good a)
         → Ruled (graphRows (Tested F) linear nodes edges) Good (checkGraph F nodes edges a)
     check-table Good h = ruled Good (graphPasses F nodes edges) a (λ n. h (absent-accepted n))
 
     -- The passes let through just the accepted graphs.
-    pub check-accepted : (checkGraph F nodes edges a ≡ passed a) ↔ Accepted F nodes edges
+    pub check-accepted : (checkGraph F nodes edges a ≡ passed a) ↔ Accepted (Tested F) (F .linear) nodes edges
     check-accepted = (
       (λ e. absent-accepted (passed-absent (λ b. b ≡ a) (graphRows (Tested F) linear nodes edges) (checkGraph F nodes edges a) a table e)),
       (λ acc.

@@ -6,7 +6,8 @@ use mathlib.Core.Option.{Option, none, some}
 use Prim.Native.Nat.{ℕ, _≤_, _<_}
 use lib.Dec.{eqb}
 use Rattle.lists.specs.Lists.{_∈_, countBy, nth}
-use Rattle.rewriting.specs.Facts.{Facts}
+-- An accepted graph by another statement of equality.
+pub mod Laws
 
 -- A node: "A node's facts are its rule's, with the node's values in place of the variables", and the name that it makes
 -- ("Rule 0 makes Fr(fresh)", no other rule makes one).
@@ -64,20 +65,21 @@ outOf a edges = countBy (λ e. samePlace a (e .source)) edges
 abbrev pub NamesOnce : {Fact : Type 0} → List (Node Fact) → Type 0
 NamesOnce nodes = (m : ℕ) → countBy (eqb m) (namesOf nodes) ≤ 1
 
-module _ (F : Facts) where
+-- When two facts are the same is a statement here, and nothing says how it is decided.
+module _ {Fact : Type 0} (Same : Fact → Fact → Type 0) where
   -- "each edge from an earlier node, its two facts equal": a conclusion and a premise that are there.
-  pub record Joins (nodes : List (Node (F .Fact))) (e : Edge) : Type 0 where
-    pub from : F .Fact
-    pub to : F .Fact
+  pub record Joins (nodes : List (Node Fact)) (e : Edge) : Type 0 where
+    pub from : Fact
+    pub to : Fact
     pub has-source : conclusionAt nodes (e .source) ≡ some from
     pub has-target : premiseAt nodes (e .target) ≡ some to
     pub earlier : e .source .node < e .target .node
-    pub facts-same : F .same from to ≡ true
+    pub facts-same : Same from to
 
   -- "An accepted graph has: each edge from an earlier node, its two facts equal; just one edge into each premise;
   -- at most one out of each linear conclusion; no name made twice."
-  pub record Accepted (nodes : List (Node (F .Fact))) (edges : List Edge) : Type 0 where
+  pub record Accepted (linear : Fact → Bool) (nodes : List (Node Fact)) (edges : List Edge) : Type 0 where
     pub joins : (e : Edge) → e ∈ edges → Joins nodes e
-    pub one-into : (a : Place) (f : F .Fact) → premiseAt nodes a ≡ some f → into a edges ≡ 1
-    pub one-out : (a : Place) (f : F .Fact) → conclusionAt nodes a ≡ some f → F .linear f ≡ true → outOf a edges ≤ 1
+    pub one-into : (a : Place) (f : Fact) → premiseAt nodes a ≡ some f → into a edges ≡ 1
+    pub one-out : (a : Place) (f : Fact) → conclusionAt nodes a ≡ some f → linear f ≡ true → outOf a edges ≤ 1
     pub names-once : NamesOnce nodes

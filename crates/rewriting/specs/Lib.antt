@@ -9,6 +9,8 @@ pub mod Graph
 pub mod Machine
 -- the same by a statement of equality: what a node takes from the state and leaves
 pub mod Rewriting
+-- the writer's edges: for each premise the earliest source
+pub mod Earliest
 -- the refusal table as data: rows, what they say of an answer, passes
 pub mod Table
 -- causes 9 to 14, in the table's words, and the rows of a graph and of a drawing

@@ -11,7 +11,7 @@ use Rattle.lists.specs.Tests.{and-split, and-both, le-leb, leb-sum}
 use Rattle.lists.specs.Lists.{_∈_, countBy, anyBy}
 use Rattle.lists.specs.Lists.Laws.{count-append, count-pos, count-mem, any-mem, any-pos}
 use Rattle.lists.specs.Lists.Pairing.{covers, packs}
-use Rattle.rewriting.specs.Facts.{Facts, count}
+use Rattle.rewriting.specs.Facts.{Facts, count, Tested}
 use Rattle.rewriting.specs.Graph.{Node, Place, Edge, samePlace, nameOf, namesOf, premiseAt, conclusionAt, Accepted}
 use Rattle.rewriting.specs.Machine.{State, start, ran, madeAlready, after, runFrom, IsRun}
 use Rattle.rewriting.specs.Machine.Laws.{enough-lacks, bag-after, set-after}
@@ -20,7 +20,7 @@ use Rattle.rewriting.specs.Places.Laws.{place-eq, place-self, placedAll-
 use Rattle.rewriting.specs.Places.Laws.{placedAll-once, once-apart, placed-node, placed-count}
 use Rattle.rewriting.specs.Names.{fresh-name}
 
-module _ (F : Facts) (nodes : List (Node (F .Fact))) (edges : List Edge) (acc : Accepted F nodes edges) where
+module _ (F : Facts) (nodes : List (Node (F .Fact))) (edges : List Edge) (acc : Accepted (Tested F) (F .linear) nodes edges) where
   open Facts F using (Fact, same, linear, same-refl, same-sym, same-trans, same-linear)
 
   -- `ws` are premises of nodes up to `k`, and `ms` are all conclusions of the nodes before it.

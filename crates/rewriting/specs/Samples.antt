@@ -1,8 +1,10 @@
 -- Small cases, computed: facts are numbers, those below 100 linear. A checked graph hands on how many edges it has.
 use mathlib.Core.Path.{_≡_, refl, ap, sym, _∙_}
+use mathlib.Core.Bool.{Bool}
 use mathlib.Core.List.{List, [], _∷_, _++_}
 use mathlib.Core.Option.{none, some}
 use Prim.Native.Nat.{ℕ, _<_}
+use native.Mathlib.Omega.{arith}
 use lib.Dec.{eqb, ltb}
 use lib.ListN.{length}
 use Rattle.lists.specs.Tests.{eqb-eq, eqb-self}
@@ -15,7 +17,10 @@ use Rattle.rewriting.specs.Table.Passes.{lessPass, needPass}
 use Rattle.rewriting.specs.Causes.{graphRows}
 use Rattle.rewriting.specs.Writer.{draw}
 use Rattle.rewriting.specs.Checker.{checkGraph}
-use Rattle.rewriting.specs.Acceptance.{check-table}
+use Rattle.rewriting.specs.Acceptance.{check-table, check-accepted}
+use Rattle.rewriting.specs.Earliest.{Earliest}
+use Rattle.rewriting.specs.Earliest.Laws.{earliest-unique}
+use Rattle.rewriting.specs.Draws.{draws-earliest}
 use Rattle.rewriting.specs.Whole.{machineRows, draw-table}
 
 abbrev Numbers : Facts
@@ -28,6 +33,9 @@ Numbers = record {
   same-trans = λ f g h a b. ap (λ n. eqb f n) (sym (eqb-eq g h b)) ∙ a;
   same-linear = λ f g h. ap (λ n. ltb n 100) (eqb-eq f g h);
 }
+
+abbrev isLinear : ℕ → Bool
+isLinear f = ltb f 100
 
 abbrev node : List ℕ → List ℕ → Node ℕ
 node ps cs = record { premises = ps; conclusions = cs; makes = none }
@@ -151,12 +159,12 @@ no-nodes-edge = refl
 
 -- Other rows in front of a graph's: the answer is ruled by all of them, and a graph that passes is accepted.
 in-front : (F : Facts) (nodes : List (Node (F .Fact))) (edges : List Edge) (work n : ℕ) →
-    Ruled (fixedRow 1 0 (work < 65536) ∷ graphRows (Tested F) (F .linear) nodes edges) (λ (m : ℕ). (m ≡ n) × Accepted F nodes edges)
+    Ruled (fixedRow 1 0 (work < 65536) ∷ graphRows (Tested F) (F .linear) nodes edges) (λ (m : ℕ). (m ≡ n) × Accepted (Tested F) (F .linear) nodes edges)
     (rulingThen (lessPass 1 0 work 65536 ∷ []) (checkGraph F nodes edges n))
 in-front F nodes edges work n =
-    ruled-then (λ (m : ℕ). (m ≡ n) × Accepted F nodes edges) (lessPass 1 0 work 65536 ∷ [])
+    ruled-then (λ (m : ℕ). (m ≡ n) × Accepted (Tested F) (F .linear) nodes edges) (lessPass 1 0 work 65536 ∷ [])
     (graphRows (Tested F) (F .linear) nodes edges) (checkGraph F nodes edges n)
-    (λ h. check-table F nodes edges n (λ (m : ℕ). (m ≡ n) × Accepted F nodes edges) (λ acc. (refl, acc)))
+    (λ h. check-table F nodes edges n (λ (m : ℕ). (m ≡ n) × Accepted (Tested F) (F .linear) nodes edges) (λ acc. (refl, acc)))
 
 -- "Drawing: .. 9, 14, 15" and the length written, for any length of a list of edges.
 module _ (F : Facts) (nodes : List (Node (F .Fact))) (size : List Edge → ℕ) (room : ℕ) where
@@ -164,11 +172,13 @@ module _ (F : Facts) (nodes : List (Node (F .Fact))) (size : List Edge → ℕ) 
   written = andThen (draw F nodes) (λ es. rulingOf (needPass 15 room (size es) ∷ []) (size es))
 
   written-ruled : Ruled (machineRows F nodes ++ rowsAfter (draw F nodes) (λ es. fixedRow 15 (size es) (room < size es) ∷ []))
-      (λ n. (es : List Edge) × Accepted F nodes es × (n ≡ size es)) written
+      (λ n. (es : List Edge) × Earliest (Tested F) (F .linear) nodes es × (n ≡ size es)) written
   written-ruled =
-      ruled-and-then (Accepted F nodes) (λ n. (es : List Edge) × Accepted F nodes es × (n ≡ size es)) (machineRows F nodes) (draw F nodes)
-      (λ es. fixedRow 15 (size es) (room < size es) ∷ []) (λ es. rulingOf (needPass 15 room (size es) ∷ []) (size es)) (draw-table F nodes)
-      (λ es acc e. ruled (λ n. (fs : List Edge) × Accepted F nodes fs × (n ≡ size fs)) (needPass 15 room (size es) ∷ []) (size es) (λ h. (es, acc, refl)))
+      ruled-and-then (Earliest (Tested F) (F .linear) nodes) (λ n. (es : List Edge) × Earliest (Tested F) (F .linear) nodes es × (n ≡ size es))
+      (machineRows F nodes) (draw F nodes) (λ es. fixedRow 15 (size es) (room < size es) ∷ [])
+      (λ es. rulingOf (needPass 15 room (size es) ∷ []) (size es)) (draw-table F nodes)
+      (λ es g e. ruled (λ n. (fs : List Edge) × Earliest (Tested F) (F .linear) nodes fs × (n ≡ size fs)) (needPass 15 room (size es) ∷ []) (size es)
+      (λ h. (es, g, refl)))
 
 short : written Numbers twins (λ es. length es) 3 ≡ refused 15 4
 short = refl
@@ -178,3 +188,39 @@ long-enough = refl
 
 no-run-first : written Numbers lone (λ es. length es) 0 ≡ refused 14 2
 no-run-first = refl
+
+-- ── the earliest source ──
+-- Two equal linear premises take the two lowest conclusions, which stand at one node.
+abbrev pair : List (Node ℕ)
+pair = node [] (5 ∷ 5 ∷ []) ∷ node (5 ∷ 5 ∷ []) [] ∷ []
+
+pair-earliest : Earliest (Tested Numbers) isLinear pair (edge 1 1 2 1 ∷ edge 1 2 2 2 ∷ [])
+pair-earliest = draws-earliest Numbers pair (edge 1 1 2 1 ∷ edge 1 2 2 2 ∷ []) .0 refl .1
+
+-- Crossed, they are accepted too, and they are not what the writer draws; nor are they in another order.
+pair-crossed : Accepted (Tested Numbers) isLinear pair (edge 1 2 2 1 ∷ edge 1 1 2 2 ∷ [])
+pair-crossed = check-accepted Numbers pair (edge 1 2 2 1 ∷ edge 1 1 2 2 ∷ []) (tt {0}) .0 refl
+
+pair-turned : Accepted (Tested Numbers) isLinear pair (edge 1 2 2 2 ∷ edge 1 1 2 1 ∷ [])
+pair-turned = check-accepted Numbers pair (edge 1 2 2 2 ∷ edge 1 1 2 1 ∷ []) (tt {0}) .0 refl
+
+not-earliest : (nodes : List (Node ℕ)) (d e : Edge) (ds es : List Edge) → draw Numbers nodes ≡ passed (d ∷ ds) → (d .source .index ≡ e .source .index → ⊥)
+    → Earliest (Tested Numbers) isLinear nodes (e ∷ es) → ⊥
+not-earliest nodes d e ds es h n g =
+    let i = earliest-unique (Tested Numbers) isLinear nodes (d ∷ ds) (e ∷ es) (draws-earliest Numbers nodes (d ∷ ds) .0 h .1) g in
+    let j : d ≡ e = cc in
+    n (ap (λ (c : Edge). c .source .index) j)
+
+pair-crossed-not : Earliest (Tested Numbers) isLinear pair (edge 1 2 2 1 ∷ edge 1 1 2 2 ∷ []) → ⊥
+pair-crossed-not = not-earliest pair (edge 1 1 2 1) (edge 1 2 2 1) (edge 1 2 2 2 ∷ []) (edge 1 1 2 2 ∷ []) refl (λ e. omega arith)
+
+pair-turned-not : Earliest (Tested Numbers) isLinear pair (edge 1 2 2 2 ∷ edge 1 1 2 1 ∷ []) → ⊥
+pair-turned-not = not-earliest pair (edge 1 1 2 1) (edge 1 2 2 2) (edge 1 2 2 2 ∷ []) (edge 1 1 2 1 ∷ []) refl (λ e. omega arith)
+
+-- The lowest node, and then the lowest conclusion: conclusion 2 of node 1 before conclusion 1 of node 2.
+lower-node : draw Numbers (node [] (4 ∷ 5 ∷ []) ∷ node [] (5 ∷ []) ∷ node (5 ∷ []) [] ∷ []) ≡ passed (edge 1 2 3 1 ∷ [])
+lower-node = refl
+
+-- A linear conclusion that an earlier premise uses is passed over; a persistent one serves again.
+passed-over : draw Numbers (node [] (5 ∷ []) ∷ node (5 ∷ []) (5 ∷ []) ∷ node (5 ∷ []) [] ∷ []) ≡ passed (edge 1 1 2 1 ∷ edge 2 1 3 1 ∷ [])
+passed-over = refl

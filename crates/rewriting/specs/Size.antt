@@ -8,7 +8,7 @@ use lib.ListN.{length, length-append}
 use Rattle.lists.specs.Lists.{_∈_, countBy}
 use Rattle.lists.specs.Lists.Laws.{count-all}
 use Rattle.lists.specs.Lists.Pairing.{covers, packs}
-use Rattle.rewriting.specs.Facts.{Facts}
+use Rattle.rewriting.specs.Facts.{Facts, Tested}
 use Rattle.rewriting.specs.Graph.{Node, Edge, samePlace, Accepted}
 use Rattle.rewriting.specs.Places.{Placed, placed, premisesFrom}
 use Rattle.rewriting.specs.Places.Laws.{place-self, placed-stands, stands-placed, placedAll-once, once-apart}
@@ -28,7 +28,7 @@ module _ {Fact : Type 0} where
   premises-length k (x ∷ xs) =
       length-append (placed k 1 (x .premises)) (premisesFrom (suc k) xs) ∙ ap₂ (λ m n. m + n) (placed-length k 1 (x .premises)) (premises-length (suc k) xs)
 
-pub accepted-size : (F : Facts) (nodes : List (Node (F .Fact))) (edges : List Edge) → Accepted F nodes edges → length edges ≡ premiseCount nodes
+pub accepted-size : (F : Facts) (nodes : List (Node (F .Fact))) (edges : List Edge) → Accepted (Tested F) (F .linear) nodes edges → length edges ≡ premiseCount nodes
 accepted-size F nodes edges acc =
     omega (
       arith,

@@ -7,7 +7,7 @@ use mathlib.Core.Option.{Option, none, some}
 use Prim.Native.Nat.{ℕ, suc}
 use Rattle.lists.specs.Tests.{by-bool}
 use Rattle.lists.specs.Lists.{nth, before, leaves, scan}
-use Rattle.rewriting.specs.Facts.{Facts}
+use Rattle.rewriting.specs.Facts.{Facts, Tested}
 use Rattle.rewriting.specs.Graph.{Node, Edge, NamesOnce, Accepted}
 use Rattle.rewriting.specs.Machine.{State, start, ran, madeAlready, lacks, fails, after, run, IsRun}
 use Rattle.rewriting.specs.Machine.Laws.{stop, stop-scan, clear-ran, ran-left, made-left}
@@ -17,11 +17,13 @@ use Rattle.rewriting.specs.Table.Scans.{Hit, scan-finds, least-clear}
 use Rattle.rewriting.specs.Causes.{NameTwice}
 use Rattle.rewriting.specs.Places.{Placed}
 use Rattle.rewriting.specs.Writer.{addNode, edgesInto, freeAfter, drawFrom, draw}
-use Rattle.rewriting.specs.Names.{already-earlier, names-once, absent-none, namePass, run-names}
-use Rattle.rewriting.specs.Draws.{Agree, from-agrees, drawn-accepted, drawn-accepts, draws-exactly, refused-no-run, refused-none}
+use Rattle.rewriting.specs.Names.{already-earlier, absent-none, namePass, run-names}
+use Rattle.rewriting.specs.Earliest.{Earliest}
+use Rattle.rewriting.specs.Earliest.Drawn.{from-earliest}
+use Rattle.rewriting.specs.Draws.{Agree, from-agrees, drawn-accepts, draws-exactly, draws-earliest, refused-no-run, refused-none}
 
 module _ (F : Facts) where
-  open Facts F using (Fact)
+  open Facts F using (Fact, linear)
 
   -- 14 as the machine finds it: it has gone through the nodes before `k`, and its state lacks a premise of `k`.
   pub record Lacking (nodes : List (Node Fact)) (k : ℕ) : Type 0 where
@@ -82,17 +84,17 @@ module _ (F : Facts) where
       add-number k (edgesInto F k 1 free (x .premises)) (drawFrom F (suc k) (freeAfter F k free x) xs) (draw-number (suc k) xs (freeAfter F k free x)) n j e
 
   -- "Drawing: .. 9, 14": the writer's answer is what the table says, 9 over the whole list before 14, the first such node;
-  -- and what it draws is accepted.
-  pub draw-table : (nodes : List (Node Fact)) → Ruled (machineRows nodes) (Accepted F nodes) (draw F nodes)
+  -- and what it draws has the earliest sources.
+  pub draw-table : (nodes : List (Node Fact)) → Ruled (machineRows nodes) (Earliest (Tested F) linear nodes) (draw F nodes)
   draw-table nodes =
-      ruled-then (Accepted F nodes) (namePass nodes ∷ []) (row 14 (Lacking nodes) ∷ []) (drawFrom F 1 [] nodes)
+      ruled-then (Earliest (Tested F) linear nodes) (namePass nodes ∷ []) (row 14 (Lacking nodes) ∷ []) (drawFrom F 1 [] nodes)
       (λ n. premises (n .0) (drawFrom F 1 [] nodes) refl (from-agrees F nodes (absent-none nodes (n .0))))
     where
       premises : ((k : ℕ) → NameTwice nodes k → ⊥) → (d : Ruling (List Edge)) → drawFrom F 1 [] nodes ≡ d → Agree F d (run F nodes) →
-          Ruled (row 14 (Lacking nodes) ∷ []) (Accepted F nodes) d
+          Ruled (row 14 (Lacking nodes) ∷ []) (Earliest (Tested F) linear nodes) d
       premises n (passed es) e (s, r) = let f = stops nodes n in inl (
         (rw r at f),
-        (es, drawn-accepted F nodes es (names-once nodes (absent-none nodes n)) e, refl),
+        (es, from-earliest F nodes es e, refl),
       )
       premises n (refused m k) e a =
           let f = stops nodes n in
@@ -105,7 +107,8 @@ module _ (F : Facts) where
     pub is-drawn : draw F nodes ≡ passed edges
     pub is-run : IsRun F nodes
     pub no-name-twice : NamesOnce nodes
-    pub is-accepted : Accepted F nodes edges
+    pub is-accepted : Accepted (Tested F) linear nodes edges
+    pub is-earliest : Earliest (Tested F) linear nodes edges
 
   -- "If the list is no run, then the writer refuses it .. with 9 or 14 .., and no graph of these steps in this order is accepted,
   -- whatever its edges":
@@ -115,21 +118,28 @@ module _ (F : Facts) where
     pub is-refused : draw F nodes ≡ refused number item
     pub says : Says (machineRows nodes) number item
     pub no-run : IsRun F nodes → ⊥
-    pub no-graph : (edges : List Edge) → Accepted F nodes edges → ⊥
+    pub no-graph : (edges : List Edge) → Accepted (Tested F) linear nodes edges → ⊥
 
   pub whole : (nodes : List (Node Fact)) → IsDrawn nodes ⊎ IsRefused nodes
   whole nodes = go (draw F nodes) refl (draw-table nodes)
     where
-      go : (d : Ruling (List Edge)) → draw F nodes ≡ d → Ruled (machineRows nodes) (Accepted F nodes) d → IsDrawn nodes ⊎ IsRefused nodes
+      go : (d : Ruling (List Edge)) → draw F nodes ≡ d → Ruled (machineRows nodes) (Earliest (Tested F) linear nodes) d → IsDrawn nodes ⊎ IsRefused nodes
       go (passed es) e t =
           let r = draws-exactly F nodes .0 (es, e) in
-          inl (record { edges = es; is-drawn = e; is-run = r; no-name-twice = run-names F nodes r; is-accepted = drawn-accepts F nodes es e })
+          inl (record {
+            edges = es;
+            is-drawn = e;
+            is-run = r;
+            no-name-twice = run-names F nodes r;
+            is-accepted = drawn-accepts F nodes es e;
+            is-earliest = draws-earliest F nodes es .0 e .1;
+          })
       go (refused n k) e t =
           inr (record {
             number = n;
             item = k;
             is-refused = e;
-            says = ruled-says (Accepted F nodes) (machineRows nodes) n k t;
+            says = ruled-says (Earliest (Tested F) linear nodes) (machineRows nodes) n k t;
             no-run = refused-no-run F nodes n k e;
             no-graph = refused-none F nodes n k e;
           })
