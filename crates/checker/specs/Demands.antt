@@ -60,6 +60,8 @@ use Rattle.checker.specs.Draw.Written.{GraphWritten, graph-written}
 use Rattle.checker.specs.Check.Laws.{at-most, Holds, Answers, files-fit, holds-passed, passed-graph, check-ruled, check-unique, passed-answers}
 -- demand 3 whole, one statement
 pub mod Third
+-- document 02, Change 2: the earliest source
+pub mod Earliest
 
 -- the trace of right nodes makes the property true, over all messages and all times
 abbrev pub NodesHold : (p : Protocol) → Within p → Formula → (xs : List Node) → All (NodeWithin p) xs → All (NodeRight p) xs → Type 0

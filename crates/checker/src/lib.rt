@@ -231,7 +231,8 @@ pub extern "C" fn levtosziv_canonical(
     pack(canonical_form(protocol, term, output, work))
 }
 
-// Draws the graph of the steps, read under the protocol, to the start of the output.
+// Draws the graph of the steps, read under the protocol, to the start of the output. Its edges come from the earliest sources
+// (specs/Demands/Earliest.antt), so that the same steps give the same bytes.
 pub fn draw(protocol: &[u8], steps: &[u8], output: &mut [u8], work: &mut [u8]) -> Written
     ensures answer { λ r. ⌜ written r ≡ drawOutcome (now (protocol .entry)) (now (steps .entry)) (length (now (output .entry))) (length (now (work .entry))) ⌝ }
     ensures wrote { λ r. ⌜ now (output .exit) ≡ drawOutput (now (protocol .entry)) (now (steps .entry)) (now (output .entry)) (length (now (work .entry))) ⌝ }

@@ -2,7 +2,7 @@
 -- step list or graph; no parameter is left but the protocol.
 use mathlib.Core.List.{List, map}
 use Rattle.protocol.specs.Figures.{premiseList, conclusionList}
-use Rattle.rewriting.specs.Facts.{Facts}
+use Rattle.rewriting.specs.Facts.{Facts, Tested}
 use Rattle.rewriting.specs.Graph as graph
 use Rattle.protocol.specs.Protocol.{Fact, Protocol}
 use Rattle.steps.specs.Nodes.{Node}
@@ -10,7 +10,7 @@ use Rattle.steps.specs.Facts.{factsOf, madeName, sameFact, isLinear}
 use Rattle.steps.specs.Facts.Laws.{fact-refl, fact-sym, fact-trans, fact-linear}
 -- the theorems of crate rewriting at these facts
 pub mod Theorems
--- runs, accepted graphs and the table's rows by the ten equations
+-- runs, accepted graphs, the earliest sources and the table's rows by the ten equations
 pub mod Equations
 -- the machine's counts by any test of facts that decides the equations
 pub mod AnyTest
@@ -35,9 +35,9 @@ module _ (p : Protocol) where
   abbrev pub rewrittens : List Node → List (graph.Node Fact)
   rewrittens xs = map rewritten xs
 
-  -- "An accepted graph has: .."
+  -- "An accepted graph has: ..", by the test of facts
   abbrev pub Accepted : List Node → List graph.Edge → Type 0
-  Accepted xs edges = graph.Accepted (protocolFacts p) (rewrittens xs) edges
+  Accepted xs edges = graph.Accepted (Tested (protocolFacts p)) (isLinear p) (rewrittens xs) edges
 
   -- "no name made twice"
   abbrev pub NamesOnce : List Node → Type 0

@@ -18,7 +18,7 @@ use Rattle.protocol.specs.Protocol.{Protocol}
 use Rattle.protocol.specs.Protocol.Limits.{Within}
 use Rattle.steps.specs.Nodes.{Node, NodeWithin, encodeNodes, read, nodeList}
 use Rattle.steps.specs.Nodes.Exact.{nodes-back, steps-form}
-use Rattle.steps.specs.Runs.Equations.{AcceptedSame, drawRowsSame, draw-table-same}
+use Rattle.steps.specs.Runs.Equations.{EarliestSame, drawRowsSame, draw-table-same, earliest-unique-same}
 use Rattle.steps.specs.Runs.Theorems.{IsRun, drawn, draws-exactly, refused-no-run}
 use Rattle.steps.specs.WellFormed.{WellFormed}
 use Rattle.graph.specs.Graph.{Graph, graph-of, encodeEdge, encodeGraph}
@@ -57,8 +57,12 @@ module _
     pub less :
         (output : List ℕ) (work : ℕ) → workNeed ≤ work → length output < length graph
         → (drawOutcome protocol steps (length output) work ≡ refused 15 (length graph)) × (drawOutput protocol steps output work ≡ output)
-    -- "That graph has just these steps in their order": "holds the steps' node bytes unchanged"
+    -- "For each premise, .. the writer takes the lowest node and then the lowest conclusion that is equal and, if linear, still unused": these edges,
+    -- and no others
     pub edges : List Edge
+    pub earliest : EarliestSame p (well .nodes) edges
+    pub no-others : (es : List Edge) → EarliestSame p (well .nodes) es → es ≡ edges
+    -- "That graph has just these steps in their order": "holds the steps' node bytes unchanged"
     pub is-graph : graph ≡ encodeGraph (graph-of (well .nodes) edges)
     pub these-steps : graph ≡ steps ++ listed encodeEdge edges
     -- "and is accepted": "the bytes drawn, up to the returned length, go unchanged to checking with the same protocol and a long enough work area"
@@ -148,6 +152,8 @@ module _
             let o = no-room protocol steps (length output) work long (fit .short) (well .short) g is l in
             (o, sym (output-kept protocol steps output work 15 n o));
         edges = es;
+        earliest = d .its-edges;
+        no-others = λ fs h. earliest-unique-same p within xs nodes-within fs es h (d .its-edges);
         is-graph = refl;
         these-steps = node-bytes protocol steps p g d;
         accepted = λ work long.
@@ -158,18 +164,18 @@ module _
             (well .right);
       }
 
-  -- no run: a graph of these nodes that is accepted would make them one
-  no-run-none :
-      ¬ SuchRun p xs → (property′ graph : List ℕ) → Bytes property′ → Bytes graph → (e : ℕ) → nodeList p graph 0 ≡ read xs e
-      → (work : ℕ) (c : Checked) → checkOutcome protocol property′ graph work ≡ passed c → ⊥
-  no-run-none none property′ graph b d e h work c o =
+  -- a graph of these nodes that is accepted makes them a run
+  pub graph-run :
+      (property′ graph : List ℕ) → Bytes property′ → Bytes graph → (e : ℕ) → nodeList p graph 0 ≡ read xs e
+      → (work : ℕ) (c : Checked) → checkOutcome protocol property′ graph work ≡ passed c → SuchRun p xs
+  graph-run property′ graph b d e h work c o =
       let a = accepted-run protocol property′ graph bytes b d work c o in
       let q : Protocol = a .its .is-protocol in
       let g : Graph = a .its .is-graph in
       let i : q ≡ p = got-one (sym (a .its .files .fit .reads) ∙ fit .reads) in
       let m = nodes-back q graph d (g .nodes) 0 (listed encodeEdge (g .edges)) (a .its .files .is-graph .within .0) (a .its .files .is-graph .bytes) in
       let j : g .nodes ≡ xs = read-one (sym m ∙ ap (λ (z : Protocol). nodeList z graph 0) i ∙ h) in
-      none (subst (λ (z : Protocol). SuchRun z xs) i (subst (λ (zs : List Node). SuchRun q zs) j (a .run)))
+      subst (λ (z : Protocol). SuchRun z xs) i (subst (λ (zs : List Node). SuchRun q zs) j (a .run))
 
   refused-as : (n k : ℕ) → drawn p xs ≡ refused n k → ¬ SuchRun p xs → IsRefused protocol property steps bytes steps-bytes p fit f well
   refused-as n k e none = record {
@@ -182,18 +188,18 @@ module _
         sym (output-kept protocol steps output work m j o);
     nine-or-fourteen = cleared.nine-or-fourteen p xs n k e;
     says =
-        let table = subst (Ruled (drawRowsSame p xs) (AcceptedSame p xs)) e (draw-table-same p within xs nodes-within) in
-        ruled-says (AcceptedSame p xs) (drawRowsSame p xs) n k table;
-    no-graph = no-run-none none;
+        let table = subst (Ruled (drawRowsSame p xs) (EarliestSame p xs)) e (draw-table-same p within xs nodes-within) in
+        ruled-says (EarliestSame p xs) (drawRowsSame p xs) n k table;
+    no-graph = λ property′ graph b d e h work c o. none (graph-run property′ graph b d e h work c o);
     no-bytes = λ property′ rest b d work c o.
-        no-run-none none property′ (steps ++ rest) b d (0 + length (encodeNodes xs))
+        none (graph-run property′ (steps ++ rest) b d (0 + length (encodeNodes xs))
         (nodes-back p (steps ++ rest) d xs 0 rest (well-within protocol steps bytes steps-bytes p fit well)
         (ap (λ (s : List ℕ). s ++ rest) (steps-form p steps steps-bytes xs (well .end) (well .reads) .1)))
-        work c o;
+        work c o);
   }
 
   -- the edges decide
-  whole-list : WholeList protocol property steps bytes steps-bytes p fit f well
+  pub whole-list : WholeList protocol property steps bytes steps-bytes p fit f well
   whole-list = go (drawn p xs) refl
     where
       go : (r : Ruling (List Edge)) → drawn p xs ≡ r → WholeList protocol property steps bytes steps-bytes p fit f well

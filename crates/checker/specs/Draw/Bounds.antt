@@ -63,7 +63,7 @@ module _ (p : Protocol) (file : List ℕ) (bytes : Bytes file) where
   pub steps-bounded : Within p → (n k : ℕ) → stepsUnder p file ≡ refused n k → (n ≤ mostNumber) × (k ≤ mostNodes)
   steps-bounded fit n k e =
       refused-small mostNumber mostNodes (λ (g : Graph). Unit {0}) (stepsUnderRows p file) (stepsUnder p file) steps-small
-      (under-ruled p fit file bytes (λ (g : Graph). Unit {0}) (λ xs e h right es acc d. tt)) n k e
+      (under-ruled p fit file bytes (λ (g : Graph). Unit {0}) (λ xs e h right es d. tt)) n k e
 
 -- ── the call: numbers to 15, the bytes needed to 61,440 ──
 abbrev pub lastNumber : ℕ
@@ -73,15 +73,24 @@ abbrev pub DrawSmall : Ruling ℕ → Type 0
 DrawSmall (passed n) = n ≤ graphLimit
 DrawSmall (refused n k) = (n ≤ lastNumber) × (k ≤ graphLimit)
 
-module _ (protocol steps : List ℕ) (bytes : Bytes protocol) (steps-bytes : Bytes steps) (output work : ℕ) where
-  files-small : Small lastNumber graphLimit (graphDrawnRows protocol steps)
+module _ (protocol steps : List ℕ) (bytes : Bytes protocol) (steps-bytes : Bytes steps) where
+  files-small : Small mostNumber graphLimit (graphDrawnRows protocol steps)
   files-small =
-      small-join lastNumber graphLimit (protocolRows protocol) (rowsAfter (protocolRuling protocol) (λ p. stepsUnderRows p steps))
-      (small-wider checking.mostNumber checking.mostItem lastNumber graphLimit (omega arith) (omega arith) (protocolRows protocol)
+      small-join mostNumber graphLimit (protocolRows protocol) (rowsAfter (protocolRuling protocol) (λ p. stepsUnderRows p steps))
+      (small-wider checking.mostNumber checking.mostItem mostNumber graphLimit (omega arith) (omega arith) (protocolRows protocol)
       (protocol-small protocol bytes))
-      (small-after lastNumber graphLimit (protocolRuling protocol) (λ p. stepsUnderRows p steps) (λ p h.
-      small-wider mostNumber mostNodes lastNumber graphLimit (omega arith) (omega arith) (stepsUnderRows p steps) (steps-small p steps steps-bytes)))
+      (small-after mostNumber graphLimit (protocolRuling protocol) (λ p. stepsUnderRows p steps) (λ p h.
+      small-wider mostNumber mostNodes mostNumber graphLimit (omega arith) (omega arith) (stepsUnderRows p steps) (steps-small p steps steps-bytes)))
 
+  -- what the files are refused with is no 15
+  pub files-bounded :
+      length protocol ≤ protocolLimit → length steps ≤ stepsLimit → (n k : ℕ) → graphDrawn protocol steps ≡ refused n k
+      → (n ≤ mostNumber) × (k ≤ graphLimit)
+  files-bounded p s =
+      refused-small mostNumber graphLimit (SomeDraws protocol steps bytes steps-bytes) (graphDrawnRows protocol steps) (graphDrawn protocol steps)
+      files-small (drawn-ruled protocol steps bytes steps-bytes p s)
+
+module _ (protocol steps : List ℕ) (bytes : Bytes protocol) (steps-bytes : Bytes steps) (output work : ℕ) where
   abbrev Outcome : Ruling ℕ
   Outcome = drawOutcome protocol steps output work
 
@@ -96,10 +105,8 @@ module _ (protocol steps : List ℕ) (bytes : Bytes protocol) (steps-bytes : Byt
         (λ l. by (no-room protocol steps output work long p s g e l) (omega arith, d .small))
         (λ l. by (room protocol steps output work long p s g e l) (d .small))
     of-graph (refused n k) e =
-        by (no-graph protocol steps output work long p s n k e)
-        (refused-small lastNumber graphLimit (SomeDraws protocol steps bytes steps-bytes) (graphDrawnRows protocol steps) (graphDrawn protocol steps)
-        files-small
-        (drawn-ruled protocol steps bytes steps-bytes p s) n k e)
+        let (m, i) = files-bounded protocol steps bytes steps-bytes p s n k e in
+        by (no-graph protocol steps output work long p s n k e) (omega (arith, m), i)
 
   pub draw-small : DrawSmall Outcome
   draw-small =

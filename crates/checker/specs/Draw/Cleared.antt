@@ -16,8 +16,8 @@ use Rattle.protocol.specs.Protocol.{Protocol}
 use Rattle.steps.specs.Nodes.{Node, Reading, read, broken, no-rule}
 use Rattle.steps.specs.Nodes as nodes
 use Rattle.steps.specs.Values.Tests.{nodeValuesOk, nodeTermsOk}
-use Rattle.steps.specs.Runs.{protocolFacts, rewrittens, Accepted}
-use Rattle.steps.specs.Runs.Theorems.{drawn, draw-table}
+use Rattle.steps.specs.Runs.{protocolFacts, rewrittens}
+use Rattle.steps.specs.Runs.Theorems.{drawn, EarliestTested, draw-table}
 use Rattle.steps.specs.Causes.{stepsItem, readRuling}
 use Rattle.steps.specs.WellFormed.{stepsLimit}
 use Rattle.graph.specs.Graph.{graph-of}
@@ -31,7 +31,7 @@ use Rattle.checker.specs.Draw.{graphOf, nodesUnder, stepsUnder, graphDra
 pub nine-or-fourteen : (p : Protocol) (xs : List Node) (n k : ℕ) → drawn p xs ≡ refused n k → (n ≡ 9) ⊎ (n ≡ 14)
 nine-or-fourteen p xs n k e =
     let rows = machineRows (protocolFacts p) (rewrittens p xs) in
-    of-rows (ruled-says (Accepted p xs) rows n k (subst (Ruled rows (Accepted p xs)) e (draw-table p xs)))
+    of-rows (ruled-says (EarliestTested p xs) rows n k (subst (Ruled rows (EarliestTested p xs)) e (draw-table p xs)))
   where
     of-rows : Says (machineRows (protocolFacts p) (rewrittens p xs)) n k → (n ≡ 9) ⊎ (n ≡ 14)
     of-rows (inl (i, l)) = inl i

@@ -17,9 +17,8 @@ use Rattle.steps.specs.Nodes.{Node, encodeNodes, read}
 use Rattle.steps.specs.Nodes as nodes
 use Rattle.steps.specs.Nodes.Exact.{steps-form, steps-back}
 use Rattle.steps.specs.Values.{NodeRight}
-use Rattle.steps.specs.Runs.{Accepted}
-use Rattle.steps.specs.Runs.Equations.{AcceptedSame, accepted-exactly, drawRowsSame, draw-table-same}
-use Rattle.steps.specs.Runs.Theorems.{drawn}
+use Rattle.steps.specs.Runs.Equations.{EarliestSame, accepted-exactly, drawRowsSame, draw-table-same, draws-earliest-same}
+use Rattle.steps.specs.Runs.Theorems.{drawn, drawn-accepts}
 use Rattle.steps.specs.Causes.{stepsItem, readRows, readRuling}
 use Rattle.steps.specs.Causes.Laws.{read-ruled, values-ruled}
 use Rattle.steps.specs.WellFormed.{stepsLimit, WellFormed}
@@ -39,7 +38,7 @@ use Rattle.checker.specs.Draw.Steps.{withEdges, well-under}
 -- "steps 3 and 6, 7, 8, 9, 14": what passes is the graph of right nodes and of the edges that are drawn
 pub under-ruled :
     (p : Protocol) → Within p → (steps : List ℕ) → Bytes steps → (Good : Graph → Type 0)
-    → ((xs : List Node) (e : ℕ) → nodes.steps p steps ≡ read xs e → All (NodeRight p) xs → (es : List Edge) → Accepted p xs es → drawn p xs ≡ passed es
+    → ((xs : List Node) (e : ℕ) → nodes.steps p steps ≡ read xs e → All (NodeRight p) xs → (es : List Edge) → drawn p xs ≡ passed es
     → Good (graph-of xs es))
     → Ruled (stepsUnderRows p steps) Good (stepsUnder p steps)
 unfolding stepsUnder
@@ -49,16 +48,16 @@ under-ruled p fit steps bytes Good good =
     (read-ruled stepsItem r) (λ xs (e, h) q.
     let within = steps-form p steps bytes xs e h .0 .each in
     values-ruled p Good xs within (drawRowsSame p xs) (graphOf p xs)
-    (λ right. ruled-map (AcceptedSame p xs) Good (graph-of xs) (drawRowsSame p xs) (drawn p xs)
-    (λ es acc. good xs e h right es (accepted-exactly p fit xs within es .1 acc)) (draw-table-same p fit xs within)))
+    (λ right. ruled-map (EarliestSame p xs) Good (graph-of xs) (drawRowsSame p xs) (drawn p xs)
+    (λ es g. good xs e h right es) (draw-table-same p fit xs within)))
 
 module _ (protocol steps : List ℕ) where
-  -- the files hold a fit protocol and, under it, the nodes of this graph, which has the edges that are drawn
+  -- the files hold a fit protocol and, under it, the nodes of this graph, whose edges come from the earliest sources
   pub record Draws (p : Protocol) (g : Graph) : Type 0 where
     pub fit : FitFile protocol p
     pub short : length steps ≤ stepsLimit
     pub its-steps : steps ≡ encodeNodes (g .nodes)
-    pub its-edges : drawn p (g .nodes) ≡ passed (g .edges)
+    pub its-edges : EarliestSame p (g .nodes) (g .edges)
     -- a dependency graph within the sizes, accepted by the equations
     pub small : needOf g ≤ graphLimit
     pub is-graph : DependencyGraph p (encodeGraph g) g
@@ -90,28 +89,31 @@ module _ (protocol steps : List ℕ) where
     draws-passed p g d =
         drawn-under protocol steps p (fit-passed protocol bytes p (d .fit))
         ∙ well-under p steps steps-bytes (draws-well p g d)
-        ∙ ap (withEdges p (g .nodes)) (d .its-edges)
+        ∙ ap (withEdges p (g .nodes))
+        (draws-earliest-same p (fit-within protocol bytes p (d .fit)) (g .nodes) (d .is-graph .within .0 .each) (g .edges) .1
+        (d .is-graph .accepted .names-once, d .its-edges))
 
-    -- there is one length
+    -- there is one graph, and one length
+    pub draws-one : (p q : Protocol) (g h : Graph) → Draws p g → Draws q h → g ≡ h
+    draws-one p q g h a b = passed-inj g h (sym (draws-passed p g a) ∙ draws-passed q h b)
+
     lengths-unique : (m n : ℕ) → DrawnLength m → DrawnLength n → m ≡ n
     lengths-unique m n a b =
-        a .needs
-        ∙ ap needOf (passed-inj (a .is-graph) (b .is-graph)
-        (sym (draws-passed (a .is-protocol) (a .is-graph) (a .files)) ∙ draws-passed (b .is-protocol) (b .is-graph) (b .files)))
-        ∙ sym (b .needs)
+        a .needs ∙ ap needOf (draws-one (a .is-protocol) (b .is-protocol) (a .is-graph) (b .is-graph) (a .files) (b .files)) ∙ sym (b .needs)
 
     -- ── the files are ruled by their rows ──
     pub nodes-draws :
         (p : Protocol) → FitFile protocol p → length steps ≤ stepsLimit → (xs : List Node) (e : ℕ) → nodes.steps p steps ≡ read xs e
-        → All (NodeRight p) xs → (es : List Edge) → Accepted p xs es → drawn p xs ≡ passed es → Draws p (graph-of xs es)
-    nodes-draws p fit l xs e h right es acc d =
+        → All (NodeRight p) xs → (es : List Edge) → drawn p xs ≡ passed es → Draws p (graph-of xs es)
+    nodes-draws p fit l xs e h right es d =
         let f = steps-form p steps steps-bytes xs e h in
         let within = fit-within protocol bytes p fit in
+        let acc = drawn-accepts p xs es d in
         record {
           fit = fit;
           short = l;
           its-steps = f .1;
-          its-edges = d;
+          its-edges = draws-earliest-same p within xs (f .0 .each) es .0 d .1;
           small = omega (arith, graph-short p within xs (f .0) es acc, ap length (f .1));
           is-graph = record {
             within = graph-within p within xs (f .0) es acc;

@@ -9,7 +9,7 @@ use Rattle.rewriting.specs.Graph.{Edge}
 use Rattle.protocol.specs.Protocol.{Protocol}
 use Rattle.steps.specs.Nodes.{NodesWithin}
 use Rattle.steps.specs.Nodes.Exact.{steps-form}
-use Rattle.steps.specs.Runs.Theorems.{drawn, drawn-accepts}
+use Rattle.steps.specs.Runs.Theorems.{drawn}
 use Rattle.steps.specs.WellFormed.{WellFormed}
 use Rattle.graph.specs.Graph.{graph-of}
 use Rattle.checker.specs.Answer.{workNeed}
@@ -33,8 +33,7 @@ module _ (protocol steps : List ℕ) (bytes : Bytes protocol) (steps-bytes : Byt
 
       pub drawn-draws : Draws protocol steps p (graph-of (well .nodes) es)
       drawn-draws =
-          nodes-draws protocol steps bytes steps-bytes p fit (well .short) (well .nodes) (well .end) (well .reads) (well .right) es
-          (drawn-accepts p (well .nodes) es e) e
+          nodes-draws protocol steps bytes steps-bytes p fit (well .short) (well .nodes) (well .end) (well .reads) (well .right) es e
 
     module _ (n k : ℕ) (e : drawn p (well .nodes) ≡ refused n k) (output work : ℕ) where
       pub list-refused : workNeed ≤ work → drawOutcome protocol steps output work ≡ refused n k

@@ -15,6 +15,7 @@ use Rattle.number.specs.Groups.{groups, numberLimit}
 use Rattle.number.specs.Groups.Laws.{groups-few, groups-bytes}
 use Rattle.number.specs.Layout.{flat, listed}
 use Rattle.number.specs.Layout.Laws.{flat-short, flat-bytes}
+use Rattle.rewriting.specs.Facts.{Tested}
 use Rattle.rewriting.specs.Graph as theory
 use Rattle.rewriting.specs.Graph.{Place, Edge, Joins, inNode}
 use Rattle.rewriting.specs.Size.{premiseCount}
@@ -76,7 +77,7 @@ module _ (p : Protocol) (fit : Within p) where
     abbrev EdgeFew : Edge → Type 0
     EdgeFew e = PlaceFew (e .source) × PlaceFew (e .target)
 
-    edge-few : (e : Edge) → Joins (protocolFacts p) (rewrittens p xs) e → EdgeFew e
+    edge-few : (e : Edge) → Joins (Tested (protocolFacts p)) (rewrittens p xs) e → EdgeFew e
     edge-few e j = (
       place-few (λ y. y .conclusions) conclusionList (λ x. refl) (e .source) (j .from) (j .has-source),
       place-few (λ y. y .premises) premiseList (λ x. refl) (e .target) (j .to) (j .has-target),

@@ -1,8 +1,7 @@
--- Runs, accepted graphs and the rows of the table by the equations: two facts are the same where they are of one symbol and the ten equations
+-- Runs, accepted graphs, the earliest sources and the rows of the table by the equations: two facts are the same where they are of one symbol and the ten equations
 -- make their arguments equal. For nodes within the limits this is what the test of facts says, so that nobody has to believe canonical forms.
-use Prim.Native.Nat.{ℕ, _≤_, _<_}
+use Prim.Native.Nat.{ℕ}
 use mathlib.Core.List.{List}
-use mathlib.Core.Bool.{true}
 use mathlib.Core.Logic.{_↔_}
 use mathlib.Core.Option.{Option, some, none, Option·none-ne-some}
 use mathlib.Core.Path.{_≡_, refl, sym, _∙_, ap}
@@ -11,10 +10,13 @@ use Rattle.lists.specs.Lists.Laws.{map-nth}
 use Rattle.lists.specs.All.{All}
 use Rattle.lists.specs.All.Laws.{all-nth, map-all}
 use Rattle.rewriting.specs.Graph as graph
-use Rattle.rewriting.specs.Graph.{Place, Edge, Joins, into, outOf, inNode, premiseAt, conclusionAt}
+use Rattle.rewriting.specs.Graph.{Place, Edge, inNode, premiseAt, conclusionAt}
+use Rattle.rewriting.specs.Graph.Laws.{Implies, accepted-as}
+use Rattle.rewriting.specs.Earliest.{Earliest}
+use Rattle.rewriting.specs.Earliest.Laws.{earliest-unique, earliest-accepted, earliest-as}
 use Rattle.rewriting.specs.Facts.{Tested}
-use Rattle.rewriting.specs.Table.{passed, refused, Row, Absent, Ruled}
-use Rattle.rewriting.specs.Table.Laws.{RestateAll, ruled-restated, ruled-good, absent-restated, restate-back}
+use Rattle.rewriting.specs.Table.{Ruling, passed, refused, Row, Absent, Ruled}
+use Rattle.rewriting.specs.Table.Laws.{RestateAll, ruled-unique, ruled-restated, ruled-good, absent-restated, restate-back}
 use Rattle.rewriting.specs.Rewriting.{Rewrites}
 use Rattle.rewriting.specs.Rewriting.Laws.{GoodNode}
 use Rattle.rewriting.specs.Rewriting.Laws as machines
@@ -31,7 +33,7 @@ use Rattle.steps.specs.Facts.{factsOf, SameFact, isLinear}
 use Rattle.steps.specs.Facts.Formed.{FactFormed, facts-formed, formed-decides}
 use Rattle.steps.specs.Runs.{protocolFacts, rewritten, rewrittens, Accepted, NamesOnce}
 use Rattle.steps.specs.Runs.Theorems.{IsRun, absent-exactly, check-table, check-accepted}
-use Rattle.steps.specs.Runs.Theorems.{drawn, draw-table, draws-exactly, drawn-accepts, refused-none}
+use Rattle.steps.specs.Runs.Theorems.{drawn, EarliestTested, draw-table, draws-exactly, draws-earliest, drawn-accepts, refused-none}
 
 -- "equal facts count as the same fact"
 abbrev pub EqualFacts : Protocol → Fact → Fact → Type 0
@@ -49,22 +51,15 @@ module _ (p : Protocol) (xs : List Node) where
   abbrev pub drawRowsSame : List Row
   drawRowsSame = drawRows (EqualFacts p) (isLinear p) (rewrittens p xs)
 
-  -- "each edge from an earlier node, its two facts equal"
-  pub record JoinsSame (e : Edge) : Type 0 where
-    pub from : Fact
-    pub to : Fact
-    pub has-source : conclusionAt (rewrittens p xs) (e .source) ≡ some from
-    pub has-target : premiseAt (rewrittens p xs) (e .target) ≡ some to
-    pub earlier : e .source .node < e .target .node
-    pub facts-same : EqualFacts p from to
-
   -- "An accepted graph has: each edge from an earlier node, its two facts equal; just one edge into each premise; at most one out of each
   -- linear conclusion; no name made twice."
-  pub record AcceptedSame (edges : List Edge) : Type 0 where
-    pub joins : (e : Edge) → e ∈ edges → JoinsSame e
-    pub one-into : (a : Place) (f : Fact) → premiseAt (rewrittens p xs) a ≡ some f → into a edges ≡ 1
-    pub one-out : (a : Place) (f : Fact) → conclusionAt (rewrittens p xs) a ≡ some f → isLinear p f ≡ true → outOf a edges ≤ 1
-    pub names-once : NamesOnce p xs
+  abbrev pub AcceptedSame : List Edge → Type 0
+  AcceptedSame edges = graph.Accepted (EqualFacts p) (isLinear p) (rewrittens p xs) edges
+
+  -- "For each premise, nodes in order and premises in order, the writer takes the lowest node and then the lowest conclusion that is equal and, if
+  -- linear, still unused. Edges are written in that order of premises."
+  abbrev pub EarliestSame : List Edge → Type 0
+  EarliestSame edges = Earliest (EqualFacts p) (isLinear p) (rewrittens p xs) edges
 
 -- ── the two say the same ──
 module _ (p : Protocol) (fit : Within p) (xs : List Node) (within : All (NodeWithin p) xs) where
@@ -87,33 +82,18 @@ module _ (p : Protocol) (fit : Within p) (xs : List Node) (within : All (NodeWit
   target-formed : (a : Place) (f : Fact) → premiseAt (rewrittens p xs) a ≡ some f → FactFormed p f
   target-formed = at-formed (λ y. y .premises) premiseList (λ x. refl)
 
-  joins-same : (e : Edge) → Joins (protocolFacts p) (rewrittens p xs) e → JoinsSame p xs e
-  joins-same e j = record {
-    from = j .from;
-    to = j .to;
-    has-source = j .has-source;
-    has-target = j .has-target;
-    earlier = j .earlier;
-    facts-same = formed-decides p fit (j .from) (j .to) (source-formed (e .source) (j .from) (j .has-source))
-        (target-formed (e .target) (j .to) (j .has-target)) .0 (j .facts-same);
-  }
+  -- the test of facts decides between the conclusions and the premises
+  tested-equal : Implies (rewrittens p xs) (Tested (protocolFacts p)) (EqualFacts p)
+  tested-equal a b f g h k = formed-decides p fit f g (source-formed a f h) (target-formed b g k) .0
 
-  same-joins : (e : Edge) → JoinsSame p xs e → Joins (protocolFacts p) (rewrittens p xs) e
-  same-joins e j = record {
-    from = j .from;
-    to = j .to;
-    has-source = j .has-source;
-    has-target = j .has-target;
-    earlier = j .earlier;
-    facts-same = formed-decides p fit (j .from) (j .to) (source-formed (e .source) (j .from) (j .has-source))
-        (target-formed (e .target) (j .to) (j .has-target)) .1 (j .facts-same);
-  }
+  equal-tested : Implies (rewrittens p xs) (EqualFacts p) (Tested (protocolFacts p))
+  equal-tested a b f g h k = formed-decides p fit f g (source-formed a f h) (target-formed b g k) .1
 
   pub accepted-exactly : (edges : List Edge) → Accepted p xs edges ↔ AcceptedSame p xs edges
-  accepted-exactly edges = (
-    λ g. record { joins = λ e m. joins-same e (g .joins e m); one-into = g .one-into; one-out = g .one-out; names-once = g .names-once },
-    λ g. record { joins = λ e m. same-joins e (g .joins e m); one-into = g .one-into; one-out = g .one-out; names-once = g .names-once },
-  )
+  accepted-exactly edges = (accepted-as tested-equal (isLinear p) edges, accepted-as equal-tested (isLinear p) edges)
+
+  earliest-exactly : (edges : List Edge) → EarliestTested p xs edges ↔ EarliestSame p xs edges
+  earliest-exactly edges = (earliest-as (isLinear p) tested-equal equal-tested edges, earliest-as (isLinear p) equal-tested tested-equal edges)
 
   -- ── runs, and the rows ──
   node-good : (x : Node) → NodeWithin p x → GoodNode (FactFormed p) (rewritten p x)
@@ -156,12 +136,30 @@ module _ (p : Protocol) (fit : Within p) (xs : List Node) (within : All (NodeWit
     (λ g. check-accepted p xs edges a .1 (accepted-exactly edges .1 g)),
   )
 
-  -- "Drawing: .. 9, 14", and what is drawn is accepted
-  pub draw-table-same : Ruled (drawRowsSame p xs) (AcceptedSame p xs) (drawn p xs)
+  -- ── the writer ──
+  -- there is one list of edges from the earliest sources, it is accepted, and it is what is drawn
+  pub earliest-unique-same : (es fs : List Edge) → EarliestSame p xs es → EarliestSame p xs fs → es ≡ fs
+  earliest-unique-same = earliest-unique (EqualFacts p) (isLinear p) (rewrittens p xs)
+
+  pub earliest-accepted-same : (es : List Edge) → NamesOnce p xs → EarliestSame p xs es → AcceptedSame p xs es
+  earliest-accepted-same = earliest-accepted (EqualFacts p) (isLinear p) (rewrittens p xs)
+
+  pub draws-earliest-same : (edges : List Edge) → (drawn p xs ≡ passed edges) ↔ (NamesOnce p xs × EarliestSame p xs edges)
+  draws-earliest-same edges = (
+    (λ h. let (n, g) = draws-earliest p xs edges .0 h in (n, earliest-exactly edges .0 g)),
+    (λ (n, g). draws-earliest p xs edges .1 (n, earliest-exactly edges .1 g)),
+  )
+
+  -- "Drawing: .. 9, 14", and what is drawn has the earliest sources
+  pub draw-table-same : Ruled (drawRowsSame p xs) (EarliestSame p xs) (drawn p xs)
   draw-table-same =
-      ruled-good (Accepted p xs) (AcceptedSame p xs) (λ es g. accepted-exactly es .0 g) (drawRowsSame p xs) (drawn p xs)
-      (ruled-restated (Accepted p xs) (machineRows (protocolFacts p) (rewrittens p xs)) (drawRowsSame p xs) (drawn p xs)
+      ruled-good (EarliestTested p xs) (EarliestSame p xs) (λ es g. earliest-exactly es .0 g) (drawRowsSame p xs) (drawn p xs)
+      (ruled-restated (EarliestTested p xs) (machineRows (protocolFacts p) (rewrittens p xs)) (drawRowsSame p xs) (drawn p xs)
       (causes.draw-rows (protocolFacts p) (EqualFacts p) (FactFormed p) (formed-decides p fit) (rewrittens p xs) nodes-good) (draw-table p xs))
+
+  -- which says just this
+  pub draw-one-same : (r : Ruling (List Edge)) → Ruled (drawRowsSame p xs) (EarliestSame p xs) r → r ≡ drawn p xs
+  draw-one-same r h = ruled-unique (EarliestSame p xs) earliest-unique-same (drawRowsSame p xs) r (drawn p xs) h draw-table-same
 
   -- "draws a graph exactly when the whole list is such a run. That graph .. is accepted"
   pub draws-exactly-same : ((edges : List Edge) × (drawn p xs ≡ passed edges)) ↔ RunSame p xs
@@ -173,3 +171,10 @@ module _ (p : Protocol) (fit : Within p) (xs : List Node) (within : All (NodeWit
   -- "If the list is no run, .. no graph of these steps in this order is accepted, whatever its edges"
   pub refused-none-same : (n k : ℕ) → drawn p xs ≡ refused n k → (edges : List Edge) → ¬ AcceptedSame p xs edges
   refused-none-same n k h edges g = refused-none p xs n k h edges (accepted-exactly edges .1 g)
+
+  -- "Steps that could be drawn before can still be drawn": there are earliest sources just where the nodes are a run
+  pub run-earliest-same : RunSame p xs ↔ (NamesOnce p xs × ((edges : List Edge) × EarliestSame p xs edges))
+  run-earliest-same = (
+    (λ r. let (es, e) = draws-exactly-same .1 r in let (n, g) = draws-earliest-same es .0 e in (n, (es, g))),
+    (λ (n, (es, g)). draws-exactly-same .0 (es, draws-earliest-same es .1 (n, g))),
+  )

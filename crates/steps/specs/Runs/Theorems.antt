@@ -8,6 +8,7 @@ use Rattle.rewriting.specs.Graph.{Edge}
 use Rattle.rewriting.specs.Table.{Ruling, passed, refused, Absent, Ruled}
 use Rattle.rewriting.specs.Facts.{Tested}
 use Rattle.rewriting.specs.Causes.{graphRows}
+use Rattle.rewriting.specs.Earliest.{Earliest}
 use Rattle.rewriting.specs.Checker.{checkGraph}
 use Rattle.rewriting.specs.Writer.{draw}
 use Rattle.rewriting.specs.Machine as machine
@@ -58,8 +59,12 @@ module _ (p : Protocol) (xs : List Node) where
   abbrev pub drawn : Ruling (List Edge)
   drawn = draw (protocolFacts p) (rewrittens p xs)
 
-  -- "Drawing: .. 9, 14", and what is drawn is accepted
-  pub draw-table : Ruled (whole.machineRows (protocolFacts p) (rewrittens p xs)) (Accepted p xs) drawn
+  -- the earliest sources, by the test of facts
+  abbrev pub EarliestTested : List Edge → Type 0
+  EarliestTested edges = Earliest (Tested (protocolFacts p)) (isLinear p) (rewrittens p xs) edges
+
+  -- "Drawing: .. 9, 14", and what is drawn has the earliest sources
+  pub draw-table : Ruled (whole.machineRows (protocolFacts p) (rewrittens p xs)) EarliestTested drawn
   draw-table = whole.draw-table (protocolFacts p) (rewrittens p xs)
 
   -- "draws a graph exactly when the whole list is such a run"
@@ -68,6 +73,9 @@ module _ (p : Protocol) (xs : List Node) where
 
   pub drawn-accepts : (edges : List Edge) → drawn ≡ passed edges → Accepted p xs edges
   drawn-accepts edges h = draws.drawn-accepts (protocolFacts p) (rewrittens p xs) edges h
+
+  pub draws-earliest : (edges : List Edge) → (drawn ≡ passed edges) ↔ (NamesOnce p xs × EarliestTested edges)
+  draws-earliest edges = draws.draws-earliest (protocolFacts p) (rewrittens p xs) edges
 
   -- "If the list is no run, .. no graph of these steps in this order is accepted, whatever its edges"
   pub refused-no-run : (n k : ℕ) → drawn ≡ refused n k → IsRun → ⊥
