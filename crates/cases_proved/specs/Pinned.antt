@@ -1,4 +1,4 @@
--- The second proved table: files, and the outcome that document 01 says. The theorems of the calls hold of whatever rules, sorts, flags and
+-- The second proved table: files, and the outcome that documents 01 and 02 say. The theorems of the calls hold of whatever rules, sorts, flags and
 -- figures are defined, so a definition that said another would be proved together with its code; here it loses a row.
 use mathlib.Core.List.{List, [], _∷_, _++_}
 use Rattle.lists.specs.All.{All}
@@ -9,6 +9,7 @@ use Rattle.cases_proved.specs.Pinned.Refusals as refusals
 use Rattle.cases_proved.specs.Pinned.Rules as rules
 use Rattle.cases_proved.specs.Pinned.Limits as limits
 use Rattle.cases_proved.specs.Pinned.Edges as edges
+use Rattle.cases_proved.specs.Pinned.Sources as sources
 use Rattle.cases_proved.specs.Pinned.Equations as equations
 use Rattle.cases_proved.specs.Pinned.Properties as properties
 -- what a row claims, and how it is computed
@@ -20,6 +21,8 @@ pub mod Rules
 -- the figures of the files, each at its most and one past it; the numbers of tags, symbols, sorts and flags
 pub mod Limits
 pub mod Edges
+-- which sources the writer takes
+pub mod Sources
 -- which messages are equal and which are canonical
 pub mod Equations
 -- the forms of a property, each by traces that make it true and traces that make it false
@@ -36,6 +39,7 @@ parts =
     ∷ record { rows = rules.rows; rows-hold = rules.rows-hold }
     ∷ record { rows = limits.rows; rows-hold = limits.rows-hold }
     ∷ record { rows = edges.rows; rows-hold = edges.rows-hold }
+    ∷ record { rows = sources.rows; rows-hold = sources.rows-hold }
     ∷ record { rows = equations.rows; rows-hold = equations.rows-hold }
     ∷ record { rows = properties.rows; rows-hold = properties.rows-hold }
     ∷ []
