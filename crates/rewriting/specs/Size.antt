@@ -28,7 +28,8 @@ module _ {Fact : Type 0} where
   premises-length k (x ∷ xs) =
       length-append (placed k 1 (x .premises)) (premisesFrom (suc k) xs) ∙ ap₂ (λ m n. m + n) (placed-length k 1 (x .premises)) (premises-length (suc k) xs)
 
-pub accepted-size : (F : Facts) (nodes : List (Node (F .Fact))) (edges : List Edge) → Accepted (Tested F) (F .linear) nodes edges → length edges ≡ premiseCount nodes
+pub accepted-size :
+    (F : Facts) (nodes : List (Node (F .Fact))) (edges : List Edge) → Accepted (Tested F) (F .linear) nodes edges → length edges ≡ premiseCount nodes
 accepted-size F nodes edges acc =
     omega (
       arith,

@@ -81,8 +81,25 @@ computed : All (At workNeed) rows
 unfolding protocol rule layout facts fact own ruleTerm term termIn symbolAt arity tagArities
     stepsUnder steps nodeList nodesFrom node ruleOf fixed sameFact sameTerms sameTerm apply
     many counted below readNumber readIn groups groupsIn numberLimit allBelow drawOutcome
-computed =
-    ((refl, refl, refl, refl), (refl, (refl, ((refl, refl, refl, refl), ((refl, refl, refl, refl), ((refl, refl, refl, refl), ((refl, refl, refl, refl), ((refl, refl, refl, refl), (refl, (refl, ((refl, refl, refl, refl), ((refl, refl, refl, refl), tt))))))))))))
+computed = (
+  (refl, refl, refl, refl),
+  (
+    refl,
+    (
+      refl,
+      (
+        (refl, refl, refl, refl),
+        (
+          (refl, refl, refl, refl),
+          (
+            (refl, refl, refl, refl),
+            ((refl, refl, refl, refl), ((refl, refl, refl, refl), (refl, (refl, ((refl, refl, refl, refl), ((refl, refl, refl, refl), tt)))))),
+          ),
+        ),
+      ),
+    ),
+  ),
+)
 
 pub rows-hold : All Holds rows
 rows-hold = all-grown rows computed

@@ -157,11 +157,11 @@ module _ (F : Facts) (nodes : List (Node (F .Fact))) where
       subst (λ l. Wrote k written l [] free) (Option·some-injective [] es h)
       (record { follows = tt; in-order = refl; held = subst (λ l. Held k free l) (sym (append-nil written)) held })
   edges-follow k i (p ∷ ps) free written es held w h =
-      let (t, fs, a, b, e) = add-some F (record { node = k; index = i }) (firstBy (λ t. same p (t .fact)) free) (edgesInto F k (suc i) (takeOne F p free) ps) es
-      h in
+      let left = takeOne F p free in
+      let (t, fs, a, b, e) = add-some F (record { node = k; index = i }) (firstBy (λ t. same p (t .fact)) free) (edgesInto F k (suc i) left ps) es h in
       let to = w (record { place = record { node = k; index = i }; fact = p }) (List·Memᴰ·head refl) in
       let d : Edge = arrow (t .place) k i in
-      let ih = edges-follow k (suc i) ps (takeOne F p free) (written ++ (d ∷ [])) fs (held-next k i free written held p t a) (λ t m. w t (List·Memᴰ·tail m)) b in
+      let ih = edges-follow k (suc i) ps left (written ++ (d ∷ [])) fs (held-next k i free written held p t a) (λ t m. w t (List·Memᴰ·tail m)) b in
       subst (λ l. Wrote k written l (placed k i (p ∷ ps)) (takeAll F (p ∷ ps) free)) (sym e)
       (record {
         follows = (source-lowest k i free written held p t a to, ih .follows);

@@ -7,7 +7,6 @@ use mathlib.Core.Option.{some, Option·none-ne-some, Option·some-injective}
 use Prim.Native.Nat.{ℕ, zero, suc, _+_, _≤_, _<_}
 use native.Mathlib.Omega.{arith}
 use lib.Dec.{ltb}
-use lib.ListN.{getElem?}
 use Rattle.lists.specs.Tests.{by-bool, true-false, not-true, leb-le, leb-gt}
 use Rattle.lists.specs.Lists.{_∈_, nth, firstBy, removeBy}
 use Rattle.lists.specs.Lists.Laws.{first-mem, remove-mem, mem-nth, nth-mem}
@@ -52,7 +51,7 @@ pub lowest-unique : (P : Place → Type 0) (a b : Place) → Lowest P a → Lowe
 lowest-unique P a b g h =
     ⊎-elim (λ e. e) (λ o. ⊎-elim (λ l. absurd (h .below a l (g .here))) (λ l. absurd (g .below b l (h .here))) o) (compared a b)
 
--- What is at least as often said has the same lowest place.
+-- Said in other words, the lowest place is the same.
 pub lowest-as : (P Q : Place → Type 0) → ((a : Place) → P a → Q a) → ((a : Place) → Q a → P a) → (a : Place) → Lowest P a → Lowest Q a
 lowest-as P Q f g a h = record { here = f a (h .here); below = λ b l q. h .below b l (g b q) }
 

@@ -1,11 +1,12 @@
--- Runs, accepted graphs, the earliest sources and the rows of the table by the equations: two facts are the same where they are of one symbol and the ten equations
--- make their arguments equal. For nodes within the limits this is what the test of facts says, so that nobody has to believe canonical forms.
+-- Runs, accepted graphs, the earliest sources and the rows of the table by the equations: two facts are the same where they are of one symbol and
+-- the ten equations make their arguments equal. For nodes within the limits this is what the test of facts says, so that nobody has to believe
+-- canonical forms.
 use Prim.Native.Nat.{ℕ}
 use mathlib.Core.List.{List}
 use mathlib.Core.Logic.{_↔_}
 use mathlib.Core.Option.{Option, some, none, Option·none-ne-some}
 use mathlib.Core.Path.{_≡_, refl, sym, _∙_, ap}
-use Rattle.lists.specs.Lists.{_∈_, nth}
+use Rattle.lists.specs.Lists.{nth}
 use Rattle.lists.specs.Lists.Laws.{map-nth}
 use Rattle.lists.specs.All.{All}
 use Rattle.lists.specs.All.Laws.{all-nth, map-all}
