@@ -3,14 +3,14 @@ use mathlib.Core.Path.{_≡_, refl}
 use mathlib.Core.Logic.{_↔_}
 use mathlib.Core.Bool.{Bool, true}
 use mathlib.Core.List.{List}
-use mathlib.Core.Option.{some}
 use Prim.Native.Nat.{ℕ, zero, suc}
 use Rattle.lists.specs.Tests.{by-bool, true-false}
 use Rattle.lists.specs.Lists.{before}
 use Rattle.lists.specs.All.{All}
 use Rattle.lists.specs.All.Laws.{all-nth, all-take}
 use Rattle.rewriting.specs.Facts.{Facts, Tested}
-use Rattle.rewriting.specs.Graph.{Node, Edge, Place, premiseAt, conclusionAt}
+use Rattle.rewriting.specs.Graph.{Node, Edge}
+use Rattle.rewriting.specs.Graph.Laws.{Implies}
 use Rattle.rewriting.specs.Machine.{start, lacks}
 use Rattle.rewriting.specs.Rewriting.{empty}
 use Rattle.rewriting.specs.Rewriting.Laws.{GoodNode, start-like, takes-lacks, lacks-takes, machine-reaches, reaches-machine}
@@ -38,13 +38,13 @@ module _
     (F : Facts)
     (Same : F .Fact → F .Fact → Type 0)
     (nodes : List (Node (F .Fact)))
-    (decides :
-    (a b : Place) (f g : F .Fact) → conclusionAt nodes a ≡ some f → premiseAt nodes b ≡ some g → (F .same f g ≡ true) ↔ Same f g)
+    (there : Implies nodes (Tested F) Same)
+    (back : Implies nodes Same (Tested F))
     (edges : List Edge) where
   differ-exactly : (k : ℕ) → FactsDiffer (Tested F) (F .linear) nodes edges k ↔ FactsDiffer Same (F .linear) nodes edges k
   differ-exactly k = (
-    (λ h. differ-as h (decides (h .edge .source) (h .edge .target) (h .from) (h .to) (h .has-source) (h .has-target) .1)),
-    (λ h. differ-as h (decides (h .edge .source) (h .edge .target) (h .from) (h .to) (h .has-source) (h .has-target) .0)),
+    (λ h. differ-as h (back (h .edge .source) (h .edge .target) (h .from) (h .to) (h .has-source) (h .has-target))),
+    (λ h. differ-as h (there (h .edge .source) (h .edge .target) (h .from) (h .to) (h .has-source) (h .has-target))),
   )
 
   pub graph-rows : RestateAll (graphRows (Tested F) (F .linear) nodes edges) (graphRows Same (F .linear) nodes edges)

@@ -107,9 +107,7 @@ module _ (p : Protocol) (fit : Within p) (xs : List Node) (within : All (NodeWit
   run-exactly = machines.run-exactly (protocolFacts p) (EqualFacts p) (FactFormed p) (formed-decides p fit) (rewrittens p xs) nodes-good
 
   graph-rows : (edges : List Edge) → RestateAll (graphRows (Tested (protocolFacts p)) (isLinear p) (rewrittens p xs) edges) (graphRowsSame p xs edges)
-  graph-rows edges =
-      causes.graph-rows (protocolFacts p) (EqualFacts p) (rewrittens p xs)
-      (λ a b f g h k. formed-decides p fit f g (source-formed a f h) (target-formed b g k)) edges
+  graph-rows edges = causes.graph-rows (protocolFacts p) (EqualFacts p) (rewrittens p xs) tested-equal equal-tested edges
 
   -- 9 to 13 are absent just where the graph is accepted
   pub absent-same : (edges : List Edge) → Absent (graphRowsSame p xs edges) ↔ AcceptedSame p xs edges
