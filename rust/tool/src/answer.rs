@@ -10,6 +10,9 @@ use crate::text;
 use crate::witness::{self, Reading, Witness};
 use serde::Serialize;
 
+/// What stands for the reason where the reading was given up.
+pub const UNREAD: &str = "To say why, the property takes too long to read.";
+
 /// What a case was answered, and what the tool adds to it.
 pub struct Answer<'a> {
     pub case: &'a Case,
@@ -76,41 +79,40 @@ impl Answer<'_> {
         })
     }
 
-    /// All that is said behind the line.
-    pub fn words(&self) -> Vec<String> {
+    /// The ruling as a sentence; none where the tool reads the property otherwise, or knows no such refusal.
+    pub fn sentence(&self) -> Option<String> {
         let lemma = &self.case.lemma;
-        let mut words = match &self.ruling {
-            _ if self.reading == Reading::Differs => return Vec::new(),
-            Err(refusal) => return self.refused_words(refusal),
-            Ok(Ruling::Attack(c)) => vec![format!(
+        Some(match &self.ruling {
+            _ if self.reading == Reading::Differs => return None,
+            Err(refusal) => format!("Refused: {}.", table::row(refusal.number)?.cause.words()),
+            Ok(Ruling::Attack(c)) => format!(
                 "An attack: the graph is a run of the protocol ({}), and `{lemma}` is false of it.",
                 counted(c)
-            )],
-            Ok(Ruling::Run(c)) => vec![format!(
+            ),
+            Ok(Ruling::Run(c)) => format!(
                 "No attack: the graph is a run of the protocol ({}), and `{lemma}` holds of it.",
                 counted(c)
-            )],
+            ),
+        })
+    }
+
+    /// All that is said behind the line.
+    pub fn words(&self) -> Vec<String> {
+        let Some(sentence) = self.sentence() else {
+            return Vec::new();
         };
+        let mut words = vec![sentence];
+        if self.refusal().is_some() {
+            words.extend(self.diagnosis.iter().flat_map(|d| d.reasons.clone()));
+            return words;
+        }
         match &self.reading {
             Reading::Agrees(Some(witness)) => words.extend(self.witness_words(witness)),
-            Reading::Silent => {
-                words.push("To say why, the property takes too long to read.".into())
-            }
+            Reading::Silent => words.push(UNREAD.into()),
             _ => {}
         }
         words.extend(self.formula_words());
         words.extend(self.hint.clone());
-        words
-    }
-
-    fn refused_words(&self, refusal: &Refusal) -> Vec<String> {
-        let Some(row) = table::row(refusal.number) else {
-            return Vec::new();
-        };
-        let mut words = vec![format!("Refused: {}.", row.cause.words())];
-        if let Some(diagnosis) = &self.diagnosis {
-            words.extend(diagnosis.reasons.clone());
-        }
         words
     }
 
@@ -129,20 +131,26 @@ impl Answer<'_> {
         words
     }
 
-    /// The formula as written, and the guarded form that was judged.
+    /// The guarded form that was judged.
+    pub fn judged(&self) -> Option<String> {
+        let formula = self.case.formula.as_ref()?;
+        Some(print::formula(formula, &self.case.names))
+    }
+
+    /// The formula as written, in one line.
+    pub fn written(&self) -> Option<String> {
+        let words: Vec<&str> = self.case.as_written.as_ref()?.split_whitespace().collect();
+        Some(words.join(" "))
+    }
+
     fn formula_words(&self) -> Vec<String> {
-        let Some(formula) = &self.case.formula else {
-            return Vec::new();
-        };
-        let judged = print::formula(formula, &self.case.names);
-        let Some(written) = &self.case.as_written else {
-            return vec![format!("as judged: {judged}")];
-        };
-        let written: Vec<&str> = written.split_whitespace().collect();
-        let written = written.join(" ");
-        match written == judged {
-            true => vec![format!("as written and judged: {judged}")],
-            false => vec![
+        match (self.written(), self.judged()) {
+            (_, None) => Vec::new(),
+            (None, Some(judged)) => vec![format!("as judged: {judged}")],
+            (Some(written), Some(judged)) if written == judged => {
+                vec![format!("as written and judged: {judged}")]
+            }
+            (Some(written), Some(judged)) => vec![
                 format!("as written: {written}"),
                 format!("as judged:  {judged}"),
             ],

@@ -111,6 +111,20 @@ pub struct Picture {
     pub simplify: bool,
 }
 
+#[derive(clap::Args)]
+#[command(override_usage = "levtosziv page [OPTIONS] <INPUT>... <OUTPUT>")]
+pub struct Page {
+    /// Texts (.lev), folders with a case, or folders of such; the last is the HTML file that is written
+    // One list, so that options may stand between the inputs and the output.
+    #[arg(required = true, value_name = "PATH")]
+    pub paths: Vec<PathBuf>,
+    #[command(flatten)]
+    pub which: Which,
+    /// A text with the names for a folder's bytes
+    #[arg(long)]
+    pub names: Option<PathBuf>,
+}
+
 #[derive(Subcommand)]
 pub enum Command {
     /// Rule on each run or graph of a text with each lemma, or on a folder's files
@@ -136,6 +150,8 @@ pub enum Command {
     },
     /// The graph of a case as a picture
     Picture(Picture),
+    /// Cases as one HTML file: verdict, property, picture and steps of each
+    Page(Page),
     /// All rules of a theory with their numbers and variables
     Rules { text: PathBuf },
     /// A row of the refusal table, with an example

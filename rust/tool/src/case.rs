@@ -10,6 +10,8 @@ use std::fs::File;
 use std::io::Read;
 use std::path::Path;
 
+const NOT_IN_STATE: u32 = levtosziv::Cause::NotInState as u32;
+
 /// Where the parts of a case stand in a text.
 #[derive(Clone, Debug)]
 pub struct Places {
@@ -51,6 +53,26 @@ impl Case {
 
     pub fn edges(&self) -> &[Edge] {
         self.graph.as_ref().map_or(&[], |graph| &graph.edges)
+    }
+
+    /// The edges to show: where drawing refused a step, those that the core draws of the steps before it.
+    pub fn shown_edges(&self) -> Vec<Edge> {
+        let Some(refused) = self.refused_step() else {
+            return self.edges().to_vec();
+        };
+        let before = &self.nodes[..refused - 1];
+        let drawn = self.kernel().draw(&bytes::encode_steps(before)).ok();
+        let graph = drawn.and_then(|bytes| bytes::graph(&bytes, &self.protocol).ok());
+        graph.map_or(Vec::new(), |graph| graph.edges)
+    }
+
+    /// The step that drawing refused for what is missing in the state.
+    pub fn refused_step(&self) -> Option<usize> {
+        let refusal = self
+            .undrawn
+            .filter(|refusal| refusal.number == NOT_IN_STATE)?;
+        let step = refusal.item as usize;
+        (1..=self.nodes.len()).contains(&step).then_some(step)
     }
 
     /// The core's answer. Where drawing refused, protocol and property are asked about first, with the empty graph.

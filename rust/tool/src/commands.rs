@@ -10,6 +10,7 @@ use crate::kernel::{Kernel, Refusal};
 use crate::layout;
 use crate::man;
 use crate::model::*;
+use crate::page;
 use crate::picture;
 use crate::print::{self, Style};
 use crate::render;
@@ -47,6 +48,7 @@ fn run(arguments: Arguments) -> Result<i32, Failure> {
         Command::Draw(given) => draw(&given),
         Command::Term { term, theory } => canonical(&term, theory.as_deref()),
         Command::Picture(given) => draw_picture(&given),
+        Command::Page(given) => write_page(&given),
         Command::Rules { text } => rules(&text),
         Command::Explain { number } => explain(number),
         Command::Fmt { text, write } => fmt(&text, write),
@@ -113,10 +115,7 @@ fn check(given: &Check) -> Result<i32, Failure> {
             _ => asked,
         };
     }
-    match disagreements.is_empty() {
-        true => Ok(code),
-        false => Err(Failure::Disagreement(disagreements.join("\n"))),
-    }
+    disagreed(&disagreements).map_or(Ok(code), Err)
 }
 
 fn say_words(answer: &Answer) {
@@ -300,6 +299,39 @@ fn draw_picture(given: &Picture) -> Result<i32, Failure> {
         Some(message) => Err(Failure::Disagreement(message)),
         None => Ok(DONE),
     }
+}
+
+fn write_page(given: &Page) -> Result<i32, Failure> {
+    let (choice, names) = (given.which.choice(), given.names.as_deref());
+    let Some((output, inputs @ [_, ..])) = given.paths.split_last() else {
+        let message = "a page is made of an INPUT, and written to an OUTPUT";
+        return Err(Failure::Arguments(message.into()));
+    };
+    // So that a forgotten OUTPUT does not cost a text.
+    if output.extension().map_or(true, |ending| ending != "html") {
+        return Err(Failure::Arguments("a page's file ends in .html".into()));
+    }
+    let mut cases = Vec::new();
+    for input in inputs {
+        cases.extend(page::all_cases(input, &choice, names)?);
+    }
+    let answers: Vec<Answer> = cases.iter().map(answer).collect();
+    let (html, missing) = page::html(&answers);
+    if let Some(why) = missing.first() {
+        eprintln!(
+            "note: {} of {} pictures are missing: {why}",
+            missing.len(),
+            cases.len()
+        );
+    }
+    write(output, html.as_bytes())?;
+    let disagreements: Vec<String> = answers.iter().filter_map(Answer::disagreement).collect();
+    disagreed(&disagreements).map_or(Ok(DONE), Err)
+}
+
+/// The failure that the tool reads properties otherwise than the core.
+fn disagreed(sentences: &[String]) -> Option<Failure> {
+    (!sentences.is_empty()).then(|| Failure::Disagreement(sentences.join("\n")))
 }
 
 fn rules(path: &Path) -> Result<i32, Failure> {

@@ -1,4 +1,4 @@
-//! The tool for people: text to bytes to ruling to words, bytes to text, and pictures. Every ruling, every drawn edge and every
+//! The tool for people: text to bytes to ruling to words, bytes to text, pictures, and pages for a browser. Every ruling, every drawn edge and every
 //! canonical form is the core's; the tool encodes, decodes, names, explains and shows.
 
 pub mod answer;
@@ -14,6 +14,7 @@ pub mod kernel;
 pub mod layout;
 pub mod man;
 pub mod model;
+pub mod page;
 pub mod picture;
 pub mod print;
 pub mod render;

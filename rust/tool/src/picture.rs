@@ -4,7 +4,7 @@ use crate::answer::Answer;
 use crate::case::Case;
 use crate::diagnose::Place;
 use crate::model::*;
-use crate::print::Style;
+use crate::print::{cut, visible, Style};
 use std::collections::{HashMap, HashSet};
 
 /// One colour for each own rule, in turn.
@@ -16,7 +16,7 @@ const INTRUDER_COLOUR: &str = "#ffffff";
 const WITNESS_COLOUR: &str = "#ffd27f";
 const REFUSED_COLOUR: &str = "#f4b6b6";
 
-/// A fact's text is cut there.
+/// The text of a fact and the name of a rule are cut there.
 const MOST_CHARACTERS: usize = 200;
 
 const HEAD: &str = "digraph G {
@@ -27,17 +27,15 @@ const HEAD: &str = "digraph G {
 
 /// The graph of an answered case; `simplify` leaves out the steps that make names.
 pub fn dot(answer: &Answer, simplify: bool) -> String {
-    let picture = Picture::new(answer, simplify);
-    let mut out = format!("{HEAD}{}", picture.caption());
-    for n in 1..=picture.facts.len() {
-        if !picture.hidden(n) {
-            out += &picture.node(n);
-        }
-    }
-    for (i, edge) in answer.case.edges().iter().enumerate() {
-        out += &picture.edge(i + 1, edge);
-    }
-    out + &picture.legend() + "}\n"
+    let picture = Picture::new(answer, simplify, None);
+    format!("{HEAD}{}{}}}\n", picture.caption(), picture.body())
+}
+
+/// The same for a page of many: ids begin with the case's, and each node leads to its step.
+pub fn dot_on_page(answer: &Answer, id: &str) -> String {
+    let picture = Picture::new(answer, false, Some(id));
+    let head = format!("  id=\"{id}graph\"; bgcolor=transparent;\n");
+    format!("{HEAD}{head}{}}}\n", picture.body())
 }
 
 struct Picture<'a> {
@@ -45,15 +43,18 @@ struct Picture<'a> {
     case: &'a Case,
     style: Style<'a>,
     facts: Vec<Filled>,
+    edges: Vec<Edge>,
     short: Short,
     /// Nodes whose actions make the property false.
     witness: HashSet<usize>,
     refused: Place,
     simplify: bool,
+    /// The case's id on a page.
+    id: Option<&'a str>,
 }
 
 impl<'a> Picture<'a> {
-    fn new(answer: &'a Answer<'a>, simplify: bool) -> Self {
+    fn new(answer: &'a Answer<'a>, simplify: bool, id: Option<&'a str>) -> Self {
         let case = answer.case;
         let mut kernel = case.kernel();
         let fill = |node| kernel.facts(node, &case.protocol);
@@ -65,10 +66,35 @@ impl<'a> Picture<'a> {
             witness: matches.into_iter().flatten().map(|m| m.node).collect(),
             refused: diagnosis.map_or(Place::Nowhere, |d| d.place.clone()),
             style: Style::of(&case.names),
+            edges: case.shown_edges(),
             facts,
             answer,
             case,
             simplify,
+            id,
+        }
+    }
+
+    fn body(&self) -> String {
+        let mut out = String::new();
+        for n in 1..=self.facts.len() {
+            if !self.hidden(n) {
+                out += &self.node(n);
+            }
+        }
+        for (i, edge) in self.edges.iter().enumerate() {
+            out += &self.edge(i + 1, edge);
+        }
+        out + &self.below() + &self.legend()
+    }
+
+    /// A step that was not drawn stands below the one before it.
+    fn below(&self) -> String {
+        match self.case.refused_step() {
+            Some(n) if n > 1 && !self.hidden(n - 1) => {
+                format!("  n{} -> n{n} [style=invis];\n", n - 1)
+            }
+            _ => String::new(),
         }
     }
 
@@ -78,9 +104,11 @@ impl<'a> Picture<'a> {
         format!("  label=\"{}\"; labelloc=t; fontsize=12;\n", escape(&text))
     }
 
+    /// Steps that make names, where that is asked for; steps behind one that was not drawn.
     fn hidden(&self, n: usize) -> bool {
         let rule = self.case.nodes[n - 1].rule;
-        self.simplify && rule == FRESH && self.refused != Place::Node(n)
+        let undrawn = self.case.refused_step().is_some_and(|refused| n > refused);
+        undrawn || self.simplify && rule == FRESH && self.refused != Place::Node(n)
     }
 
     fn fact(&self, fact: &Fact) -> String {
@@ -92,10 +120,7 @@ impl<'a> Picture<'a> {
         let symbol = fact.symbol;
         let names = self.short.names(self.style.names);
         let text = Style::of(&names).fact(&Fact { symbol, terms }, &self.case.protocol);
-        match text.char_indices().nth(MOST_CHARACTERS) {
-            Some((end, _)) => format!("{}..", &text[..end]),
-            None => text,
-        }
+        cut(&text, MOST_CHARACTERS)
     }
 
     fn ports(&self, facts: &[Fact], letter: char) -> Option<String> {
@@ -106,7 +131,8 @@ impl<'a> Picture<'a> {
 
     fn node(&self, n: usize) -> String {
         let facts = &self.facts[n - 1];
-        let rule = escape(&self.case.names.rule(self.case.nodes[n - 1].rule));
+        let rule = self.case.names.rule(self.case.nodes[n - 1].rule);
+        let rule = escape(&cut(&rule, MOST_CHARACTERS));
         let actions: Vec<String> = facts.actions.iter().map(|f| self.fact(f)).collect();
         let actions = match actions.is_empty() {
             true => String::new(),
@@ -121,9 +147,25 @@ impl<'a> Picture<'a> {
         let parts: Vec<String> = parts.into_iter().flatten().collect();
         let (fill, line) = self.look(n);
         format!(
-            "  n{n} [id=\"node{n}\", style=filled, fillcolor=\"{fill}\"{line}, label=\"{{{}}}\"];\n",
+            "  n{n} [{}, style=filled, fillcolor=\"{fill}\"{line}, label=\"{{{}}}\"];\n",
+            self.node_id(n),
             parts.join("|")
         )
+    }
+
+    fn node_id(&self, n: usize) -> String {
+        match self.id {
+            None => format!("id=\"node{n}\""),
+            Some(id) => {
+                format!("id=\"{id}node{n}\", URL=\"#{id}step{n}\", tooltip=\"step {n}\"")
+            }
+        }
+    }
+
+    /// The ids that Graphviz gives edges are those of one picture alone.
+    fn edge_id(&self, number: usize) -> String {
+        self.id
+            .map_or(String::new(), |id| format!(", id=\"{id}edge{number}\""))
     }
 
     /// The colour of a node, and how its line is drawn.
@@ -164,7 +206,8 @@ impl<'a> Picture<'a> {
             true => ", penwidth=4, color=\"#d00000\", label=\"refused\", fontcolor=\"#d00000\"",
             false => "",
         };
-        format!("  n{source}:c{conclusion}:s -> n{target}:p{premise}:n [{look}{refused}];\n")
+        let id = self.edge_id(number);
+        format!("  n{source}:c{conclusion}:s -> n{target}:p{premise}:n [{look}{refused}{id}];\n")
     }
 
     fn legend(&self) -> String {
@@ -174,12 +217,16 @@ impl<'a> Picture<'a> {
         let names = self.short.names(self.style.names);
         let style = Style::of(&names);
         let row = |(i, term): (usize, &Term)| {
-            let whole = style.term(&self.short.shorten(term, true));
+            let whole = cut(
+                &style.term(&self.short.shorten(term, true)),
+                MOST_CHARACTERS,
+            );
             format!("{} = {}\\l", self.short.letters[i], escape(&whole))
         };
         let rows: Vec<String> = self.short.terms.iter().enumerate().map(row).collect();
         format!(
-            "  legend [id=\"legend\", shape=note, style=filled, fillcolor=\"#fffff0\", color=\"#888888\", label=\"{}\"];\n",
+            "  legend [id=\"{}legend\", shape=note, style=filled, fillcolor=\"#fffff0\", color=\"#888888\", label=\"{}\"];\n",
+            self.id.unwrap_or_default(),
             rows.concat()
         )
     }
@@ -248,14 +295,17 @@ impl Short {
     }
 }
 
-/// Text in a record's label.
+/// Text in a record's label, where Graphviz reads entities too.
 fn escape(text: &str) -> String {
     let mut out = String::new();
-    for c in text.chars() {
+    for c in visible(text).chars() {
         if "{}|<>\"\\".contains(c) {
             out.push('\\');
         }
         out.push(c);
+        if c == '&' {
+            out += "amp;";
+        }
     }
     out
 }

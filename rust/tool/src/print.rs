@@ -114,6 +114,45 @@ fn fresh_name(name: &str) -> String {
     }
 }
 
+/// Characters that are not seen, or that turn the direction of writing.
+fn is_unseen(c: char) -> bool {
+    let layout = matches!(c, '\n' | '\t');
+    let format = matches!(c, '\u{AD}' | '\u{61C}' | '\u{180E}' | '\u{200B}'..='\u{200F}' | '\u{2028}'..='\u{202E}'
+        | '\u{2060}'..='\u{206F}' | '\u{FEFF}' | '\u{FFF9}'..='\u{FFFB}' | '\u{E0000}'..='\u{E007F}');
+    format || c.is_control() && !layout
+}
+
+/// Letters that are written from right to left.
+fn is_right_to_left(c: char) -> bool {
+    matches!(c, '\u{590}'..='\u{8FF}' | '\u{FB1D}'..='\u{FDFF}' | '\u{FE70}'..='\u{FEFC}' | '\u{10800}'..='\u{10FFF}' | '\u{1E800}'..='\u{1EFFF}')
+}
+
+/// A text as pictures and pages show it: characters that are not seen by their numbers, and behind letters that are written from right
+/// to left the mark that keeps them from turning what follows.
+pub fn visible(text: &str) -> String {
+    let mut out = String::with_capacity(text.len());
+    let mut letters = text.chars().peekable();
+    while let Some(c) = letters.next() {
+        match is_unseen(c) {
+            true => out.extend(c.escape_unicode()),
+            false => out.push(c),
+        }
+        let turns = letters.peek().copied().is_some_and(is_right_to_left);
+        if is_right_to_left(c) && !turns {
+            out.push('\u{200E}');
+        }
+    }
+    out
+}
+
+/// A text of so many characters at most.
+pub fn cut(text: &str, most: usize) -> String {
+    match text.char_indices().nth(most) {
+        Some((end, _)) => format!("{}..", &text[..end]),
+        None => text.to_string(),
+    }
+}
+
 /// Functions, facts, names of numbers and rules.
 pub fn protocol(protocol: &Protocol, names: &Names) -> String {
     let mut out = String::new();

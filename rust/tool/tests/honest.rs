@@ -66,6 +66,34 @@ fn a_core_that_refuses_all() {
 
 #[test]
 #[ignore = "tests/tool builds the program that this needs"]
+fn a_page_with_another_core() {
+    let folder = folder("honest-page");
+    let case = root().join("examples/dh-man-in-the-middle");
+    let page = |answer: &str, code: i32| {
+        let arguments = ["page", case.to_str().unwrap(), "page.html"];
+        let output = other_core(answer, true, &arguments, &folder);
+        assert_eq!(output.status.code(), Some(code), "{output:?}");
+        std::fs::read_to_string(folder.join("page.html")).unwrap()
+    };
+    for (page, line) in [
+        (page(REFUSED_99, 0), "refused 99 0"),
+        (page(RUN, 70), "run 1 2 3"),
+    ] {
+        assert!(page.contains(&format!("<span class=\"ruling\">{line}</span>")));
+        for own in [
+            "An attack:",
+            "No attack:",
+            "Refused:",
+            "<li>",
+            "class=\"witness\"",
+        ] {
+            assert!(!page.contains(own), "{line}: {own}");
+        }
+    }
+}
+
+#[test]
+#[ignore = "tests/tool builds the program that this needs"]
 fn texts_with_a_core_that_refuses_all() {
     let folder = folder("honest");
     let text = root().join("examples/dh-man-in-the-middle/theory.lev");
