@@ -70,6 +70,9 @@ pub struct Check {
     /// Exit with 10 for an attack, 11 for a refusal
     #[arg(long, value_enum, value_delimiter = ',')]
     pub fail_on: Vec<FailOn>,
+    /// Rule again each time the text is saved, until Ctrl-C
+    #[arg(long, conflicts_with = "fail_on")]
+    pub watch: bool,
 }
 
 #[derive(clap::Args)]

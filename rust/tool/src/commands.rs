@@ -17,9 +17,12 @@ use crate::render;
 use crate::show;
 use crate::table;
 use crate::text;
+use crate::watch::Watch;
 use clap::{CommandFactory, Parser};
 use std::io::Write;
 use std::path::Path;
+use std::sync::atomic::{AtomicBool, AtomicI32, Ordering};
+use std::sync::Arc;
 use std::thread;
 
 /// A check needs 573 KB of stack, and trees of 1,000 levels some more.
@@ -38,6 +41,7 @@ pub fn program() {
 
 fn run(arguments: Arguments) -> Result<i32, Failure> {
     match arguments.command {
+        Command::Check(given) if given.watch => check_again(&given),
         Command::Check(given) => check(&given),
         Command::Build(given) => build(&given.text, &given.folder, &given.which.choice()),
         Command::Show { input, names } => {
@@ -67,6 +71,9 @@ fn run(arguments: Arguments) -> Result<i32, Failure> {
     }
 }
 
+/// Whether the reader of standard output has gone away.
+static GONE: AtomicBool = AtomicBool::new(false);
+
 /// To standard output. A reader that has gone away is no failure; any other reason ends the program.
 fn say(text: &str) {
     let mut out = std::io::stdout();
@@ -78,7 +85,10 @@ fn say(text: &str) {
 
 fn ignore_closed(error: std::io::Error) -> std::io::Result<()> {
     match error.kind() {
-        std::io::ErrorKind::BrokenPipe => Ok(()),
+        std::io::ErrorKind::BrokenPipe => {
+            GONE.store(true, Ordering::Relaxed);
+            Ok(())
+        }
         _ => Err(error),
     }
 }
@@ -116,6 +126,32 @@ fn check(given: &Check) -> Result<i32, Failure> {
         };
     }
     disagreed(&disagreements).map_or(Ok(code), Err)
+}
+
+/// Rules on a text each time it is saved. What is wrong with it is told, and watching goes on.
+fn check_again(given: &Check) -> Result<i32, Failure> {
+    let (input, name) = (&given.input, given.input.display());
+    if input.is_dir() {
+        let message = format!("{name}: a text is watched, and this is a folder");
+        return Err(Failure::Arguments(message));
+    }
+    let code = Arc::new(AtomicI32::new(DONE));
+    let at_end = code.clone();
+    let ctrl_c = ctrlc::set_handler(move || std::process::exit(at_end.load(Ordering::Relaxed)));
+    ctrl_c.map_err(|e| Failure::File(format!("Ctrl-C cannot be waited for: {e}")))?;
+    let watch = Watch::new(input)?;
+    loop {
+        let said = check(given).unwrap_or_else(|failure| failure.report());
+        if said == DISAGREEMENT {
+            code.store(said, Ordering::Relaxed);
+        }
+        if GONE.load(Ordering::Relaxed) {
+            return Ok(code.load(Ordering::Relaxed));
+        }
+        eprintln!("watching {name}; Ctrl-C ends it");
+        watch.saved()?;
+        eprintln!();
+    }
 }
 
 fn say_words(answer: &Answer) {

@@ -21,4 +21,5 @@ pub mod render;
 pub mod show;
 pub mod table;
 pub mod text;
+pub mod watch;
 pub mod witness;
