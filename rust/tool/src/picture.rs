@@ -62,7 +62,7 @@ impl<'a> Picture<'a> {
         let matches = answer.witness().map(|witness| &witness.matches);
         let diagnosis = answer.diagnosis.as_ref();
         Picture {
-            short: Short::new(&facts, &case.names.functions),
+            short: Short::new(&facts, &case.names),
             witness: matches.into_iter().flatten().map(|m| m.node).collect(),
             refused: diagnosis.map_or(Place::Nowhere, |d| d.place.clone()),
             style: Style::of(&case.names),
@@ -90,10 +90,10 @@ impl<'a> Picture<'a> {
 
     /// A step that was not drawn stands below the one before it.
     fn below(&self) -> String {
-        match self.case.refused_step() {
-            Some(n) if n > 1 && !self.hidden(n - 1) => {
-                format!("  n{} -> n{n} [style=invis];\n", n - 1)
-            }
+        let refused = self.case.refused_step();
+        let before = refused.and_then(|n| (1..n).rev().find(|m| !self.hidden(*m)));
+        match (before, refused) {
+            (Some(before), Some(n)) => format!("  n{before} -> n{n} [style=invis];\n"),
             _ => String::new(),
         }
     }
@@ -236,7 +236,7 @@ impl<'a> Picture<'a> {
 struct Short {
     /// The smaller first, so that the larger are said with them.
     terms: Vec<Term>,
-    /// Those of the alphabet that name no function.
+    /// Those of the alphabet that name no function and no fact.
     letters: Vec<String>,
     /// A shortened term is a function without arguments, of a tag behind those of the protocol.
     first_tag: u32,
@@ -245,11 +245,11 @@ struct Short {
 const LEAST_SYMBOLS: usize = 4;
 const LEAST_OFTEN: usize = 3;
 impl Short {
-    fn new(facts: &[Filled], functions: &[String]) -> Short {
+    fn new(facts: &[Filled], names: &Names) -> Short {
+        let given = GIVEN_FACTS.map(String::from);
+        let taken = [&names.functions[..], &names.facts, &given].concat();
         let letters = ('A'..='Z').map(String::from);
-        let letters: Vec<String> = letters
-            .filter(|letter| !functions.contains(letter))
-            .collect();
+        let letters: Vec<String> = letters.filter(|letter| !taken.contains(letter)).collect();
         let mut count: HashMap<&Term, usize> = HashMap::new();
         for term in facts
             .iter()
@@ -268,7 +268,7 @@ impl Short {
         often.sort_by_key(|(symbols, term, _)| (*symbols, *term));
         Short {
             terms: often.into_iter().map(|(_, term, _)| term.clone()).collect(),
-            first_tag: FIRST_FREE + functions.len() as u32,
+            first_tag: FIRST_FREE + names.functions.len() as u32,
             letters,
         }
     }
