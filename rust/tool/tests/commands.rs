@@ -251,8 +251,7 @@ fn fmt_keeps_tokens_and_comments() {
     assert_eq!(stdout(&levtosziv(&["fmt", "t.lev"], &folder)), expected);
     assert_eq!(code(&["fmt", "--write", "t.lev"], &folder), Some(0));
     assert_eq!(stdout(&levtosziv(&["fmt", "t.lev"], &folder)), expected);
-    for example in std::fs::read_dir(root().join("examples")).unwrap() {
-        let text = example.unwrap().path().join("theory.lev");
+    for text in example_texts() {
         let laid_out = stdout(&levtosziv(&["fmt", text.to_str().unwrap()], &folder));
         assert_eq!(
             laid_out,

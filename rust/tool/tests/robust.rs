@@ -4,7 +4,7 @@ mod common;
 
 use common::*;
 use reference::random::Random;
-use std::path::Path;
+use std::path::PathBuf;
 use tool::answer::{answer, Answer};
 use tool::case::{cases, Choice};
 use tool::failure::Source;
@@ -63,11 +63,9 @@ fn used(answer: &Answer) {
 fn texts() {
     let folder = folder("robust-texts");
     let file = folder.join("t.lev");
-    let examples = std::fs::read_dir(root().join("examples")).unwrap();
-    let read = |path: &Path| std::fs::read_to_string(path.join("theory.lev")).unwrap();
-    let mut texts: Vec<String> = examples.map(|e| read(&e.unwrap().path())).collect();
-    texts.push(std::fs::read_to_string(root().join("docs/TOOL.md")).unwrap());
-    texts.sort();
+    let read = |path: PathBuf| std::fs::read_to_string(path).unwrap();
+    let mut texts: Vec<String> = example_texts().into_iter().map(read).collect();
+    texts.push(read(root().join("docs/TOOL.md")));
     let mut random = Random::new(34);
     let mut parsed = 0;
     for _ in 0..TEXTS {

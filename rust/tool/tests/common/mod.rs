@@ -13,6 +13,18 @@ pub fn root() -> PathBuf {
     Path::new(env!("CARGO_MANIFEST_DIR")).join("../..")
 }
 
+/// The texts of the examples: those that stand alone, and those beside files of bytes.
+pub fn example_texts() -> Vec<PathBuf> {
+    let examples = std::fs::read_dir(root().join("examples")).unwrap();
+    let text = |path: PathBuf| match path.is_dir() {
+        true => path.join("theory.lev"),
+        false => path,
+    };
+    let mut texts: Vec<PathBuf> = examples.map(|e| text(e.unwrap().path())).collect();
+    texts.sort();
+    texts
+}
+
 /// An empty folder of this name.
 pub fn folder(name: &str) -> PathBuf {
     let folder = Path::new(env!("CARGO_TARGET_TMPDIR")).join(name);
