@@ -8,7 +8,7 @@ use std::path::PathBuf;
 use tool::answer::{answer, Answer};
 use tool::case::{cases, Choice};
 use tool::failure::Source;
-use tool::{layout, picture, text};
+use tool::{layout, page, picture, text};
 
 const TEXTS: usize = 2_000;
 const FILES: usize = 1_000;
@@ -57,6 +57,7 @@ fn used(answer: &Answer) {
     answer.json().to_string();
     picture::dot(answer, true);
     picture::json(answer);
+    page::with_pictures(std::slice::from_ref(answer), &[Err(String::new())]);
 }
 
 #[test]

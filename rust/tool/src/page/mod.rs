@@ -53,12 +53,18 @@ fn folders(folder: &Path) -> Result<Vec<PathBuf>, Failure> {
 /// The page, and why pictures are missing from it.
 pub fn html(answers: &[Answer]) -> (String, Vec<String>) {
     let pictures = pictures(answers);
+    let page = with_pictures(answers, &pictures);
+    (page, pictures.into_iter().filter_map(Result::err).collect())
+}
+
+/// The page with the picture of each case, or with why there is none.
+pub fn with_pictures(answers: &[Answer], pictures: &[Result<String, String>]) -> String {
     let mut protocols: Vec<String> = Vec::new();
     let mut body = match answers {
         [_] => String::new(),
         _ => index(answers),
     };
-    for (i, (answer, picture)) in answers.iter().zip(&pictures).enumerate() {
+    for (i, (answer, picture)) in answers.iter().zip(pictures).enumerate() {
         let text = print::protocol(&answer.case.protocol, &answer.case.names);
         let known = protocols.iter().position(|protocol| *protocol == text);
         let protocol = known.unwrap_or_else(|| {
@@ -71,8 +77,7 @@ pub fn html(answers: &[Answer]) -> (String, Vec<String>) {
     for (i, protocol) in protocols.iter().enumerate() {
         body += &protocol_section(i + 1, protocols.len(), protocol);
     }
-    let missing = pictures.into_iter().filter_map(Result::err).collect();
-    (document(&title(answers), &body), missing)
+    document(&title(answers), &body)
 }
 
 fn document(title: &str, body: &str) -> String {
