@@ -16,7 +16,7 @@ use std::thread;
 
 const STYLE: &str = include_str!("page.css");
 /// The digest of `STYLE`, by which the policy lets it through.
-const STYLE_DIGEST: &str = "sha256-TprO8xLMFN1grKgaH/lCN4QiWspodY1N17WhrP1ej2U=";
+const STYLE_DIGEST: &str = "sha256-oov8lr/QfRF5hWSD5kIge06tKclYjSIoIFNbUPhiLQs=";
 
 /// The cases of an input: those of a text, the one of a folder, or those of the folders in it.
 pub fn all_cases(
