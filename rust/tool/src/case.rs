@@ -6,11 +6,18 @@ use crate::fill;
 use crate::kernel::{Kernel, Refusal, Ruled, Ruling};
 use crate::model::*;
 use crate::text::{self, near, Lemma, Run, Theory};
+use levtosziv::Cause;
 use std::fs::File;
 use std::io::Read;
 use std::path::Path;
 
-const NOT_IN_STATE: u32 = levtosziv::Cause::NotInState as u32;
+/// Causes whose item is a step that is not drawn.
+const OF_A_STEP: [Cause; 4] = [
+    Cause::Value,
+    Cause::TermTooLarge,
+    Cause::NameMadeTwice,
+    Cause::NotInState,
+];
 
 /// Where the parts of a case stand in a text.
 #[derive(Clone, Debug)]
@@ -66,13 +73,12 @@ impl Case {
         graph.map_or(Vec::new(), |graph| graph.edges)
     }
 
-    /// The step that drawing refused for what is missing in the state.
+    /// The step at which drawing refused.
     pub fn refused_step(&self) -> Option<usize> {
-        let refusal = self
-            .undrawn
-            .filter(|refusal| refusal.number == NOT_IN_STATE)?;
+        let refusal = self.undrawn?;
         let step = refusal.item as usize;
-        (1..=self.nodes.len()).contains(&step).then_some(step)
+        let of_a_step = OF_A_STEP.iter().any(|c| *c as u32 == refusal.number);
+        (of_a_step && (1..=self.nodes.len()).contains(&step)).then_some(step)
     }
 
     /// The core's answer. Where drawing refused, protocol and property are asked about first, with the empty graph.

@@ -243,6 +243,27 @@ fn pictures() {
 }
 
 #[test]
+fn pictures_of_what_cannot_be_drawn() {
+    let folder = folder("pictures-undrawn");
+    let text = "lemma l: F
+run missing: fresh(~a) ifresh(~a) c_h(~a) isend(h(~b)) isend(h(~a))
+run twice: fresh(~a) ifresh(~a) fresh(~a) isend(~a)
+";
+    put(&folder, &[("t.lev", text.as_bytes())]);
+    for (run, refused, edges) in [("missing", 4, 2), ("twice", 3, 1)] {
+        let arguments = ["picture", "t.lev", "t.dot", "--run", run];
+        assert_eq!(code(&arguments, &folder), Some(0));
+        let dot = std::fs::read_to_string(folder.join("t.dot")).unwrap();
+        // The steps to the refused one, and what the core draws of those before it.
+        assert_eq!(dot.matches("id=\"node").count(), refused, "{dot}");
+        assert_eq!(dot.matches(":s -> n").count(), edges, "{dot}");
+        let below = format!("  n{} -> n{refused} [style=invis];", refused - 1);
+        assert!(dot.contains(&below), "{dot}");
+        assert_eq!(dot.matches("penwidth=2").count(), 1, "{dot}");
+    }
+}
+
+#[test]
 fn fmt_keeps_tokens_and_comments() {
     let folder = folder("fmt");
     let text = "theory T begin // first\n rule  A :[ ]-->[ ] /* in */\n\n\n\n// before\nlemma l:\"F\n  |F\"run r: 1:A( )2:A()\nend";
