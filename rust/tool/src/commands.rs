@@ -344,7 +344,7 @@ fn write_page(given: &Page) -> Result<i32, Failure> {
         return Err(Failure::Arguments(message.into()));
     };
     // So that a forgotten OUTPUT does not cost a text.
-    if output.extension().map_or(true, |ending| ending != "html") {
+    if output.extension().is_none_or(|ending| ending != "html") {
         return Err(Failure::Arguments("a page's file ends in .html".into()));
     }
     let mut cases = Vec::new();

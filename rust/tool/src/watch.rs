@@ -21,7 +21,8 @@ impl Watch {
     pub fn new(file: &Path) -> Result<Watch, Failure> {
         let unread = |e: std::io::Error| Failure::File(format!("{}: {e}", file.display()));
         let places = places(file).map_err(unread)?;
-        let folders: Vec<PathBuf> = places.iter().filter_map(folder).collect();
+        let folders = places.iter().filter_map(|place| place.parent());
+        let folders: Vec<PathBuf> = folders.map(Path::to_path_buf).collect();
         let (send, told) = channel();
         let tell = move |event: notify::Result<Event>| {
             let saved = event.map(|event| is_save(&event, &places));
@@ -54,10 +55,6 @@ impl Watch {
 
 fn unwatched(error: notify::Error) -> Failure {
     Failure::File(format!("files cannot be watched: {error}"))
-}
-
-fn folder(path: &PathBuf) -> Option<PathBuf> {
-    path.parent().map(Path::to_path_buf)
 }
 
 /// The file's whole path, and that of the file that a link leads to.

@@ -123,7 +123,7 @@ fn escape(text: &str) -> String {
 /// A sentence, in which names stand between backticks.
 fn sentence(text: &str) -> String {
     let parts: Vec<String> = text.split('`').map(escape).collect();
-    if parts.len() % 2 == 0 {
+    if parts.len().is_multiple_of(2) {
         return escape(text);
     }
     let quoted = |(i, part): (usize, &String)| match i % 2 {
