@@ -278,19 +278,16 @@ fn chromium(arguments: &[&str], folder: &Path) -> Option<String> {
         .arg(page)
         .current_dir(folder)
         .output();
-    match output {
-        Ok(output) => {
-            assert!(output.status.success(), "{output:?}");
-            Some(stdout(&output))
-        }
-        Err(error) => {
-            // Past the harness, which keeps what a passed test prints.
-            let message =
-                format!("\nskipped: no browser looks at the page, for chromium cannot be run ({error}); Debian has it in the package chromium\n");
-            std::io::stderr().write_all(message.as_bytes()).unwrap();
-            None
-        }
+    let missing = |e: &std::io::Error| e.kind() == std::io::ErrorKind::NotFound;
+    if output.as_ref().is_err_and(missing) {
+        // Past the harness, which keeps what a passed test prints.
+        let message = "\nskipped: no browser looks at the page, for chromium is not installed; Debian has it in the package chromium\n";
+        std::io::stderr().write_all(message.as_bytes()).unwrap();
+        return None;
     }
+    let output = output.unwrap();
+    assert!(output.status.success(), "{output:?}");
+    Some(stdout(&output))
 }
 
 #[test]
