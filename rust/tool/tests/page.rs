@@ -110,7 +110,7 @@ fn many_cases() {
     put(&folder, &[("dh.lev", DH.as_bytes())]);
     let page = page(&["dh.lev"], &folder);
     stands_alone(&page, &folder);
-    assert!(page.contains("<h1>3 cases: 1 attack, 1 run, 1 refused</h1>"));
+    assert!(page.contains("<h1 id=\"index\">3 cases: 1 attack, 1 run, 1 refused</h1>"));
     assert!(page.contains("<a href=\"#case2\">mitm</a></td><td>secret</td>"));
     assert!(page.contains("<code>secret</code> is false of it."));
     assert!(page.contains("(A2): <code>KeyA(&#39;g&#39;^(~a*~e))</code>"));
@@ -136,6 +136,22 @@ fn one_case_has_no_index() {
 }
 
 #[test]
+fn cases_of_several_texts_have_the_name_of_their_text() {
+    let folder = folder("page-texts");
+    put(
+        &folder,
+        &[("a.lev", DH.as_bytes()), ("b.lev", DH.as_bytes())],
+    );
+    let several = page(&["a.lev", "b.lev", "--run", "mitm"], &folder);
+    stands_alone(&several, &folder);
+    assert!(several.contains("<a href=\"#case1\">a.lev: mitm</a>"));
+    assert!(several.contains("<h2>b.lev: mitm <small>"));
+    // The protocol is one, and so is the way back.
+    assert_eq!(several.matches("<section id=\"protocol").count(), 1);
+    assert_eq!(several.matches("href=\"#index\"").count(), 2);
+}
+
+#[test]
 fn folders_of_cases() {
     let folder = folder("page-folders");
     let real = root().join("tests/corpus/real");
@@ -154,7 +170,7 @@ fn folders_of_cases() {
     let refused = count("refused ");
     let counts = format!("{all} cases: {attacks} attacks, {runs} runs, {refused} refused");
     assert!(
-        all >= 40 && page.contains(&format!("<h1>{counts}</h1>")),
+        all >= 40 && page.contains(&format!("<h1 id=\"index\">{counts}</h1>")),
         "{counts}"
     );
     assert!(page.contains(&format!("id=\"case{all}node1\"")));

@@ -11,6 +11,7 @@ use crate::print::{self, visible};
 use crate::render;
 use crate::table;
 use crate::witness::{Reading, Witness};
+use std::collections::HashSet;
 use std::path::{Path, PathBuf};
 use std::thread;
 
@@ -59,10 +60,11 @@ pub fn html(answers: &[Answer]) -> (String, Vec<String>) {
 
 /// The page with the picture of each case, or with why there is none.
 pub fn with_pictures(answers: &[Answer], pictures: &[Result<String, String>]) -> String {
+    let titles = titles(answers);
     let mut protocols: Vec<String> = Vec::new();
     let mut body = match answers {
         [_] => String::new(),
-        _ => index(answers),
+        _ => index(answers, &titles),
     };
     for (i, (answer, picture)) in answers.iter().zip(pictures).enumerate() {
         let text = print::protocol(&answer.case.protocol, &answer.case.names);
@@ -71,8 +73,14 @@ pub fn with_pictures(answers: &[Answer], pictures: &[Result<String, String>]) ->
             protocols.push(text);
             protocols.len() - 1
         });
-        let level = if answers.len() == 1 { 1 } else { 2 };
-        body += &Section::new(answer, i + 1, level).html(picture, protocol + 1);
+        let section = Section {
+            answer,
+            case: answer.case,
+            title: &titles[i],
+            id: case_id(i + 1),
+            alone: answers.len() == 1,
+        };
+        body += &section.html(picture, protocol + 1);
     }
     for (i, protocol) in protocols.iter().enumerate() {
         body += &protocol_section(i + 1, protocols.len(), protocol);
@@ -153,15 +161,33 @@ fn counts(answers: &[Answer]) -> String {
     )
 }
 
+/// What the cases are called: behind the name of their text, where there are several.
+fn titles(answers: &[Answer]) -> Vec<String> {
+    let text = |answer: &Answer| {
+        let places = answer.case.places.as_ref()?;
+        let name = Path::new(&places.source.name).file_name()?;
+        Some((
+            places.source.name.clone(),
+            name.to_string_lossy().into_owned(),
+        ))
+    };
+    let texts: HashSet<_> = answers.iter().map(text).collect();
+    let title = |answer: &Answer| match text(answer) {
+        Some((_, name)) if texts.len() > 1 => format!("{name}: {}", answer.case.title),
+        _ => answer.case.title.clone(),
+    };
+    answers.iter().map(title).collect()
+}
+
 /// The counts, and a row for each case.
-fn index(answers: &[Answer]) -> String {
-    let mut out = format!("<h1>{}</h1>\n<table class=\"index\">\n<thead><tr><th scope=\"col\">Case</th><th scope=\"col\">Property</th><th scope=\"col\">Ruling</th></tr></thead>\n<tbody>\n", counts(answers));
+fn index(answers: &[Answer], titles: &[String]) -> String {
+    let mut out = format!("<h1 id=\"index\">{}</h1>\n<table class=\"index\">\n<thead><tr><th scope=\"col\">Case</th><th scope=\"col\">Property</th><th scope=\"col\">Ruling</th></tr></thead>\n<tbody>\n", counts(answers));
     for (i, answer) in answers.iter().enumerate() {
         out += &format!(
             "<tr class=\"{}\"><td><a href=\"#case{}\">{}</a></td><td>{}</td><td><span class=\"ruling\">{}</span></td></tr>\n",
             answer.word(),
             i + 1,
-            escape(&answer.case.title),
+            escape(&titles[i]),
             escape(&answer.case.lemma),
             answer.line()
         );
@@ -221,23 +247,19 @@ fn protocol_section(number: usize, of: usize, protocol: &str) -> String {
 struct Section<'a> {
     answer: &'a Answer<'a>,
     case: &'a Case,
+    title: &'a str,
     id: String,
-    /// That of its heading.
-    level: usize,
+    /// Whether it is the only one.
+    alone: bool,
 }
 
-impl<'a> Section<'a> {
-    fn new(answer: &'a Answer<'a>, number: usize, level: usize) -> Self {
-        Section {
-            answer,
-            case: answer.case,
-            id: case_id(number),
-            level,
-        }
-    }
-
+impl Section<'_> {
     fn html(&self, picture: &Result<String, String>, protocol: usize) -> String {
-        let (id, level, below) = (&self.id, self.level, self.level + 1);
+        let id = &self.id;
+        let (level, below, index) = match self.alone {
+            true => (1, 2, ""),
+            false => (2, 3, " · <a href=\"#index\">All cases</a>"),
+        };
         let drawn = self.case.refused_step().unwrap_or(self.case.nodes.len());
         let in_picture = if picture.is_ok() { drawn } else { 0 };
         format!(
@@ -249,11 +271,11 @@ impl<'a> Section<'a> {
 <h{below}>Property</h{below}>
 {}<h{below}>Graph</h{below}>
 {}<h{below}>Steps</h{below}>
-{}<p><a href=\"#protocol{protocol}\">The protocol&#39;s rules</a></p>
+{}<p><a href=\"#protocol{protocol}\">The protocol&#39;s rules</a>{index}</p>
 </section>
 ",
             self.answer.word(),
-            escape(&self.case.title),
+            escape(self.title),
             escape(&self.case.lemma),
             self.verdict(),
             self.answer.line(),
