@@ -119,7 +119,7 @@ pub struct Picture {
 pub struct Page {
     /// Texts (.lev), folders with a case, or folders of such; the last is the HTML file that is written
     // One list, so that options may stand between the inputs and the output.
-    #[arg(required = true, value_name = "PATH")]
+    #[arg(required = true, value_name = "INPUT.. OUTPUT")]
     pub paths: Vec<PathBuf>,
     #[command(flatten)]
     pub which: Which,

@@ -17,7 +17,7 @@ use std::thread;
 
 const STYLE: &str = include_str!("page.css");
 /// The digest of `STYLE`, by which the policy lets it through.
-const STYLE_DIGEST: &str = "sha256-oov8lr/QfRF5hWSD5kIge06tKclYjSIoIFNbUPhiLQs=";
+const STYLE_DIGEST: &str = "sha256-WXijxKupfO5HQWat2i20fS2gffyqJOGJyXVXteQJrwQ=";
 
 /// The cases of an input: those of a text, the one of a folder, or those of the folders in it.
 pub fn all_cases(
