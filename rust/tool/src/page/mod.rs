@@ -329,19 +329,16 @@ impl Section<'_> {
         }
     }
 
-    /// Why a case is refused: in a text with the line, else by the reasons that were found.
+    /// Why a case is refused, and where in its text.
     fn reasons(&self) -> String {
-        let mut out = match (self.answer.located(), &self.case.places) {
-            (Some(error), Some(places)) => {
-                let message = places.source.message(&error);
-                format!("<pre tabindex=\"0\">{}</pre>\n", escape(message.trim_end()))
-            }
-            _ => {
-                let reasons = self.answer.diagnosis.iter().flat_map(|d| &d.reasons);
-                let reasons: Vec<String> = reasons.map(|reason| escape(reason)).collect();
-                list(&reasons)
-            }
-        };
+        let reasons = self.answer.diagnosis.iter().flat_map(|d| &d.reasons);
+        let reasons: Vec<String> = reasons.map(|reason| escape(reason)).collect();
+        let mut out = list(&reasons);
+        if let (Some(error), Some(places)) = (self.answer.located(), &self.case.places) {
+            let message = places.source.message(&error);
+            let message = escape(message.trim_end());
+            out += &format!("<pre tabindex=\"0\">{message}</pre>\n");
+        }
         let row = self.answer.refusal().and_then(|r| table::row(r.number));
         if let Some(row) = row {
             out += &format!("<p>{}</p>\n", escape(row.advice));
