@@ -119,6 +119,9 @@ fn many_cases() {
     assert_eq!(page.matches("<svg").count(), 3);
     assert_eq!(page.matches(" class=\"witness\"").count(), 2);
     assert_eq!(page.matches(" class=\"refused\"><th").count(), 1);
+    // What scrolls is reached by the keyboard.
+    let scrolls = page.matches("<pre").count() + page.matches("<div class=\"picture\"").count();
+    assert_eq!(page.matches("tabindex=\"0\"").count(), scrolls);
     // One protocol, which all three lead to.
     assert_eq!(page.matches("<section id=\"protocol").count(), 1);
     assert_eq!(page.matches("href=\"#protocol1\"").count(), 3);
