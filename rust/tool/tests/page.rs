@@ -287,24 +287,32 @@ fn hostile_names_are_text() {
     }
 }
 
-/// Chromium without a window, over a page in a folder; nothing where it is not installed.
+/// What `timeout` answers for a program that was stopped, killed, or is not there.
+const STOPPED: i32 = 124;
+const KILLED: i32 = 137;
+const MISSING: i32 = 127;
+
+/// Chromium without a window, over a page in a folder; nothing where it is not installed. It gets two minutes, and a second try.
 fn chromium(arguments: &[&str], folder: &Path) -> Option<String> {
     let profile = format!("--user-data-dir={}", folder.join("profile").display());
     let page = format!("file://{}", folder.join("page.html").display());
-    let output = Command::new("chromium")
-        .args(["--headless", "--no-sandbox", "--disable-gpu", &profile])
-        .args(arguments)
-        .arg(page)
-        .current_dir(folder)
-        .output();
-    let missing = |e: &std::io::Error| e.kind() == std::io::ErrorKind::NotFound;
-    if output.as_ref().is_err_and(missing) {
+    let try_once = || {
+        let mut command = Command::new("timeout");
+        command.args(["--kill-after=5", "120", "chromium", "--headless"]);
+        command.args(["--no-sandbox", "--disable-gpu", &profile]);
+        command.args(arguments).arg(&page).current_dir(folder);
+        command.output().expect("timeout, of Debian's coreutils")
+    };
+    let mut output = try_once();
+    if let Some(STOPPED | KILLED) = output.status.code() {
+        output = try_once();
+    }
+    if output.status.code() == Some(MISSING) {
         // Past the harness, which keeps what a passed test prints.
         let message = "\nskipped: no browser looks at the page, for chromium is not installed; Debian has it in the package chromium\n";
         std::io::stderr().write_all(message.as_bytes()).unwrap();
         return None;
     }
-    let output = output.unwrap();
     assert!(output.status.success(), "{output:?}");
     Some(stdout(&output))
 }
