@@ -3,8 +3,8 @@
 
 use differential::{check_agrees, draw_agrees, side_by_side, Shares};
 use reference::calls::{fit_protocol, Outcome, WORK_AREA};
+use reference::earliest::conclusions_equal;
 use reference::generate::graphs::{draw_input, DrawInput};
-use reference::generate::runs::conclusions_equal;
 use reference::graph::{write_edges, Edge};
 use reference::machine::first_failure;
 use reference::number::Reader;

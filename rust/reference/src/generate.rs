@@ -12,6 +12,9 @@ pub mod exchanges;
 /// Runs, built forward, and their edges.
 pub mod runs;
 
+/// Runs with many equal facts.
+pub mod crowded;
+
 /// Properties.
 pub mod properties;
 

@@ -35,6 +35,9 @@ pub mod graph;
 /// The writer's choice of sources; cause 14.
 pub mod writer;
 
+/// That choice once more, by its words alone.
+pub mod earliest;
+
 /// The property file; causes 3 and 5.
 pub mod property;
 

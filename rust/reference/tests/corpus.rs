@@ -1,7 +1,9 @@
 //! Every case of the corpus: its outcome and all lent bytes.
 
-use reference::calls::{canonical_form, check, draw, Outcome};
+use reference::calls::{canonical_form, check, draw, fit_protocol, ruled_graph, Outcome};
 use reference::corpus::{cases, expected_memory, Case, INDEX, OUTPUT_BYTE, WORK_BYTE};
+use reference::earliest::{is_earliest, Source};
+use reference::generate::runs::edges_by;
 use reference::protocol::{Protocol, Rule};
 use reference::refusal::Refusal;
 use std::path::{Path, PathBuf};
@@ -54,6 +56,24 @@ fn cases_that_break_the_fifth_condition_alone() {
         broken += 1;
     }
     assert_eq!(broken, 93);
+}
+
+/// The bytes that the corpus expects of drawing hold the earliest sources by their words; often there are other fit ones.
+#[test]
+fn drawn_graphs_have_the_earliest_sources() {
+    let (mut drawn, mut choices) = (0, 0);
+    for (case, label) in cases().iter().zip(INDEX.lines()) {
+        let (1, Outcome::Written(_)) = (case.kind, case.outcome) else {
+            continue;
+        };
+        let protocol = fit_protocol(case.files[0]).expect(label);
+        let (nodes, edges) = ruled_graph(&protocol, case.written).expect(label);
+        assert!(is_earliest(&protocol, &nodes, &edges), "{label}");
+        let latest = |fit: &[Source]| *fit.last().expect(label);
+        choices += usize::from(edges_by(&protocol, &nodes, latest) != Some(edges));
+        drawn += 1;
+    }
+    assert_eq!((drawn, choices), (77, 25));
 }
 
 /// The line for the three files of a folder, or for its steps where it has no graph.

@@ -1,11 +1,14 @@
 //! The parts of the reference against one another: the machine, accepted graphs, the writer and the judge.
 
 use reference::by_words;
-use reference::calls::{check, draw, Outcome};
-use reference::generate::graphs::{check_input, draw_input};
+use reference::calls::{check, draw, fit_protocol, ruled_graph, Outcome};
+use reference::earliest::{is_earliest, premises, Source};
+use reference::generate::crowded;
+use reference::generate::graphs::DrawInput;
+use reference::generate::graphs::{check_input, crowded_steps, draw_input, session_steps};
 use reference::generate::properties::{negated, Maker};
 use reference::generate::protocols;
-use reference::generate::runs::{conclusions_equal, run};
+use reference::generate::runs::{edges_by, run, shuffle};
 use reference::graph::{accept, Edge};
 use reference::judge;
 use reference::machine::first_failure;
@@ -14,7 +17,7 @@ use reference::protocol::{Fact, Protocol};
 use reference::random::Random;
 use reference::refusal::{File, Refusal};
 use reference::steps::{nodes, read_steps, Node};
-use std::collections::HashSet;
+use reference::writer;
 
 /// The nodes at the start of a step list or graph.
 fn nodes_of(file: File, protocol: &Protocol, bytes: &[u8]) -> Vec<Node> {
@@ -62,27 +65,6 @@ fn a_drawn_graph_is_accepted() {
     assert!(drawn > 500);
 }
 
-/// An edge into each premise from its latest fit source; none if a premise is left without.
-fn latest_sources(protocol: &Protocol, nodes: &[Node]) -> Option<Vec<Edge>> {
-    let mut used = HashSet::new();
-    let mut edges = Vec::new();
-    for (target, node) in (1..).zip(nodes) {
-        for (premise, fact) in (1..).zip(&node.premises) {
-            let sources = conclusions_equal(&nodes[..target - 1], fact);
-            let fit = |place: &&(usize, usize)| protocol.persistent(fact) || !used.contains(*place);
-            let (source, conclusion) = *sources.iter().rev().find(fit)?;
-            used.insert((source, conclusion));
-            edges.push(Edge {
-                source,
-                conclusion,
-                target,
-                premise,
-            });
-        }
-    }
-    Some(edges)
-}
-
 /// "If the list is no run, then the writer refuses it", and no graph of these steps is accepted.
 #[test]
 fn steps_that_are_no_run_have_no_graph() {
@@ -99,7 +81,7 @@ fn steps_that_are_no_run_have_no_graph() {
         };
         let protocol = Protocol::read(&input.protocol).unwrap();
         let nodes = nodes_of(File::Steps, &protocol, &input.steps);
-        let edges = latest_sources(&protocol, &nodes);
+        let edges = edges_by(&protocol, &nodes, latest);
         assert_eq!(edges.is_none(), no_run);
         if let Some(edges) = edges {
             assert_eq!(accept(&protocol, &nodes, &edges), Ok(()));
@@ -108,6 +90,112 @@ fn steps_that_are_no_run_have_no_graph() {
         others += usize::from(no_run);
     }
     assert!(runs > 500 && others > 50, "{runs} {others}");
+}
+
+fn latest(fit: &[Source]) -> Source {
+    *fit.last().expect("a fit source")
+}
+
+/// What drawing writes of an input: protocol, nodes, edges; nothing where it is refused.
+fn drawn(input: &DrawInput) -> Option<(Protocol, Vec<Node>, Vec<Edge>)> {
+    let (mut output, mut work) = (vec![0; input.output], vec![0; input.work]);
+    let outcome = draw(&input.protocol, &input.steps, &mut output, &mut work);
+    let Outcome::Written(length) = outcome else {
+        return None;
+    };
+    let protocol = fit_protocol(&input.protocol).unwrap();
+    let (nodes, edges) = ruled_graph(&protocol, &output[..length as usize]).unwrap();
+    Some((protocol, nodes, edges))
+}
+
+/// "The writer's edges .. are from now on a defined outcome too": what is drawn has the earliest sources, and of the accepted graphs of the
+/// same nodes no other has, whether its edges stand in another order or come from other sources.
+#[test]
+fn the_drawn_edges_and_no_others_are_the_earliest() {
+    let mut random = Random::new(12);
+    let (mut orders, mut sources) = (0, 0);
+    for number in 0..1_800 {
+        let make = [draw_input, session_steps, crowded_steps][number % 3];
+        let Some((protocol, nodes, edges)) = drawn(&make(&mut random)) else {
+            continue;
+        };
+        assert!(is_earliest(&protocol, &nodes, &edges), "{edges:?}");
+        let mut shuffled = edges.clone();
+        shuffle(&mut random, &mut shuffled);
+        let some = edges_by(&protocol, &nodes, |fit| *random.choose(fit)).expect("a run");
+        let late = edges_by(&protocol, &nodes, latest).expect("a run");
+        orders += usize::from(shuffled != edges);
+        sources += usize::from(some != edges) + usize::from(late != edges);
+        for others in [shuffled, some, late] {
+            assert_eq!(accept(&protocol, &nodes, &others), Ok(()));
+            assert_eq!(is_earliest(&protocol, &nodes, &others), others == edges);
+        }
+    }
+    assert!(orders > 500 && sources > 700, "{orders} {sources}");
+}
+
+/// Each way to put a conclusion, any of any node, before each premise.
+fn all_edges(nodes: &[Node]) -> Vec<Vec<Edge>> {
+    let own =
+        |(source, node): (usize, &Node)| (1..=node.conclusions.len()).map(move |c| (source, c));
+    let conclusions: Vec<Source> = (1..).zip(nodes).flat_map(own).collect();
+    let mut all = vec![vec![]];
+    for (target, premise, _) in premises(nodes) {
+        let with = |edges: &Vec<Edge>, (source, conclusion): &Source| {
+            let edge = Edge {
+                source: *source,
+                conclusion: *conclusion,
+                target,
+                premise,
+            };
+            [&edges[..], &[edge]].concat()
+        };
+        let longer = |edges: Vec<Edge>| {
+            let with: Vec<Vec<Edge>> = conclusions
+                .iter()
+                .map(|place| with(&edges, place))
+                .collect();
+            with
+        };
+        all = all.into_iter().flat_map(longer).collect();
+    }
+    all
+}
+
+/// Of all accepted graphs with edges in the order of premises, the drawn one has the least sources, compared one after another; so a choice
+/// by greed loses no graph ("Steps that could be drawn before can still be drawn").
+#[test]
+fn no_accepted_graph_has_lower_sources() {
+    let mut random = Random::new(13);
+    let (mut chosen, mut most) = (0, 0);
+    for _ in 0..4_000 {
+        let few = crowded::protocol(&mut random);
+        let length = 1 + random.below(6);
+        let run = crowded::run(&mut random, &few, length);
+        let conclusions: usize = run.nodes.iter().map(|node| node.conclusions.len()).sum();
+        let premises = premises(&run.nodes).len() as u32;
+        if premises == 0 || conclusions.pow(premises) > 5_000 {
+            continue;
+        }
+        let mut accepted = all_edges(&run.nodes);
+        accepted.retain(|edges| accept(&few.protocol, &run.nodes, edges).is_ok());
+        let sources = |edges: &Vec<Edge>| -> Vec<Source> {
+            edges
+                .iter()
+                .map(|edge| (edge.source, edge.conclusion))
+                .collect()
+        };
+        let least = accepted.iter().min_by_key(|edges| sources(edges));
+        let edges = writer::edges(&few.protocol, &run.nodes).expect("a run");
+        assert_eq!(least, Some(&edges));
+        let earliest = accepted
+            .iter()
+            .filter(|edges| is_earliest(&few.protocol, &run.nodes, edges));
+        assert_eq!(earliest.count(), 1);
+        chosen += usize::from(accepted.len() > 1);
+        most = most.max(accepted.len());
+    }
+    assert!(chosen > 300 && most > 20, "{chosen} {most}");
 }
 
 #[test]

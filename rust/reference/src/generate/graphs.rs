@@ -3,8 +3,8 @@
 use super::damage::{damage, overfill};
 use super::judging::some_property;
 use super::properties::Maker;
-use super::runs::{encoded, run, some_edges, Step};
-use super::{exchanges, faults, protocols};
+use super::runs::{encoded, run, some_edges, Run, Step};
+use super::{crowded, exchanges, faults, protocols};
 use crate::calls::WORK_AREA;
 use crate::cases::trace;
 use crate::graph::{write_edges, Edge};
@@ -55,6 +55,12 @@ pub fn session_input(random: &mut Random) -> CheckInput {
     checked(random, parts)
 }
 
+/// Graphs with many equal facts: edges drawn or any.
+pub fn crowded_input(random: &mut Random) -> CheckInput {
+    let parts = equal_facts(random);
+    checked(random, parts)
+}
+
 /// The three files, perhaps with faults.
 fn checked(random: &mut Random, mut parts: Parts) -> CheckInput {
     let faults = some_faults(random);
@@ -93,6 +99,12 @@ pub fn draw_input(random: &mut Random) -> DrawInput {
 /// Sessions of a key exchange, to be drawn.
 pub fn session_steps(random: &mut Random) -> DrawInput {
     let parts = sessions(random);
+    drawn(random, parts)
+}
+
+/// Steps with many equal facts, to be drawn.
+pub fn crowded_steps(random: &mut Random) -> DrawInput {
+    let parts = equal_facts(random);
     drawn(random, parts)
 }
 
@@ -156,21 +168,33 @@ fn sessions(random: &mut Random) -> Parts {
     let protocol = exchanges::exchange(random);
     let most = *random.choose(&[30, 60, 150]);
     let length = 5 + random.below(most);
-    let (steps, edges, property) = {
-        let run = run(random, &protocol, length);
-        let mut edges = some_edges(random, &protocol, &run.nodes);
-        if random.percent(50) {
-            edges = writer::edges(&protocol, &run.nodes).expect("a run");
-        }
-        let most_quantifiers = if run.steps.len() > 60 { 2 } else { 3 };
-        let maker = Maker::new(&protocol, most_quantifiers);
-        let property = some_property(random, &maker, &trace(&run.nodes));
-        (run.steps, edges, property)
+    let run = run(random, &protocol, length);
+    with_edges(random, &protocol, &run)
+}
+
+/// A protocol of few facts, a run of it with edges, and a fit property.
+fn equal_facts(random: &mut Random) -> Parts {
+    let few = crowded::protocol(random);
+    let length = match random.below(100) {
+        0..10 => 130 + random.below(60),
+        _ => random.below(50),
     };
+    let run = crowded::run(random, &few, length);
+    with_edges(random, &few.protocol, &run)
+}
+
+/// A run with edges, drawn or any, and a property that its trace matters to.
+fn with_edges(random: &mut Random, protocol: &Protocol, run: &Run) -> Parts {
+    let mut edges = some_edges(random, protocol, &run.nodes);
+    if random.percent(50) {
+        edges = writer::edges(protocol, &run.nodes).expect("a run");
+    }
+    let most_quantifiers = if run.steps.len() > 60 { 2 } else { 3 };
+    let maker = Maker::new(protocol, most_quantifiers);
     Parts {
-        protocol,
-        property,
-        steps,
+        protocol: protocol.clone(),
+        property: some_property(random, &maker, &trace(&run.nodes)),
+        steps: run.steps.clone(),
         edges,
     }
 }

@@ -3,6 +3,7 @@
 use super::protocols::fact_of;
 use super::terms::Material;
 use crate::canonical::canonical_form;
+use crate::earliest::{fit_sources, premises, Source};
 use crate::graph::Edge;
 use crate::machine::Machine;
 use crate::number;
@@ -10,7 +11,6 @@ use crate::protocol::*;
 use crate::random::Random;
 use crate::steps::{instance, Node};
 use crate::term::*;
-use std::collections::HashSet;
 
 /// Messages above this size are not built upon, so that values stay within their limit.
 const MOST_BUILT_UPON: usize = 24;
@@ -36,15 +36,7 @@ pub struct Run<'a> {
 
 /// A run of about so many nodes.
 pub fn run<'a>(random: &mut Random, protocol: &'a Protocol, length: usize) -> Run<'a> {
-    let mut run = Run {
-        protocol,
-        machine: Machine::new(protocol),
-        next_name: random.below(3) as u32 * 64,
-        made: Vec::new(),
-        known: Vec::new(),
-        steps: Vec::new(),
-        nodes: Vec::new(),
-    };
+    let mut run = Run::new(protocol, random.below(3) as u32 * 64);
     for _ in 0..4 * length {
         if run.steps.len() >= length {
             break;
@@ -55,6 +47,19 @@ pub fn run<'a>(random: &mut Random, protocol: &'a Protocol, length: usize) -> Ru
 }
 
 impl<'a> Run<'a> {
+    /// No nodes yet; new names are numbered from here.
+    pub fn new(protocol: &'a Protocol, first_name: u32) -> Run<'a> {
+        Run {
+            protocol,
+            machine: Machine::new(protocol),
+            next_name: first_name,
+            made: Vec::new(),
+            known: Vec::new(),
+            steps: Vec::new(),
+            nodes: Vec::new(),
+        }
+    }
+
     /// Adds a step, and before it what supplies its premises; perhaps only some of these.
     fn grow(&mut self, random: &mut Random) {
         match random.below(20) {
@@ -72,7 +77,7 @@ impl<'a> Run<'a> {
     }
 
     /// Takes the step if the machine can.
-    fn take(&mut self, rule: u32, values: Vec<Term>) -> bool {
+    pub fn take(&mut self, rule: u32, values: Vec<Term>) -> bool {
         let Some(form) = self.protocol.rule(rule) else {
             return false;
         };
@@ -238,38 +243,39 @@ fn bind(values: &mut [Option<Term>], sorts: &[Sort], premise: &Fact, fact: &Fact
 
 /// A source for each premise of a run, any that is fit, in any order.
 pub fn some_edges(random: &mut Random, protocol: &Protocol, nodes: &[Node]) -> Vec<Edge> {
-    let mut used = HashSet::new();
-    let mut edges = Vec::new();
-    for (target, node) in (1..).zip(nodes) {
-        for (premise, fact) in (1..).zip(&node.premises) {
-            let sources = conclusions_equal(&nodes[..target - 1], fact);
-            let free = |place: &(usize, usize)| protocol.persistent(fact) || !used.contains(place);
-            let sources: Vec<(usize, usize)> = sources.into_iter().filter(free).collect();
-            let (source, conclusion) = *random.choose(&sources);
-            used.insert((source, conclusion));
-            edges.push(Edge {
-                source,
-                conclusion,
-                target,
-                premise,
-            });
-        }
-    }
-    for last in (1..edges.len()).rev() {
-        edges.swap(last, random.below(last + 1));
-    }
+    let some = |fit: &[Source]| *random.choose(fit);
+    let mut edges = edges_by(protocol, nodes, some).expect("a run");
+    shuffle(random, &mut edges);
     edges
 }
 
-/// The places, node and conclusion from 1, of the conclusions equal to a fact.
-pub fn conclusions_equal(nodes: &[Node], fact: &Fact) -> Vec<(usize, usize)> {
-    let mut places = Vec::new();
-    for (source, node) in (1..).zip(nodes) {
-        let conclusions = (1..).zip(&node.conclusions);
-        let equal = conclusions.filter(|(_, conclusion)| *conclusion == fact);
-        places.extend(equal.map(|(number, _)| (source, number)));
+/// Edges in the order of premises, each from the one of its fit sources that is chosen; none where a premise has no fit source.
+pub fn edges_by(
+    protocol: &Protocol,
+    nodes: &[Node],
+    mut choose: impl FnMut(&[Source]) -> Source,
+) -> Option<Vec<Edge>> {
+    let mut edges = Vec::new();
+    for (target, premise, fact) in premises(nodes) {
+        let fit = fit_sources(protocol, nodes, &edges, target, fact);
+        if fit.is_empty() {
+            return None;
+        }
+        let (source, conclusion) = choose(&fit);
+        edges.push(Edge {
+            source,
+            conclusion,
+            target,
+            premise,
+        });
     }
-    places
+    Some(edges)
+}
+
+pub fn shuffle<T>(random: &mut Random, items: &mut [T]) {
+    for last in (1..items.len()).rev() {
+        items.swap(last, random.below(last + 1));
+    }
 }
 
 /// The step list's bytes.
