@@ -162,7 +162,7 @@ pub fn ruled_steps(protocol: &Protocol, steps: &[u8]) -> Judged<Vec<Node>> {
 }
 
 /// The graph; cause 14.
-fn drawn(protocol: &Protocol, steps: &[u8]) -> Judged<Vec<u8>> {
+pub fn drawn(protocol: &Protocol, steps: &[u8]) -> Judged<Vec<u8>> {
     let nodes = ruled_steps(protocol, steps)?;
     let mut graph = steps.to_vec();
     write_edges(&writer::edges(protocol, &nodes)?, &mut graph);

@@ -4,14 +4,14 @@
 //!
 //! - bytes.txt: `number | LABEL | BYTES` and `term | LABEL | ARITIES | BYTES`
 //! - messages.txt: `LABEL | ARITIES | BYTES`
-//! - steps.txt, facts.txt and graphs.txt: `LABEL | PROTOCOL | BYTES`
+//! - steps.txt, facts.txt, graphs.txt and draws.txt: `LABEL | PROTOCOL | BYTES`
 //! - properties.txt: `LABEL | PROTOCOL | PROPERTY | STEPS`
 //!
 //! ARITIES are those of the free functions, in decimal, free function 0 first; PROTOCOL, BYTES, PROPERTY and
 //! STEPS are bytes as `notation::bytes` reads them. Each may be empty. A case's number is its place among the
 //! cases of its file, from 1.
 
-use crate::calls::{fit_property, fit_protocol, ruled_graph, ruled_steps, Outcome};
+use crate::calls::{drawn, fit_property, fit_protocol, ruled_graph, ruled_steps, Outcome};
 use crate::canonical::canonical_form;
 use crate::graph::Edge;
 use crate::judge::holds;
@@ -32,6 +32,7 @@ pub enum Kind {
     Steps,
     Facts,
     Graph,
+    Draw,
     Property,
 }
 
@@ -77,6 +78,11 @@ pub fn facts_cases(text: &str) -> Vec<Case> {
 /// The cases of graphs.txt.
 pub fn graphs_cases(text: &str) -> Vec<Case> {
     under_protocols(Kind::Graph, text)
+}
+
+/// The cases of draws.txt.
+pub fn draws_cases(text: &str) -> Vec<Case> {
+    under_protocols(Kind::Draw, text)
 }
 
 /// The cases of properties.txt.
@@ -158,6 +164,7 @@ impl Case {
             Kind::Graph => Ok(said(self.graph(), |(nodes, edges)| {
                 format!("good {} {}", nodes.len(), edges.len())
             })),
+            Kind::Draw => Ok(said(self.drawn_edges(), |drawn| drawn)),
             Kind::Property => Ok(said(self.property(), |(property, nodes)| {
                 truth(&property, &nodes)
             })),
@@ -194,6 +201,25 @@ impl Case {
         ruled_graph(&fit_protocol(&self.under)?, &self.bytes)
     }
 
+    /// The graph that is drawn of a step list.
+    pub fn drawn(&self) -> Judged<Vec<u8>> {
+        drawn(&fit_protocol(&self.under)?, &self.bytes)
+    }
+
+    /// Its length and its edges.
+    fn drawn_edges(&self) -> Judged<String> {
+        let graph = self.drawn()?;
+        let (_, edges) = ruled_graph(&fit_protocol(&self.under)?, &graph)?;
+        let end = |node: usize, place: usize| format!("{node}.{place}");
+        let words = edges.iter().map(|edge| {
+            let source = end(edge.source, edge.conclusion);
+            format!("{source}-{}", end(edge.target, edge.premise))
+        });
+        let words: Vec<String> = words.collect();
+        let comma = if words.is_empty() { "" } else { ", " };
+        Ok(format!("written {}{comma}{}", graph.len(), words.join(" ")))
+    }
+
     /// The files of a property and of a step list.
     pub fn property_and_steps(&self) -> (&[u8], &[u8]) {
         let (length, files) = self.bytes.split_at(2);
@@ -215,7 +241,7 @@ impl Case {
         let mut data = vec![match self.kind {
             Kind::Number => 0,
             Kind::Term | Kind::Message => 1,
-            Kind::Steps | Kind::Facts => 2,
+            Kind::Steps | Kind::Facts | Kind::Draw => 2,
             Kind::Graph => 3,
             Kind::Property => 4,
         }];

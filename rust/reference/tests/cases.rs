@@ -1,10 +1,13 @@
 //! The case files say what their labels say.
 
 use reference::by_words;
+use reference::calls::{fit_protocol, ruled_graph};
 use reference::cases::{
-    bytes_cases, data, facts, facts_cases, graphs_cases, message_cases, properties_cases,
-    steps_cases, trace, Case, Kind,
+    bytes_cases, data, draws_cases, facts, facts_cases, graphs_cases, message_cases,
+    properties_cases, steps_cases, trace, Case, Kind,
 };
+use reference::earliest::{is_earliest, Source};
+use reference::generate::runs::edges_by;
 use reference::notation::parse;
 use reference::number::{Reader, LARGEST};
 use reference::protocol::Protocol;
@@ -16,6 +19,7 @@ const MESSAGES: &str = include_str!("../../../tests/cases/messages.txt");
 const STEPS: &str = include_str!("../../../tests/cases/steps.txt");
 const FACTS: &str = include_str!("../../../tests/cases/facts.txt");
 const GRAPHS: &str = include_str!("../../../tests/cases/graphs.txt");
+const DRAWS: &str = include_str!("../../../tests/cases/draws.txt");
 const PROPERTIES: &str = include_str!("../../../tests/cases/properties.txt");
 
 #[test]
@@ -59,21 +63,39 @@ fn a_term_that_is_said_to_be_cut_off_is_a_fault() {
     assert!(outcomes.iter().all(|outcome| outcome == "fault"));
 }
 
-/// The label of a step list, a graph or a property is its outcome by document 01, a colon, and words.
+/// The label of a step list, a graph, a drawn graph or a property is its outcome by document 01, a colon, and words.
 #[test]
 fn nodes_and_properties_have_the_outcomes_of_their_labels() {
     let all = [
-        steps_cases(STEPS),
-        graphs_cases(GRAPHS),
-        properties_cases(PROPERTIES),
+        (300, steps_cases(STEPS)),
+        (300, graphs_cases(GRAPHS)),
+        (50, draws_cases(DRAWS)),
+        (300, properties_cases(PROPERTIES)),
     ];
-    for cases in all {
-        assert!(cases.len() > 300);
+    for (least, cases) in all {
+        assert!(cases.len() > least);
         for case in &cases {
             let (outcome, _) = case.label.split_once(": ").expect(&case.label);
             assert_eq!(case.outcome(), outcome, "{}", case.label);
         }
     }
+}
+
+/// The edges of a drawn case are the earliest by their words; in most there is another fit source.
+#[test]
+fn drawn_cases_have_the_earliest_sources() {
+    let mut choices = 0;
+    for case in draws_cases(DRAWS) {
+        let Ok(graph) = case.drawn() else {
+            continue;
+        };
+        let protocol = fit_protocol(&case.under).expect(&case.label);
+        let (nodes, edges) = ruled_graph(&protocol, &graph).expect(&case.label);
+        assert!(is_earliest(&protocol, &nodes, &edges), "{}", case.label);
+        let latest = |fit: &[Source]| *fit.last().expect("a fit source");
+        choices += usize::from(edges_by(&protocol, &nodes, latest) != Some(edges));
+    }
+    assert!(choices > 30, "{choices}");
 }
 
 /// Good graphs, and each cause that a graph under a fit protocol can have.
