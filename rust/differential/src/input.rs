@@ -63,7 +63,7 @@ impl Input {
         }
     }
 
-    /// Graphs and steps of random protocols and of key exchanges; terms.
+    /// Graphs and steps of random protocols, of key exchanges and with many equal facts; terms.
     pub fn random(random: &mut Random) -> Input {
         let check = |input: graphs::CheckInput| {
             let files = [&input.protocol[..], &input.property, &input.graph];
@@ -73,11 +73,13 @@ impl Input {
             let files = [&input.protocol[..], &input.steps];
             Input::writing(Call::Draw, files, input.output, input.work)
         };
-        match random.below(10) {
+        match random.below(12) {
             0..3 => check(graphs::check_input(random)),
             3..6 => check(graphs::session_input(random)),
-            6 => draw(graphs::draw_input(random)),
-            7 => draw(graphs::session_steps(random)),
+            6 => check(graphs::crowded_input(random)),
+            7 => draw(graphs::draw_input(random)),
+            8 => draw(graphs::session_steps(random)),
+            9 => draw(graphs::crowded_steps(random)),
             _ => {
                 let input = canonical::input(random);
                 let files = [&input.protocol[..], &input.term];
@@ -113,12 +115,20 @@ impl Input {
                 Input::writing(Call::Draw, files, File::Graph.limit(), WORK_AREA),
             ]
         });
+        // Drawn into an output that is long enough, and into the longest that is not.
+        let draws = cases::draws_cases(&text("draws.txt"));
+        let draws = draws.iter().flat_map(|case| {
+            let need = case.drawn().map_or(1, |graph| graph.len());
+            let files = [&case.under[..], &case.bytes];
+            [need, need - 1].map(|output| Input::writing(Call::Draw, files, output, WORK_AREA))
+        });
         let messages = cases::message_cases(&text("messages.txt"));
         let messages = messages.iter().map(|case| {
             let protocol = [&[case.under.len() as u8], &case.under[..], &[0, 0]].concat();
             Input::writing(Call::Canonical, [&protocol, &case.bytes], 1_024, WORK_AREA)
         });
-        corpus.chain(graphs).chain(steps).chain(messages).collect()
+        let nodes = graphs.chain(steps).chain(draws);
+        corpus.chain(nodes).chain(messages).collect()
     }
 
     /// Whether judging the property may take much longer than a second.

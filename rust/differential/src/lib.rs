@@ -18,10 +18,13 @@ pub mod step_lists;
 use levtosziv::{Refusal, Ruling};
 use reference::calls::{fit_protocol, Counts, Outcome};
 use reference::cases::{data, expected, facts, Case};
+use reference::earliest::{fit_sources, premises};
 use reference::number::Reader;
+use reference::protocol::Protocol;
 use reference::refusal::File;
-use reference::steps::read_steps;
+use reference::steps::{read_steps, Node};
 use reference::term::{Term, EXP, INV, MUL};
+use reference::writer;
 use std::cell::RefCell;
 use std::collections::BTreeMap;
 use std::io::Write;
@@ -292,9 +295,15 @@ pub struct Shares {
     /// Good inputs, and those among them of more than 100 nodes.
     good: usize,
     long: usize,
-    /// The facts of some good inputs, and those among them that hold a product, an inverse or a power.
+    /// Some good inputs, and those among them that leave the writer a choice.
+    looked_into: usize,
+    choices: usize,
+    /// The facts of these inputs, and those among them that hold a product, an inverse or a power.
     facts: usize,
     products: usize,
+    /// Their linear premises, and those among them with more than one fit source.
+    linear: usize,
+    several: usize,
 }
 
 impl Shares {
@@ -322,20 +331,36 @@ impl Shares {
         let count = Reader::new(nodes).number().expect("a count");
         self.long += usize::from(count > 100);
         if self.good.is_multiple_of(LOOKED_INTO) {
-            self.add_facts(file, protocol, nodes);
+            let protocol = fit_protocol(protocol).expect("a fit protocol");
+            let steps = read_steps(file, &mut Reader::new(nodes), &protocol).expect("nodes");
+            let nodes = reference::steps::nodes(&steps).expect("right values");
+            self.add_facts(&nodes);
+            self.add_choices(&protocol, &nodes);
         }
         self.good += 1;
     }
 
-    fn add_facts(&mut self, file: File, protocol: &[u8], nodes: &[u8]) {
-        let protocol = fit_protocol(protocol).expect("a fit protocol");
-        let steps = read_steps(file, &mut Reader::new(nodes), &protocol).expect("nodes");
-        let nodes = reference::steps::nodes(&steps).expect("right values");
+    fn add_facts(&mut self, nodes: &[Node]) {
         let product = |term: &Term| matches!(term, Term::Apply(EXP | INV | MUL, _));
-        for fact in facts(&nodes) {
+        for fact in facts(nodes) {
             self.facts += 1;
             self.products += usize::from(fact.any(&product));
         }
+    }
+
+    /// Which premises have more than one fit source, where those before took the lowest.
+    fn add_choices(&mut self, protocol: &Protocol, nodes: &[Node]) {
+        let edges = writer::edges(protocol, nodes).expect("a run");
+        let mut any = false;
+        for (place, (target, _, fact)) in premises(nodes).into_iter().enumerate() {
+            let several = fit_sources(protocol, nodes, &edges[..place], target, fact).len() > 1;
+            let linear = !protocol.persistent(fact);
+            self.linear += usize::from(linear);
+            self.several += usize::from(linear && several);
+            any |= several;
+        }
+        self.looked_into += 1;
+        self.choices += usize::from(any);
     }
 
     /// Adds what was counted elsewhere.
@@ -346,8 +371,12 @@ impl Shares {
         self.all += other.all;
         self.good += other.good;
         self.long += other.long;
+        self.looked_into += other.looked_into;
+        self.choices += other.choices;
         self.facts += other.facts;
         self.products += other.products;
+        self.linear += other.linear;
+        self.several += other.several;
     }
 
     /// The table, under a title.
@@ -362,6 +391,8 @@ impl Shares {
         if self.facts > 0 {
             table += &row("over 100 nodes", self.long, self.all);
             table += &row("facts with products", self.products, self.facts);
+            table += &row("a choice of source", self.choices, self.looked_into);
+            table += &row("of linear premises", self.several, self.linear);
         }
         println!("{title}: {} inputs\n{table}", self.all);
     }
@@ -392,5 +423,12 @@ impl Shares {
             "{} products",
             self.products
         );
+    }
+
+    /// Half of the good inputs leave the writer a choice, and so does a third of the linear premises.
+    pub fn with_choices(&self) {
+        let (choices, several) = (self.choices, self.several);
+        assert!(2 * choices >= self.looked_into, "{choices} with a choice");
+        assert!(3 * several >= self.linear, "{several} linear premises");
     }
 }

@@ -1,10 +1,11 @@
-//! Drawing beside the reference, over random inputs from a fixed seed, mostly good ones, some damaged; what is drawn is checked, and what is
-//! no run has no graph.
+//! Drawing beside the reference, over the cases by hand and over random inputs from a fixed seed, mostly good ones, some damaged: length,
+//! need and every byte. What is drawn is checked, and what is no run has no graph.
 
 use differential::{check_agrees, draw_agrees, side_by_side, Shares};
-use reference::calls::{fit_protocol, Outcome, WORK_AREA};
-use reference::earliest::conclusions_equal;
-use reference::generate::graphs::{draw_input, DrawInput};
+use reference::calls::{fit_protocol, ruled_graph, Outcome, WORK_AREA};
+use reference::cases::draws_cases;
+use reference::earliest::{conclusions_equal, is_earliest, premises};
+use reference::generate::graphs::{crowded_steps, draw_input, DrawInput};
 use reference::graph::{write_edges, Edge};
 use reference::machine::first_failure;
 use reference::number::Reader;
@@ -16,6 +17,9 @@ use reference::steps::{nodes, read_steps, Node};
 /// Inputs of one half; the halves run side by side.
 const INPUTS: usize = 100_000;
 
+/// One of so many inputs has many equal facts.
+const CROWDED: usize = 5;
+
 /// One of so many inputs is drawn again with other outputs, and its graph or graphs like it are checked.
 const FOLLOWED: usize = 32;
 
@@ -24,7 +28,10 @@ fn half(seed: u64) -> (Shares, Followed) {
     let mut shares = Shares::default();
     let mut followed = Followed::default();
     for number in 0..INPUTS {
-        let input = draw_input(&mut random);
+        let input = match number % CROWDED {
+            0 => crowded_steps(&mut random),
+            _ => draw_input(&mut random),
+        };
         let (outcome, graph) = draw_agrees(
             &input.protocol,
             &input.steps,
@@ -58,6 +65,7 @@ fn drawing_beside_the_reference() {
     shares.at_least(50, &files);
     shares.at_least(50, &["refused 1", "refused 4", "refused 6"]);
     shares.long_with_products();
+    shares.with_choices();
     followed.often_enough();
 }
 
@@ -78,29 +86,14 @@ impl Followed {
         }
     }
 
-    /// "Whichever the writer chooses, the graph meets all that is said of an accepted graph": the very bytes are checked. And the plain machine
-    /// takes all nodes; every output of the graph's length or more gets its bytes, every shorter one is refused.
+    /// The edges are the earliest by their words, the plain machine takes all nodes, and the very bytes are accepted in checking.
     fn drawn(&mut self, input: &DrawInput, graph: &[u8]) {
         assert!(graph.starts_with(&input.steps));
-        let (protocol, nodes) = well_formed(input);
+        let protocol = fit_protocol(&input.protocol).expect("a fit protocol");
+        let (nodes, edges) = ruled_graph(&protocol, graph).expect("an accepted graph");
+        assert!(is_earliest(&protocol, &nodes, &edges), "{graph:02X?}");
         assert_eq!(first_failure(&protocol, &nodes), None);
-        let need = graph.len();
-        for output in [0, need - 1, need, need + 1, File::Graph.limit()] {
-            let (outcome, again) = draw_agrees(
-                &input.protocol,
-                &input.steps,
-                output,
-                WORK_AREA,
-                output as u64,
-            );
-            if output >= need {
-                assert_eq!(outcome, Outcome::Written(need as u32));
-                assert_eq!(again, graph);
-            } else {
-                let item = need as u32;
-                assert_eq!(outcome, Outcome::Refused(Refusal { number: 15, item }));
-            }
-        }
+        into_every_output(&input.protocol, &input.steps, graph);
         match check_agrees(&input.protocol, &input.property, graph, WORK_AREA, 0) {
             Outcome::Attack(_) => self.attacks += 1,
             Outcome::Run(_) => self.runs += 1,
@@ -144,6 +137,43 @@ impl Followed {
     }
 }
 
+/// "Two people draw the same steps and want the same file": every output of the graph's length or more gets its bytes, and every shorter
+/// one is refused with that length.
+fn into_every_output(protocol: &[u8], steps: &[u8], graph: &[u8]) {
+    let need = graph.len();
+    for output in [0, need - 1, need, need + 1, File::Graph.limit()] {
+        let (outcome, again) = draw_agrees(protocol, steps, output, WORK_AREA, output as u64);
+        if output >= need {
+            assert_eq!(outcome, Outcome::Written(need as u32));
+            assert_eq!(again, graph);
+        } else {
+            let item = need as u32;
+            assert_eq!(outcome, Outcome::Refused(Refusal { number: 15, item }));
+        }
+    }
+}
+
+/// The outcome of each case is its label's (reference/tests/cases.rs); the archive has it too.
+#[test]
+fn the_cases_by_hand() {
+    let (mut drawn, mut refused) = (0, 0);
+    for case in draws_cases(include_str!("../../../tests/cases/draws.txt")) {
+        match case.drawn() {
+            Ok(graph) => {
+                into_every_output(&case.under, &case.bytes, &graph);
+                drawn += 1;
+            }
+            Err(refusal) => {
+                let (outcome, _) = draw_agrees(&case.under, &case.bytes, 0, WORK_AREA, 0);
+                assert_eq!(outcome, Outcome::Refused(refusal));
+                refused += 1;
+            }
+        }
+    }
+    println!("by hand: {drawn} drawn, {refused} refused");
+    assert!(drawn > 40 && refused > 5);
+}
+
 /// A fit protocol and the nodes of well-formed steps.
 fn well_formed(input: &DrawInput) -> (Protocol, Vec<Node>) {
     let protocol = fit_protocol(&input.protocol).expect("a fit protocol");
@@ -154,21 +184,18 @@ fn well_formed(input: &DrawInput) -> (Protocol, Vec<Node>) {
 
 /// An edge into each premise: from an equal conclusion before it, used or not, where there is one; else from any node before.
 fn any_edges(random: &mut Random, nodes: &[Node]) -> Vec<Edge> {
-    let mut edges = Vec::new();
-    for (target, node) in (1..).zip(nodes) {
-        for (premise, fact) in (1..).zip(&node.premises) {
-            let equal = conclusions_equal(&nodes[..target - 1], fact);
-            let (source, conclusion) = match equal[..] {
-                [] => (1 + random.below(target), 1),
-                _ => *random.choose(&equal),
-            };
-            edges.push(Edge {
-                source,
-                conclusion,
-                target,
-                premise,
-            });
+    let edge = |(target, premise, fact)| {
+        let equal = conclusions_equal(&nodes[..target - 1], fact);
+        let (source, conclusion) = match equal[..] {
+            [] => (1 + random.below(target), 1),
+            _ => *random.choose(&equal),
+        };
+        Edge {
+            source,
+            conclusion,
+            target,
+            premise,
         }
-    }
-    edges
+    };
+    premises(nodes).into_iter().map(edge).collect()
 }
