@@ -73,7 +73,9 @@ uint64_t levtosziv_check(const uint8_t *protocol, size_t protocol_length, const 
                          const uint8_t *graph, size_t graph_length, uint8_t *work, size_t work_length);
 
 /*
- * Writes a graph of the steps, which are a run of the protocol, to the start of the output: the steps' bytes, then the edges. An output of
+ * Writes the graph of the steps, which are a run of the protocol, to the start of the output: the steps' bytes, then the edges. For each
+ * premise, nodes in order and premises in order, an edge comes from the lowest node and then the lowest conclusion that is equal and, if
+ * linear, still unused. So the same steps give the same bytes, whatever output and work area are lent. An output of
  * LEVTOSZIV_GRAPH_BYTES is always long enough; a shorter one that is too short is refused with 15 and the bytes needed.
  */
 uint64_t levtosziv_draw(const uint8_t *protocol, size_t protocol_length, const uint8_t *steps, size_t steps_length,

@@ -1,6 +1,6 @@
 /*
  * Drawing from C, by the header alone: the steps of document 01's printed case, whose graph is then checked; a short output, a step list that is
- * no run, a name made twice, a short work area, a recorded variable that no premise has.
+ * no run, a name made twice, a short work area, a recorded variable that no premise has; equal facts, of which the lowest are taken.
  */
 #include "levtosziv.h"
 
@@ -30,7 +30,11 @@ int main(void)
     const uint8_t twice[] = {2, 0, 2, 7, 0, 2, 7};
     /* Nothing --[ K(x) ]-> nothing, x a message. */
     const uint8_t unbound[] = {0, 0, 1, 1, 0, 0, 1, 3, 0, 0, 0};
-    uint8_t output[32];
+    /* Nothing to L, L; L, L to nothing. Both premises of node 3 are fed by node 1. */
+    const uint8_t doubled[] = {0, 1, 0, 0, 2, 0, 0, 0, 2, 4, 4, 0, 2, 4, 4, 0, 0};
+    const uint8_t equal_facts[] = {3, 31, 31, 32};
+    const uint8_t earliest[] = {3, 31, 31, 32, 2, 1, 1, 3, 1, 1, 2, 3, 2};
+    uint8_t output[32], other[sizeof earliest];
     int failed = 0;
 
     memset(output, 0xA5, sizeof output);
@@ -61,6 +65,14 @@ int main(void)
 
     answer = levtosziv_draw(unbound, sizeof unbound, steps, sizeof steps, output, sizeof output, work, sizeof work);
     failed += fails("refused 4 1", answer == ((uint64_t)4 << 32 | 1));
+
+    answer = levtosziv_draw(doubled, sizeof doubled, equal_facts, sizeof equal_facts, output, sizeof output, work, sizeof work);
+    failed += fails("the length of the earliest", answer == ((uint64_t)3 << 56 | sizeof earliest));
+    failed += fails("the earliest", memcmp(output, earliest, sizeof earliest) == 0);
+    answer = levtosziv_draw(doubled, sizeof doubled, equal_facts, sizeof equal_facts, other, sizeof other, work, sizeof work);
+    failed += fails("another output", answer == ((uint64_t)3 << 56 | sizeof earliest) && memcmp(output, other, sizeof other) == 0);
+    answer = levtosziv_draw(doubled, sizeof doubled, equal_facts, sizeof equal_facts, other, sizeof other - 1, work, sizeof work);
+    failed += fails("the need", answer == ((uint64_t)15 << 32 | sizeof earliest));
     printf("C, drawing: %d of %d as document 01 says\n", asked - failed, asked);
     return failed != 0;
 }

@@ -150,13 +150,30 @@ pub fn check(
     })
 }
 
-/// Writes a graph of the steps, which are a run of the protocol, to the start of the output; gives its length.
+/// Writes the graph of the steps, which are a run of the protocol, to the start of the output; gives its length.
 ///
 /// ```
 /// let mut work = vec![0; levtosziv::WORK_BYTES];
 /// let mut output = [0xFF; 4];
 /// assert_eq!(levtosziv::draw(&[0, 0, 0], &[0], &mut output, &mut work), Ok(2));
 /// assert_eq!(output, [0, 0, 0xFF, 0xFF]); // no nodes, no edges
+/// ```
+///
+/// The graph is the steps' bytes and the edges behind them. For each premise, nodes in order and premises in order, an edge comes from the
+/// lowest node and then the lowest conclusion that is equal and, if linear, still unused. So the same steps give the same bytes, whatever
+/// output and work area are lent:
+///
+/// ```
+/// // Rule 31 makes a linear fact twice, rule 32 takes it twice.
+/// let protocol = [0, 1, 0, 0, 2, 0, 0, 0, 2, 4, 4, 0, 2, 4, 4, 0, 0];
+/// let steps = [3, 31, 31, 32];
+/// let mut work = levtosziv::Work::new();
+/// let (mut exact, mut longer) = ([0; 13], [0xFF; 100]);
+/// work.draw(&protocol, &steps, &mut exact)?;
+/// let length = work.draw(&protocol, &steps, &mut longer)?;
+/// assert_eq!(longer[..length], exact);
+/// assert_eq!(exact[4..], [2, 1, 1, 3, 1, 1, 2, 3, 2]); // 1.1 to 3.1, 1.2 to 3.2
+/// # Ok::<(), levtosziv::Refusal>(())
 /// ```
 pub fn draw(
     protocol: &[u8],
