@@ -143,6 +143,9 @@ pub enum Command {
         names: Option<PathBuf>,
     },
     /// Draw the graph of a run, or of a folder's steps.bin
+    ///
+    /// Each premise takes the earliest source: the lowest node and then the lowest conclusion that is equal and, if
+    /// linear, still unused. So the same steps give the same graph.
     Draw(Draw),
     /// The canonical form of a message, such as "'g'^~a^inv(~a)"
     Term {

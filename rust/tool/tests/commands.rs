@@ -126,6 +126,38 @@ fn built_files_are_shown_with_their_names() {
     );
 }
 
+/// Two people draw the same steps: one of a run, one of a graph with other edges, one of a folder's steps.bin.
+#[test]
+fn the_same_steps_give_the_same_file() {
+    let folder = folder("same-file");
+    let rules = "rule Make: [ ] --> [ L(), L() ]\nrule Take: [ L(), L() ] --> [ ]\nlemma l: F\n";
+    let steps = "Make() Make() Take()";
+    let mine = format!("{rules}run mine: {steps}\n");
+    let yours = format!("{rules}graph yours: {steps} edges: 2.2 -> 3.2, 1.2 -> 3.1\n");
+    put(
+        &folder,
+        &[
+            ("mine.lev", mine.as_bytes()),
+            ("yours.lev", yours.as_bytes()),
+        ],
+    );
+    assert_eq!(code(&["build", "yours.lev", "built"], &folder), Some(0));
+    for input in ["mine.lev", "yours.lev", "built"] {
+        let drawn = format!("{input}.bin");
+        assert_eq!(code(&["draw", input, "-o", &drawn], &folder), Some(0));
+        let graph = std::fs::read(folder.join(&drawn)).unwrap();
+        let edges = [2, 1, 1, 3, 1, 1, 2, 3, 2];
+        assert_eq!(graph, [&[3, 31, 31, 32][..], &edges].concat(), "{input}");
+    }
+    let drawn = stdout(&levtosziv(&["draw", "yours.lev"], &folder));
+    assert!(drawn.contains("1.1 -> 3.1, 1.2 -> 3.2"), "{drawn}");
+    // In checking a graph keeps the edges that it has.
+    let kept = std::fs::read(folder.join("built/graph.bin")).unwrap();
+    assert_eq!(kept[4..], [2, 2, 2, 3, 2, 1, 2, 3, 1]);
+    let line = stdout(&levtosziv(&["check", "built", "--format", "line"], &folder));
+    assert_eq!(line, "attack 3 0 2\n");
+}
+
 #[test]
 fn a_damaged_file_is_shown_at_the_fault() {
     let folder = folder("damaged");
