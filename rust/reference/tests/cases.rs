@@ -6,8 +6,8 @@ use reference::cases::{
     bytes_cases, data, draws_cases, facts, facts_cases, graphs_cases, message_cases,
     properties_cases, steps_cases, trace, Case, Kind,
 };
-use reference::earliest::{is_earliest, Source};
-use reference::generate::runs::edges_by;
+use reference::earliest::is_earliest;
+use reference::generate::runs::{edges_by, latest};
 use reference::notation::parse;
 use reference::number::{Reader, LARGEST};
 use reference::protocol::Protocol;
@@ -92,7 +92,6 @@ fn drawn_cases_have_the_earliest_sources() {
         let protocol = fit_protocol(&case.under).expect(&case.label);
         let (nodes, edges) = ruled_graph(&protocol, &graph).expect(&case.label);
         assert!(is_earliest(&protocol, &nodes, &edges), "{}", case.label);
-        let latest = |fit: &[Source]| *fit.last().expect("a fit source");
         choices += usize::from(edges_by(&protocol, &nodes, latest) != Some(edges));
     }
     assert!(choices > 30, "{choices}");

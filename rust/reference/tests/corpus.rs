@@ -2,8 +2,8 @@
 
 use reference::calls::{canonical_form, check, draw, fit_protocol, ruled_graph, Outcome};
 use reference::corpus::{cases, expected_memory, Case, INDEX, OUTPUT_BYTE, WORK_BYTE};
-use reference::earliest::{is_earliest, Source};
-use reference::generate::runs::edges_by;
+use reference::earliest::is_earliest;
+use reference::generate::runs::{edges_by, latest};
 use reference::protocol::{Protocol, Rule};
 use reference::refusal::Refusal;
 use std::path::{Path, PathBuf};
@@ -69,7 +69,6 @@ fn drawn_graphs_have_the_earliest_sources() {
         let protocol = fit_protocol(case.files[0]).expect(label);
         let (nodes, edges) = ruled_graph(&protocol, case.written).expect(label);
         assert!(is_earliest(&protocol, &nodes, &edges), "{label}");
-        let latest = |fit: &[Source]| *fit.last().expect(label);
         choices += usize::from(edges_by(&protocol, &nodes, latest) != Some(edges));
         drawn += 1;
     }

@@ -4,11 +4,12 @@ use reference::by_words;
 use reference::calls::{check, draw, fit_protocol, ruled_graph, Outcome};
 use reference::earliest::{is_earliest, premises, Source};
 use reference::generate::crowded;
-use reference::generate::graphs::DrawInput;
-use reference::generate::graphs::{check_input, crowded_steps, draw_input, session_steps};
+use reference::generate::graphs::{
+    check_input, crowded_steps, draw_input, session_steps, DrawInput,
+};
 use reference::generate::properties::{negated, Maker};
 use reference::generate::protocols;
-use reference::generate::runs::{edges_by, run, shuffle};
+use reference::generate::runs::{edges_by, latest, run, shuffle};
 use reference::graph::{accept, Edge};
 use reference::judge;
 use reference::machine::first_failure;
@@ -92,10 +93,6 @@ fn steps_that_are_no_run_have_no_graph() {
     assert!(runs > 500 && others > 50, "{runs} {others}");
 }
 
-fn latest(fit: &[Source]) -> Source {
-    *fit.last().expect("a fit source")
-}
-
 /// What drawing writes of an input: protocol, nodes, edges; nothing where it is refused.
 fn drawn(input: &DrawInput) -> Option<(Protocol, Vec<Node>, Vec<Edge>)> {
     let (mut output, mut work) = (vec![0; input.output], vec![0; input.work]);
@@ -134,30 +131,28 @@ fn the_drawn_edges_and_no_others_are_the_earliest() {
     assert!(orders > 500 && sources > 700, "{orders} {sources}");
 }
 
-/// Each way to put a conclusion, any of any node, before each premise.
+/// Every way to feed each premise from a conclusion, whichever and of whichever node.
 fn all_edges(nodes: &[Node]) -> Vec<Vec<Edge>> {
-    let own =
-        |(source, node): (usize, &Node)| (1..=node.conclusions.len()).map(move |c| (source, c));
-    let conclusions: Vec<Source> = (1..).zip(nodes).flat_map(own).collect();
+    let places = |node: &Node| 1..=node.conclusions.len();
+    let numbered = (1..).zip(nodes);
+    let conclusions: Vec<Source> = numbered
+        .flat_map(|(source, node)| places(node).map(move |conclusion| (source, conclusion)))
+        .collect();
     let mut all = vec![vec![]];
     for (target, premise, _) in premises(nodes) {
-        let with = |edges: &Vec<Edge>, (source, conclusion): &Source| {
-            let edge = Edge {
-                source: *source,
-                conclusion: *conclusion,
-                target,
-                premise,
-            };
-            [&edges[..], &[edge]].concat()
-        };
-        let longer = |edges: Vec<Edge>| {
-            let with: Vec<Vec<Edge>> = conclusions
-                .iter()
-                .map(|place| with(&edges, place))
-                .collect();
-            with
-        };
-        all = all.into_iter().flat_map(longer).collect();
+        let mut longer = Vec::new();
+        for edges in &all {
+            for (source, conclusion) in conclusions.iter().copied() {
+                let edge = Edge {
+                    source,
+                    conclusion,
+                    target,
+                    premise,
+                };
+                longer.push([&edges[..], &[edge]].concat());
+            }
+        }
+        all = longer;
     }
     all
 }
@@ -174,7 +169,7 @@ fn no_accepted_graph_has_lower_sources() {
         let run = crowded::run(&mut random, &few, length);
         let conclusions: usize = run.nodes.iter().map(|node| node.conclusions.len()).sum();
         let premises = premises(&run.nodes).len() as u32;
-        if premises == 0 || conclusions.pow(premises) > 5_000 {
+        if premises == 0 || conclusions.saturating_pow(premises) > 5_000 {
             continue;
         }
         let mut accepted = all_edges(&run.nodes);

@@ -272,6 +272,11 @@ pub fn edges_by(
     Some(edges)
 }
 
+/// The choice that is furthest from the writer's.
+pub fn latest(fit: &[Source]) -> Source {
+    *fit.iter().max().expect("a fit source")
+}
+
 pub fn shuffle<T>(random: &mut Random, items: &mut [T]) {
     for last in (1..items.len()).rev() {
         items.swap(last, random.below(last + 1));
