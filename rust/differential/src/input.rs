@@ -63,27 +63,41 @@ impl Input {
         }
     }
 
-    /// Graphs and steps of random protocols, of key exchanges and with many equal facts; terms.
+    /// An input of any call.
     pub fn random(random: &mut Random) -> Input {
-        let check = |input: graphs::CheckInput| {
-            let files = [&input.protocol[..], &input.property, &input.graph];
-            Input::check(files, input.work)
+        let call = match random.below(12) {
+            0..7 => Call::Check,
+            7..10 => Call::Draw,
+            _ => Call::Canonical,
         };
-        let draw = |input: graphs::DrawInput| {
-            let files = [&input.protocol[..], &input.steps];
-            Input::writing(Call::Draw, files, input.output, input.work)
-        };
-        match random.below(12) {
-            0..3 => check(graphs::check_input(random)),
-            3..6 => check(graphs::session_input(random)),
-            6 => check(graphs::crowded_input(random)),
-            7 => draw(graphs::draw_input(random)),
-            8 => draw(graphs::session_steps(random)),
-            9 => draw(graphs::crowded_steps(random)),
-            _ => {
+        Input::random_of(call, random)
+    }
+
+    /// Graphs and steps of random protocols, of key exchanges and with many equal facts; terms.
+    pub fn random_of(call: Call, random: &mut Random) -> Input {
+        match call {
+            Call::Check => {
+                let input = match random.below(7) {
+                    0..3 => graphs::check_input(random),
+                    3..6 => graphs::session_input(random),
+                    _ => graphs::crowded_input(random),
+                };
+                let files = [&input.protocol[..], &input.property, &input.graph];
+                Input::check(files, input.work)
+            }
+            Call::Draw => {
+                let input = match random.below(3) {
+                    0 => graphs::draw_input(random),
+                    1 => graphs::session_steps(random),
+                    _ => graphs::crowded_steps(random),
+                };
+                let files = [&input.protocol[..], &input.steps];
+                Input::writing(call, files, input.output, input.work)
+            }
+            Call::Canonical => {
                 let input = canonical::input(random);
                 let files = [&input.protocol[..], &input.term];
-                Input::writing(Call::Canonical, files, input.output, input.work)
+                Input::writing(call, files, input.output, input.work)
             }
         }
     }

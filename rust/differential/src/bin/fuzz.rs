@@ -3,11 +3,12 @@
 //!     fuzz MINUTES [--cores N] [--seed N]      as long as that
 //!     fuzz --inputs N [--cores N] [--seed N]   so many inputs
 //!     fuzz --as-found ..                       the input as it was found, and not the smallest one
+//!     fuzz --call check|draw|canonical ..      inputs of that call alone
 //!
 //! The corpus and the cases by hand come first. An input whose property may take much longer than a second is skipped and counted, so that a run
 //! ends when its time is over. Exits with 1 where the implementations differ.
 
-use differential::input::Input;
+use differential::input::{Call, Input};
 use differential::reduce::reduced;
 use differential::Shares;
 use reference::random::Random;
@@ -22,7 +23,17 @@ struct Plan {
     inputs: usize,
     cores: usize,
     seed: u64,
+    call: Option<Call>,
     as_found: bool,
+}
+
+fn call(name: &str) -> Option<Call> {
+    match name {
+        "check" => Some(Call::Check),
+        "draw" => Some(Call::Draw),
+        "canonical" => Some(Call::Canonical),
+        _ => None,
+    }
 }
 
 fn plan() -> Option<Plan> {
@@ -31,6 +42,7 @@ fn plan() -> Option<Plan> {
         inputs: usize::MAX,
         cores: 2,
         seed: 1,
+        call: None,
         as_found: false,
     };
     let words: Vec<String> = std::env::args().skip(1).collect();
@@ -42,10 +54,12 @@ fn plan() -> Option<Plan> {
             "--inputs" => plan.inputs = figure()? as usize,
             "--cores" => plan.cores = figure()? as usize,
             "--seed" => plan.seed = figure()?,
+            "--call" => plan.call = Some(call(words.next()?)?),
             "--as-found" => plan.as_found = true,
             minutes => plan.time = Duration::from_secs_f64(60.0 * minutes.parse::<f64>().ok()?),
         }
-        bounded = bounded || !matches!(word.as_str(), "--cores" | "--seed" | "--as-found");
+        let bound = !word.starts_with("--") || word == "--inputs";
+        bounded = bounded || bound;
     }
     bounded.then_some(plan)
 }
@@ -87,7 +101,11 @@ impl State {
         let mut shares = Shares::default();
         let mut random = Random::new(1_000 * self.plan.seed + number as u64);
         while !self.over() {
-            self.run(Input::random(&mut random), &mut shares);
+            let input = match self.plan.call {
+                Some(call) => Input::random_of(call, &mut random),
+                None => Input::random(&mut random),
+            };
+            self.run(input, &mut shares);
         }
         self.shares.lock().expect("shares").merge(shares);
     }
@@ -111,7 +129,7 @@ impl State {
 
 fn main() {
     let Some(plan) = plan() else {
-        eprintln!("fuzz MINUTES [--cores N] [--seed N], or --inputs N in place of the minutes");
+        eprintln!("fuzz MINUTES [--cores N] [--seed N] [--call check|draw|canonical], or --inputs N in place of the minutes");
         std::process::exit(2);
     };
     // A panic of the reference is a difference, and shown as one.
@@ -126,7 +144,8 @@ fn main() {
         found: Mutex::new(None),
         shares: Mutex::new(Shares::default()),
     };
-    for input in Input::cases() {
+    let wanted = |input: &Input| state.plan.call.is_none_or(|call| call == input.call);
+    for input in Input::cases().into_iter().filter(wanted) {
         let mut shares = state.shares.lock().expect("shares");
         state.run(input, &mut shares);
     }
