@@ -6,8 +6,8 @@ use mathlib.Core.List.{List, [], _∷_, _++_, map, List·Memᴰ·head, List·Mem
 use mathlib.Core.Option.{some, Option·none-ne-some, Option·some-injective}
 use Prim.Native.Nat.{ℕ, zero, suc, _+_, _≤_, _<_}
 use native.Mathlib.Omega.{arith}
-use lib.Dec.{ltb}
-use Rattle.lists.specs.Tests.{by-bool, true-false, not-true, leb-le, leb-gt}
+use Rattle.lists.specs.Choice.{by-order}
+use Rattle.lists.specs.Tests.{by-bool, true-false, not-true}
 use Rattle.lists.specs.Lists.{_∈_, nth, firstBy, removeBy}
 use Rattle.lists.specs.Lists.Laws.{first-mem, remove-mem, mem-nth, nth-mem}
 use Rattle.rewriting.specs.Graph.{Node, Place, samePlace}
@@ -15,22 +15,19 @@ use Rattle.rewriting.specs.Places.{Placed, placed, placedAll}
 use Rattle.rewriting.specs.Places.Laws.{place-eq, placed-node, placedAll-mem}
 use Rattle.rewriting.specs.Earliest.{Lower, Lowest}
 
--- Two places are one, or one is lower.
+-- Two places are one, or one is lower, whichever of the two numbers comes first.
 compared : (a b : Place) → (a ≡ b) ⊎ (Lower a b ⊎ Lower b a)
 compared a b =
-    by-bool (ltb (a .node) (b .node))
-    (λ t. inr (inl (inl (leb-le (suc (a .node)) (b .node) t))))
-    (λ f. by-bool (ltb (b .node) (a .node))
-    (λ t. inr (inr (inl (leb-le (suc (b .node)) (a .node) t))))
-    (λ g.
-    let n : a .node ≡ b .node = omega (arith, leb-gt (suc (a .node)) (b .node) f, leb-gt (suc (b .node)) (a .node) g) in
-    by-bool (ltb (a .index) (b .index))
-    (λ t. inr (inl (inr (n, leb-le (suc (a .index)) (b .index) t))))
-    (λ h. by-bool (ltb (b .index) (a .index))
-    (λ t. inr (inr (inr (sym n, leb-le (suc (b .index)) (a .index) t))))
-    (λ k.
-    let m : a .index ≡ b .index = omega (arith, leb-gt (suc (a .index)) (b .index) h, leb-gt (suc (b .index)) (a .index) k) in
-    inl (λ i. record { node = n i; index = m i })))))
+    by-order (a .node) (b .node)
+    (λ n. by-order (a .index) (b .index) (λ m. search (inl, inr)) (λ m. search (inl, inr)) (λ m. search (inl, inr)))
+    (λ n.
+    let o : b .node ≡ a .node = sym n in
+    by-order (a .index) (b .index) (λ m. search (inl, inr)) (λ m. inl (λ i. record { node = n i; index = m i })) (λ m. search (inl, inr)))
+    (λ n.
+    by-order (a .index) (b .index)
+    (λ m. search (inl, inr))
+    (λ m. let o : b .index ≡ a .index = sym m in search (inl, inr))
+    (λ m. search (inl, inr)))
 
 lower-not : (a b : Place) → Lower a b → Lower b a → ⊥
 lower-not a b (inl g) (inl h) = omega arith
@@ -212,7 +209,10 @@ module _ {Fact : Type 0} where
   pub placed-ascends : (k i : ℕ) (fs : List Fact) → Ascends at (placed k i fs)
   placed-ascends k i [] = tt
   placed-ascends k i (f ∷ fs) = (
-    (λ u m. inr (sym (placed-node k (suc i) fs u m), index-high k (suc i) fs u m)),
+    (λ u m.
+        let n : k ≡ u .place .node = sym (placed-node k (suc i) fs u m) in
+        let l : i < u .place .index = index-high k (suc i) fs u m in
+        search (inl, inr)),
     placed-ascends k (suc i) fs,
   )
 
