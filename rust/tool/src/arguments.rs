@@ -1,6 +1,7 @@
 //! What the subcommands are given.
 
 use crate::case::Choice;
+use crate::failure::{ATTACK, DONE, REFUSED};
 use clap::{Parser, Subcommand, ValueEnum};
 use std::path::PathBuf;
 
@@ -30,6 +31,17 @@ pub enum Form {
 pub enum FailOn {
     Attack,
     Refused,
+}
+
+impl FailOn {
+    /// The exit code where there was an attack or a refusal. An attack wins.
+    pub fn code(given: &[FailOn], attack: bool, refused: bool) -> i32 {
+        match () {
+            () if attack && given.contains(&FailOn::Attack) => ATTACK,
+            () if refused && given.contains(&FailOn::Refused) => REFUSED,
+            () => DONE,
+        }
+    }
 }
 
 /// Which of a text's lemmas and runs.

@@ -81,18 +81,14 @@ fn ignore_closed(error: std::io::Error) -> std::io::Result<()> {
     }
 }
 
-fn unwritten(path: &Path, error: std::io::Error) -> Failure {
-    Failure::File(format!("{}: {error}", path.display()))
-}
-
 fn write(path: &Path, bytes: &[u8]) -> Result<(), Failure> {
-    std::fs::write(path, bytes).map_err(|e| unwritten(path, e))
+    std::fs::write(path, bytes).map_err(|e| Failure::file(path, e))
 }
 
 fn check(given: &Check) -> Result<i32, Failure> {
     let form = if given.json { Form::Json } else { given.format };
     let cases = cases(&given.input, &given.which.choice(), given.names.as_deref())?;
-    let mut code = DONE;
+    let (mut attack, mut refused) = (false, false);
     let mut disagreements = Vec::new();
     for case in &cases {
         let answer = answer(case);
@@ -102,19 +98,11 @@ fn check(given: &Check) -> Result<i32, Failure> {
             Form::Words => say_words(&answer),
         }
         disagreements.extend(answer.disagreement());
-        let asked = match answer.word() {
-            "attack" if given.fail_on.contains(&FailOn::Attack) => ATTACK,
-            "refused" if given.fail_on.contains(&FailOn::Refused) => REFUSED,
-            _ => DONE,
-        };
-        // An attack wins over a refusal.
-        code = match (code, asked) {
-            (ATTACK, _) | (_, DONE) => code,
-            _ => asked,
-        };
+        attack |= answer.word() == "attack";
+        refused |= answer.word() == "refused";
     }
     match disagreements.is_empty() {
-        true => Ok(code),
+        true => Ok(FailOn::code(&given.fail_on, attack, refused)),
         false => Err(Failure::Disagreement(disagreements.join("\n"))),
     }
 }
@@ -160,7 +148,7 @@ fn build(text: &Path, folder: &Path, choice: &Choice) -> Result<i32, Failure> {
         .places
         .as_ref()
         .map_or("", |places| &places.source.text);
-    std::fs::create_dir_all(folder).map_err(|e| unwritten(folder, e))?;
+    std::fs::create_dir_all(folder).map_err(|e| Failure::file(folder, e))?;
     write(&folder.join(PROTOCOL_FILE), &case.protocol_bytes)?;
     write(&folder.join(PROPERTY_FILE), &case.property_bytes)?;
     write(&folder.join(STEPS_FILE), &bytes::encode_steps(&case.nodes))?;
