@@ -1,5 +1,6 @@
 //! What the subcommands are given.
 
+use crate::batch::arguments::{Batch, Merge};
 use crate::case::Choice;
 use crate::failure::{ATTACK, DONE, REFUSED};
 use clap::{Parser, Subcommand, ValueEnum};
@@ -148,6 +149,10 @@ pub enum Command {
     },
     /// The graph of a case as a picture
     Picture(Picture),
+    /// Rule on many cases: folders, lists, tar files and streams
+    Batch(Batch),
+    /// Put reports of `batch` together
+    Merge(Merge),
     /// All rules of a theory with their numbers and variables
     Rules { text: PathBuf },
     /// A row of the refusal table, with an example

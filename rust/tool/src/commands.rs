@@ -2,6 +2,7 @@
 
 use crate::answer::{answer, Answer};
 use crate::arguments::*;
+use crate::batch;
 use crate::bytes;
 use crate::case::*;
 use crate::diagnose::diagnose;
@@ -47,6 +48,8 @@ fn run(arguments: Arguments) -> Result<i32, Failure> {
         Command::Draw(given) => draw(&given),
         Command::Term { term, theory } => canonical(&term, theory.as_deref()),
         Command::Picture(given) => draw_picture(&given),
+        Command::Batch(given) => batch::batch(&given),
+        Command::Merge(given) => batch::merge(&given),
         Command::Rules { text } => rules(&text),
         Command::Explain { number } => explain(number),
         Command::Fmt { text, write } => fmt(&text, write),
