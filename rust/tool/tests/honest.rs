@@ -94,6 +94,27 @@ fn texts_with_a_core_that_refuses_all() {
 
 #[test]
 #[ignore = "tests/tool builds the program that this needs"]
+fn batches_with_another_core() {
+    let all = root().join("tests/corpus/real");
+    for (answer, line) in [
+        (REFUSED_99, "refused 99 0"),
+        (ATTACK, "attack 1 2 3"),
+        (RUN, "run 1 2 3"),
+    ] {
+        let said = stdout(&other_core(answer, false, &["batch", "."], &all));
+        let lines: Vec<&str> = said
+            .lines()
+            .filter(|line| line.contains("\"case\":"))
+            .collect();
+        assert!(lines.len() > 30);
+        for said in lines {
+            assert!(said.contains(&format!("\"line\":\"{line}\"")), "{said}");
+        }
+    }
+}
+
+#[test]
+#[ignore = "tests/tool builds the program that this needs"]
 fn a_core_that_says_the_opposite() {
     let mut told = 0;
     for folder in folders() {

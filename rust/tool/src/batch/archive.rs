@@ -90,11 +90,13 @@ pub fn cases(
     if place.ended.get() {
         return Err(Fault::At(place.read.get(), CUT_OFF.into()));
     }
+    only_zeros(archive.into_inner(), &place)?;
+    // Only now is the last case known to be whole.
     members.end()?;
-    if members.files_seen && !members.cases_seen {
-        return Err(Fault::At(place.read.get(), NO_CASE.into()));
+    match members.files_seen && !members.cases_seen {
+        true => Err(Fault::At(place.read.get(), NO_CASE.into())),
+        false => Ok(()),
     }
-    only_zeros(archive.into_inner(), &place)
 }
 
 /// What is behind the end mark is read to its end: a stream's writer is not cut off, and gzip's checksum is compared.

@@ -95,6 +95,7 @@ impl Merged {
             input: None,
         };
         for group in groups {
+            merged.input = None;
             merged.group(group)?;
         }
         same_inputs(list, &merged.inputs)?;
