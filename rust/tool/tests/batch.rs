@@ -761,23 +761,32 @@ fn progress_is_for_terminals() {
     let quiet = batch(&["a.tar", "--report", "quiet"], &folder);
     assert_eq!(stderr(&quiet).lines().count(), 1, "{}", stderr(&quiet));
     assert!(stderr(&quiet).starts_with("5,000 cases: "));
-    let command = "stty cols 120; ./levtosziv batch a.tar --report drawn";
-    let terminal = Command::new("script")
-        .args(["-qec", command, "/dev/null"])
-        .current_dir(&folder)
-        .stdin(Stdio::null())
-        .output()
-        .unwrap();
-    let drawn = stdout(&terminal);
-    for part in [
-        " %  ",
-        " cases, ",
-        " a second, ",
-        " attacks, ",
-        " refused, ",
-        " left",
-    ] {
-        assert!(drawn.contains(part), "{part}: {drawn}");
+    let terminal = |arguments: &str| {
+        let command = format!("stty cols 120; ./levtosziv batch a.tar --report drawn {arguments}");
+        let output = Command::new("script")
+            .args(["-qec", &command, "/dev/null"])
+            .current_dir(&folder)
+            .stdin(Stdio::null())
+            .output();
+        stdout(&output.unwrap())
+    };
+    for drawn in [terminal(""), terminal("--resume")] {
+        for part in [
+            " %  ",
+            " cases, ",
+            " a second, ",
+            " attacks, ",
+            " refused, ",
+            " left",
+        ] {
+            assert!(drawn.contains(part), "{part}: {drawn}");
+        }
+        // More a second than there are cases would be a figure below zero.
+        let rates = drawn
+            .split(" a second")
+            .map(|before| before.rsplit(' ').next().unwrap());
+        assert!(rates.clone().count() > 1);
+        assert!(rates.clone().all(|rate| rate.len() < 12), "{drawn}");
     }
     let reports = ["quiet", "drawn"].map(|name| std::fs::read(folder.join(name)).unwrap());
     assert!(reports[0] == reports[1]);

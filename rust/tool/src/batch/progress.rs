@@ -44,18 +44,20 @@ impl Progress {
         if self.bar.is_hidden() {
             return;
         }
+        // As long as old lines are compared, none is new.
+        let new = totals.cases.saturating_sub(old);
+        self.bar.set_message(format!(
+            "{} cases, {} a second, {} attacks, {} refused",
+            grouped(totals.cases),
+            grouped(rate(new, self.seconds())),
+            grouped(totals.attack),
+            grouped(totals.refused)
+        ));
         match self.size {
             Size::Bytes(all) => self.bar.set_position(read.min(all)),
             Size::Cases(_) => self.bar.set_position(totals.cases),
             Size::Unknown => self.bar.tick(),
         }
-        self.bar.set_message(format!(
-            "{} cases, {} a second, {} attacks, {} refused",
-            grouped(totals.cases),
-            grouped(rate(totals.cases - old, self.seconds())),
-            grouped(totals.attack),
-            grouped(totals.refused)
-        ));
     }
 
     pub fn seconds(&self) -> f64 {
