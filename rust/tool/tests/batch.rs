@@ -428,6 +428,37 @@ fn archives_that_are_cut_off_or_damaged() {
     assert_eq!(report("a.tar", &folder), whole);
 }
 
+/// Bytes of headers changed at random, with checksums that agree: whatever they say then, the tool ends by itself.
+#[test]
+fn damaged_headers_do_not_end_it_otherwise() {
+    let folder = folder("batch-headers");
+    let whole = open_archive(&many(3));
+    let headers = (0..whole.len()).step_by(512);
+    let headers = headers.filter(|at| &whole[at + 257..][..5] == b"ustar");
+    let headers: Vec<usize> = headers.collect();
+    let mut random = Random::new(42);
+    let mut ended = [0; 2];
+    for _ in 0..300 {
+        let mut tar = [&whole[..], &[0; 1024]].concat();
+        let header = *random.choose(&headers);
+        // The size, the kind, and what follows.
+        let place = header + [124 + random.below(12), 156, random.below(512)][random.below(3)];
+        tar[place] = *random.choose(b"01234567LKxgS5\0\x80\xFF ");
+        tar[header + 148..header + 156].fill(b' ');
+        let block = &tar[header..header + 512];
+        let sum: u32 = block.iter().map(|byte| u32::from(*byte)).sum();
+        tar[header + 148..header + 155].copy_from_slice(format!("{sum:06o}\0").as_bytes());
+        put(&folder, &[("a.tar", &tar)]);
+        let output = batch(&["a.tar"], &folder);
+        match output.status.code() {
+            Some(0) => ended[0] += 1,
+            Some(4) => ended[1] += 1,
+            other => panic!("{other:?}: {}", stderr(&output)),
+        }
+    }
+    assert!(ended.iter().all(|count| *count > 30), "{ended:?}");
+}
+
 #[test]
 fn long_names_links_and_other_members() {
     let folder = folder("batch-members");
