@@ -4,6 +4,8 @@ mod common;
 
 use common::archive::*;
 use common::*;
+use reference::calls::WORK_AREA;
+use reference::corpus;
 use reference::random::Random;
 use serde_json::Value;
 use std::io::{BufRead, BufReader, Read, Write};
@@ -105,6 +107,30 @@ fn each_line_is_that_of_the_report_program_and_of_check() {
     assert_eq!(header, "{\"report\":1,\"tool\":\"levtosziv 0.1.0\"}");
     let end: Value = serde_json::from_str(report.lines().last().unwrap()).unwrap();
     assert_eq!(end["cases"], folders.len());
+}
+
+#[test]
+fn the_cases_of_the_corpus() {
+    let folder = folder("batch-corpus");
+    let cases = corpus::cases().into_iter();
+    let checked: Vec<corpus::Case> = cases
+        .filter(|case| case.kind == 0 && case.work >= WORK_AREA)
+        .collect();
+    let files = checked.iter().enumerate().map(|(i, case)| Files {
+        name: format!("c{i:03}"),
+        bytes: [0, 1, 2].map(|file| case.files[file].to_vec()),
+    });
+    let all: Vec<Files> = files.collect();
+    put(&folder, &[("all.tar", &archive(&all))]);
+    all.iter()
+        .for_each(|case| case.write(&folder.join("all").join(&case.name)));
+    let expected: Vec<String> = checked
+        .iter()
+        .map(|case| case.outcome.to_string())
+        .collect();
+    assert!(expected.len() >= 280);
+    assert_eq!(field(&report("all.tar", &folder), "line"), expected);
+    assert_eq!(field(&report("all", &folder), "line"), expected);
 }
 
 #[test]
