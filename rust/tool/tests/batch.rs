@@ -315,6 +315,25 @@ fn an_interrupted_run_keeps_its_lines() {
 }
 
 #[test]
+fn a_report_has_one_writer() {
+    let folder = folder("batch-writers");
+    let tar = archive(&many(1_000));
+    put(&folder, &[("all.tar", &tar)]);
+    let mut first = spawn(&["-", "--report", "report"], &folder);
+    let half = &tar[..tar.len() / 2];
+    first.stdin.as_mut().unwrap().write_all(half).unwrap();
+    wait_for(&folder.join("report"), 1_000);
+    let second = ["all.tar", "--report", "report", "--resume"];
+    let said = "report: another run is writing this report";
+    fails(&batch(&second, &folder), said);
+    let rest = &tar[tar.len() / 2..];
+    first.stdin.take().unwrap().write_all(rest).unwrap();
+    assert!(first.wait().unwrap().success());
+    let whole = report("all.tar", &folder).replace("all.tar", "-");
+    assert!(std::fs::read_to_string(folder.join("report")).unwrap() == whole);
+}
+
+#[test]
 fn a_report_of_another_input_is_left_alone() {
     let folder = folder("batch-other");
     let all = many(600);

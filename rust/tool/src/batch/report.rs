@@ -8,7 +8,7 @@ use crate::kernel::Ruled;
 use serde::{Deserialize, Serialize};
 use std::borrow::Cow;
 use std::collections::BTreeMap;
-use std::fs::File;
+use std::fs::{File, OpenOptions, TryLockError};
 use std::io::{BufRead, BufReader, Write};
 use std::path::{Path, PathBuf};
 
@@ -261,7 +261,7 @@ impl Output {
                 "it is there already and is not written over; `batch --resume` goes on with a report";
             return Err(Failure::file(path, message));
         }
-        let file = File::create(path).map_err(|e| Failure::file(path, e))?;
+        let file = open_alone(path, OpenOptions::new().write(true).create(true))?;
         Ok(Output::to_file(path, file))
     }
 
@@ -275,6 +275,19 @@ impl Output {
     pub fn write(&mut self, lines: &[u8]) -> Result<(), Failure> {
         let written = self.to.write_all(lines).and_then(|()| self.to.flush());
         written.map_err(|e| Failure::File(format!("{}: {e}", self.name)))
+    }
+}
+
+/// Opens a report that no other run is writing. The lock ends with the run, however that ends.
+pub fn open_alone(path: &Path, options: &OpenOptions) -> Result<File, Failure> {
+    let file = options.open(path).map_err(|e| Failure::file(path, e))?;
+    let plain = file.metadata().is_ok_and(|there| there.is_file());
+    match file.try_lock() {
+        Err(TryLockError::WouldBlock) if plain => {
+            Err(Failure::file(path, "another run is writing this report"))
+        }
+        // Where the file system has no locks, nothing is known of other runs.
+        _ => Ok(file),
     }
 }
 

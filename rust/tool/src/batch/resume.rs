@@ -9,6 +9,7 @@ use std::path::{Path, PathBuf};
 /// A report with at least its first line.
 pub struct Old {
     path: PathBuf,
+    file: File,
     reader: Reader,
     /// The cases that it has.
     pub cases: u64,
@@ -50,10 +51,11 @@ impl Lines {
 impl Old {
     /// Nothing where there is no report, or not a whole line of one.
     pub fn open(path: &Path, header: &Header) -> Result<Option<Self>, Failure> {
-        let lines = match Lines::count(path) {
-            Err(e) if e.kind() == io::ErrorKind::NotFound => return Ok(None),
-            counted => counted.map_err(|e| Failure::file(path, e))?,
-        };
+        if !path.exists() {
+            return Ok(None);
+        }
+        let file = report::open_alone(path, OpenOptions::new().write(true))?;
+        let lines = Lines::count(path).map_err(|e| Failure::file(path, e))?;
         let first = report::line(header);
         if lines.count == 0 && first.starts_with(&lines.rest) {
             // The first line is all that a new report would have.
@@ -69,6 +71,7 @@ impl Old {
         let finished = report::is_end(&lines.last);
         Ok(Some(Old {
             path: path.into(),
+            file,
             reader,
             cases: lines.count - 1 - u64::from(finished),
             compared: 0,
@@ -92,20 +95,16 @@ impl Old {
     }
 
     /// The input has cases behind those of the report.
-    pub fn go_on(self) -> Result<Output, Failure> {
+    pub fn go_on(mut self) -> Result<Output, Failure> {
         if self.finished {
             let message =
                 "the report ends behind this case, and the input goes on: it is another one";
             return Err(failure(&self.path, self.compared, message));
         }
         let unwritten = |e: io::Error| Failure::file(&self.path, e);
-        let mut file = OpenOptions::new()
-            .write(true)
-            .open(&self.path)
-            .map_err(unwritten)?;
-        file.set_len(self.length).map_err(unwritten)?;
-        file.seek(SeekFrom::End(0)).map_err(unwritten)?;
-        Ok(Output::to_file(&self.path, file))
+        self.file.set_len(self.length).map_err(unwritten)?;
+        self.file.seek(SeekFrom::End(0)).map_err(unwritten)?;
+        Ok(Output::to_file(&self.path, self.file))
     }
 
     /// The input ends where the report's cases end; where to write the last line, if it has none.
