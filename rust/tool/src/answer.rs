@@ -1,6 +1,6 @@
 //! An answer of the core in words and as JSON.
 
-use crate::case::{line, refusal_line, Case};
+use crate::case::{line, refusal_line, word, Case};
 use crate::diagnose::{diagnose, Diagnosis, Place};
 use crate::hint;
 use crate::kernel::{Counts, Refusal, Ruled, Ruling};
@@ -49,11 +49,7 @@ impl Answer<'_> {
     }
 
     pub fn word(&self) -> &'static str {
-        match self.ruling {
-            Ok(Ruling::Attack(_)) => "attack",
-            Ok(Ruling::Run(_)) => "run",
-            Err(_) => "refused",
-        }
+        word(&self.ruling)
     }
 
     pub fn refusal(&self) -> Option<&Refusal> {
@@ -181,20 +177,10 @@ impl Answer<'_> {
     }
 
     pub fn json(&self) -> Json {
-        let counts = match self.ruling {
-            Ok(Ruling::Attack(counts) | Ruling::Run(counts)) => Some(counts),
-            Err(_) => None,
-        };
         Json {
             case: self.case.title.clone(),
             property: self.case.lemma.clone(),
-            line: self.line(),
-            ruling: self.word(),
-            nodes: counts.map(|c| c.nodes),
-            with_action: counts.map(|c| c.with_action),
-            edges: counts.map(|c| c.edges),
-            refusal: self.refusal().map(|r| r.number),
-            item: self.refusal().map(|r| r.item),
+            figures: Figures::of(&self.ruling),
             place: self.json_place(),
             words: self.words(),
             witness: self.witness().map(|witness| witness.matches.clone()),
@@ -238,6 +224,18 @@ impl std::fmt::Display for Json {
 pub struct Json {
     case: String,
     property: String,
+    #[serde(flatten)]
+    figures: Figures,
+    #[serde(skip_serializing_if = "Option::is_none")]
+    place: Option<serde_json::Value>,
+    words: Vec<String>,
+    #[serde(skip_serializing_if = "Option::is_none")]
+    witness: Option<Vec<witness::Match>>,
+}
+
+/// An answer as JSON, the same for a case of `check` and of `batch`.
+#[derive(Serialize)]
+pub struct Figures {
     line: String,
     ruling: &'static str,
     #[serde(skip_serializing_if = "Option::is_none")]
@@ -250,9 +248,22 @@ pub struct Json {
     refusal: Option<u32>,
     #[serde(skip_serializing_if = "Option::is_none")]
     item: Option<u32>,
-    #[serde(skip_serializing_if = "Option::is_none")]
-    place: Option<serde_json::Value>,
-    words: Vec<String>,
-    #[serde(skip_serializing_if = "Option::is_none")]
-    witness: Option<Vec<witness::Match>>,
+}
+
+impl Figures {
+    pub fn of(ruling: &Ruled) -> Self {
+        let counts = ruling.as_ref().ok().map(|ruling| match ruling {
+            Ruling::Attack(counts) | Ruling::Run(counts) => counts,
+        });
+        let refusal = ruling.as_ref().err();
+        Figures {
+            line: line(ruling),
+            ruling: word(ruling),
+            nodes: counts.map(|c| c.nodes),
+            with_action: counts.map(|c| c.with_action),
+            edges: counts.map(|c| c.edges),
+            refusal: refusal.map(|r| r.number),
+            item: refusal.map(|r| r.item),
+        }
+    }
 }

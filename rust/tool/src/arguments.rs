@@ -1,6 +1,8 @@
 //! What the subcommands are given.
 
+use crate::batch::arguments::{Batch, Merge};
 use crate::case::Choice;
+use crate::failure::{ATTACK, DONE, REFUSED};
 use clap::{Parser, Subcommand, ValueEnum};
 use std::path::PathBuf;
 
@@ -30,6 +32,17 @@ pub enum Form {
 pub enum FailOn {
     Attack,
     Refused,
+}
+
+impl FailOn {
+    /// The exit code where there was an attack or a refusal. An attack wins.
+    pub fn code(given: &[FailOn], attack: bool, refused: bool) -> i32 {
+        match () {
+            () if attack && given.contains(&FailOn::Attack) => ATTACK,
+            () if refused && given.contains(&FailOn::Refused) => REFUSED,
+            () => DONE,
+        }
+    }
 }
 
 /// Which of a text's lemmas and runs.
@@ -158,6 +171,10 @@ pub enum Command {
     Picture(Picture),
     /// Cases as one HTML file: verdict, property, picture and steps of each
     Page(Page),
+    /// Rule on many cases: folders, lists, tar files and streams
+    Batch(Batch),
+    /// Put reports of `batch` together
+    Merge(Merge),
     /// All rules of a theory with their numbers and variables
     Rules { text: PathBuf },
     /// A row of the refusal table, with an example

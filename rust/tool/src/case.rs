@@ -81,19 +81,13 @@ impl Case {
         (of_a_step && (1..=self.nodes.len()).contains(&step)).then_some(step)
     }
 
-    /// The core's answer. Where drawing refused, protocol and property are asked about first, with the empty graph.
+    /// The core's answer.
     pub fn ruling(&self) -> Ruled {
-        let mut kernel = self.kernel();
-        let Some(refusal) = self.undrawn else {
-            return kernel.check(&self.property_bytes, &self.graph_bytes);
+        let drawn = match self.undrawn {
+            None => Ok(&self.graph_bytes[..]),
+            Some(refusal) => Err(refusal),
         };
-        if refusal.number <= 2 {
-            return Err(refusal);
-        }
-        match kernel.check(&self.property_bytes, &[0, 0]) {
-            Err(earlier) => Err(earlier),
-            _ => Err(refusal),
-        }
+        self.kernel().check_drawn(&self.property_bytes, drawn)
     }
 }
 
@@ -106,6 +100,15 @@ pub fn line(ruling: &Ruled) -> String {
     }
 }
 
+/// The answer's word.
+pub fn word(ruling: &Ruled) -> &'static str {
+    match ruling {
+        Ok(Ruling::Attack(_)) => "attack",
+        Ok(Ruling::Run(_)) => "run",
+        Err(_) => "refused",
+    }
+}
+
 pub fn refusal_line(refusal: &Refusal) -> String {
     format!("refused {} {}", refusal.number, refusal.item)
 }
@@ -115,7 +118,7 @@ const MOST_TEXT: u64 = 16 << 20;
 
 /// A text with its theory.
 pub fn read_theory(path: &Path) -> Result<(Source, Theory), Failure> {
-    let unread = |e: std::io::Error| Failure::File(format!("{}: {e}", path.display()));
+    let unread = |e: std::io::Error| Failure::file(path, e);
     let mut bytes = Vec::new();
     let file = File::open(path).map_err(unread)?;
     file.take(MOST_TEXT + 1)
@@ -335,13 +338,18 @@ pub const GRAPH_FILE: &str = "graph.bin";
 /// The text that `build` puts beside the bytes.
 pub const THEORY_FILE: &str = "theory.lev";
 
-/// A file's bytes, one over its limit at most. "A file that cannot be opened counts as empty."
+/// Appends a file's bytes, one over its limit at most.
+pub fn append_file(path: &Path, limit: usize, bytes: &mut Vec<u8>) -> std::io::Result<()> {
+    let file = File::open(path)?;
+    file.take(limit as u64 + 1).read_to_end(bytes)?;
+    Ok(())
+}
+
+/// A file's bytes. "A file that cannot be opened counts as empty."
 pub fn read_file(path: &Path, limit: usize) -> Vec<u8> {
     let mut bytes = Vec::new();
-    if let Ok(file) = File::open(path) {
-        // What was read before an error is what the file has.
-        let _ = file.take(limit as u64 + 1).read_to_end(&mut bytes);
-    }
+    // What was read before an error is what the file has.
+    let _ = append_file(path, limit, &mut bytes);
     bytes
 }
 

@@ -2,6 +2,7 @@
 
 use crate::answer::{answer, Answer};
 use crate::arguments::*;
+use crate::batch;
 use crate::bytes;
 use crate::case::*;
 use crate::diagnose::diagnose;
@@ -53,6 +54,8 @@ fn run(arguments: Arguments) -> Result<i32, Failure> {
         Command::Term { term, theory } => canonical(&term, theory.as_deref()),
         Command::Picture(given) => draw_picture(&given),
         Command::Page(given) => write_page(&given),
+        Command::Batch(given) => batch::batch(&given),
+        Command::Merge(given) => batch::merge(&given),
         Command::Rules { text } => rules(&text),
         Command::Explain { number } => explain(number),
         Command::Fmt { text, write } => fmt(&text, write),
@@ -93,18 +96,14 @@ fn ignore_closed(error: std::io::Error) -> std::io::Result<()> {
     }
 }
 
-fn unwritten(path: &Path, error: std::io::Error) -> Failure {
-    Failure::File(format!("{}: {error}", path.display()))
-}
-
 fn write(path: &Path, bytes: &[u8]) -> Result<(), Failure> {
-    std::fs::write(path, bytes).map_err(|e| unwritten(path, e))
+    std::fs::write(path, bytes).map_err(|e| Failure::file(path, e))
 }
 
 fn check(given: &Check) -> Result<i32, Failure> {
     let form = if given.json { Form::Json } else { given.format };
     let cases = cases(&given.input, &given.which.choice(), given.names.as_deref())?;
-    let mut code = DONE;
+    let (mut attack, mut refused) = (false, false);
     let mut disagreements = Vec::new();
     for case in &cases {
         let answer = answer(case);
@@ -114,17 +113,10 @@ fn check(given: &Check) -> Result<i32, Failure> {
             Form::Words => say_words(&answer),
         }
         disagreements.extend(answer.disagreement());
-        let asked = match answer.word() {
-            "attack" if given.fail_on.contains(&FailOn::Attack) => ATTACK,
-            "refused" if given.fail_on.contains(&FailOn::Refused) => REFUSED,
-            _ => DONE,
-        };
-        // An attack wins over a refusal.
-        code = match (code, asked) {
-            (ATTACK, _) | (_, DONE) => code,
-            _ => asked,
-        };
+        attack |= answer.word() == "attack";
+        refused |= answer.word() == "refused";
     }
+    let code = FailOn::code(&given.fail_on, attack, refused);
     disagreed(&disagreements).map_or(Ok(code), Err)
 }
 
@@ -195,7 +187,7 @@ fn build(text: &Path, folder: &Path, choice: &Choice) -> Result<i32, Failure> {
         .places
         .as_ref()
         .map_or("", |places| &places.source.text);
-    std::fs::create_dir_all(folder).map_err(|e| unwritten(folder, e))?;
+    std::fs::create_dir_all(folder).map_err(|e| Failure::file(folder, e))?;
     write(&folder.join(PROTOCOL_FILE), &case.protocol_bytes)?;
     write(&folder.join(PROPERTY_FILE), &case.property_bytes)?;
     write(&folder.join(STEPS_FILE), &bytes::encode_steps(&case.nodes))?;

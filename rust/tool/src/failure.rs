@@ -5,7 +5,9 @@ use codespan_reporting::diagnostic::{Diagnostic, Label};
 use codespan_reporting::files::SimpleFile;
 use codespan_reporting::term::termcolor::{Buffer, ColorChoice, StandardStream, WriteColor};
 use codespan_reporting::term::{self, Chars, Config};
+use std::fmt::Display;
 use std::io::IsTerminal;
+use std::path::Path;
 
 pub const DONE: i32 = 0;
 pub const WRONG_ARGUMENTS: i32 = 2;
@@ -72,6 +74,11 @@ pub enum Failure {
 }
 
 impl Failure {
+    /// A file that cannot be read or written.
+    pub fn file(path: &Path, error: impl Display) -> Failure {
+        Failure::File(format!("{}: {error}", path.display()))
+    }
+
     /// Says what happened on standard error, and gives the exit code.
     pub fn report(&self) -> i32 {
         match self {

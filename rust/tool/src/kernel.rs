@@ -22,8 +22,24 @@ impl Kernel {
         }
     }
 
+    /// The same work area under another protocol.
+    pub fn under(&mut self, protocol: &[u8]) -> &mut Self {
+        self.protocol.clear();
+        self.protocol.extend_from_slice(protocol);
+        self
+    }
+
     pub fn check(&mut self, property: &[u8], graph: &[u8]) -> Ruled {
         self.work.check(&self.protocol, property, graph)
+    }
+
+    /// Where drawing refused, protocol and property are asked about first, with the empty graph.
+    pub fn check_drawn(&mut self, property: &[u8], drawn: Result<&[u8], Refusal>) -> Ruled {
+        match drawn {
+            Ok(graph) => self.check(property, graph),
+            Err(refusal) if refusal.number <= 2 => Err(refusal),
+            Err(refusal) => self.check(property, &[0, 0]).and(Err(refusal)),
+        }
     }
 
     pub fn draw(&mut self, steps: &[u8]) -> Result<Vec<u8>, Refusal> {

@@ -3,6 +3,7 @@
 
 pub mod answer;
 pub mod arguments;
+pub mod batch;
 pub mod bytes;
 pub mod case;
 pub mod commands;

@@ -122,6 +122,31 @@ fn texts_with_a_core_that_refuses_all() {
 
 #[test]
 #[ignore = "tests/tool builds the program that this needs"]
+fn batches_with_another_core() {
+    let real = root().join("tests/corpus/real");
+    let all = folders()
+        .into_iter()
+        .filter(|folder| folder.starts_with(&real));
+    let all: Vec<String> = all
+        .map(|folder| folder.to_string_lossy().into_owned())
+        .collect();
+    assert!(all.len() > 30);
+    let mut arguments = vec!["batch"];
+    arguments.extend(all.iter().map(String::as_str));
+    for (answer, line) in [
+        (REFUSED_99, "refused 99 0"),
+        (ATTACK, "attack 1 2 3"),
+        (RUN, "run 1 2 3"),
+    ] {
+        let said = stdout(&other_core(answer, false, &arguments, &real));
+        let line = format!("\"line\":\"{line}\"");
+        assert_eq!(said.matches(&line).count(), all.len(), "{said}");
+        assert_eq!(said.matches("\"line\":").count(), all.len(), "{said}");
+    }
+}
+
+#[test]
+#[ignore = "tests/tool builds the program that this needs"]
 fn a_core_that_says_the_opposite() {
     let mut told = 0;
     for folder in folders() {

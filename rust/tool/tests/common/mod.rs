@@ -2,6 +2,8 @@
 
 #![allow(dead_code)]
 
+pub mod archive;
+
 use std::path::{Path, PathBuf};
 use std::process::{Command, Output};
 use tool::bytes;
@@ -39,6 +41,10 @@ pub fn levtosziv(arguments: &[&str], directory: &Path) -> Output {
         .current_dir(directory)
         .output()
         .unwrap()
+}
+
+pub fn stderr(output: &Output) -> String {
+    String::from_utf8_lossy(&output.stderr).into_owned()
 }
 
 pub fn stdout(output: &Output) -> String {
