@@ -20,9 +20,11 @@ use crate::table;
 use crate::text;
 use crate::watch::Watch;
 use clap::{CommandFactory, Parser};
+use signal_hook::consts::SIGINT;
+use signal_hook::flag;
 use std::io::Write;
 use std::path::Path;
-use std::sync::atomic::{AtomicBool, AtomicI32, Ordering};
+use std::sync::atomic::{AtomicBool, Ordering};
 use std::sync::Arc;
 use std::thread;
 
@@ -127,18 +129,26 @@ fn check_again(given: &Check) -> Result<i32, Failure> {
         let message = format!("{name}: a text is watched, and this is a folder");
         return Err(Failure::Arguments(message));
     }
-    let code = Arc::new(AtomicI32::new(DONE));
-    let at_end = code.clone();
-    let ctrl_c = ctrlc::set_handler(move || std::process::exit(at_end.load(Ordering::Relaxed)));
-    ctrl_c.map_err(|e| Failure::File(format!("Ctrl-C cannot be waited for: {e}")))?;
+    // The first that applies ends the program.
+    let differed = Arc::new(AtomicBool::new(false));
+    let ends = [
+        (DISAGREEMENT, Arc::clone(&differed)),
+        (DONE, Arc::new(AtomicBool::new(true))),
+    ];
+    for (code, applies) in ends {
+        flag::register_conditional_shutdown(SIGINT, code, applies)
+            .map_err(|e| Failure::File(format!("Ctrl-C cannot be waited for: {e}")))?;
+    }
     let watch = Watch::new(input)?;
     loop {
         let said = check(given).unwrap_or_else(|failure| failure.report());
-        if said == DISAGREEMENT {
-            code.store(said, Ordering::Relaxed);
-        }
+        differed.fetch_or(said == DISAGREEMENT, Ordering::Relaxed);
         if GONE.load(Ordering::Relaxed) {
-            return Ok(code.load(Ordering::Relaxed));
+            let code = match differed.load(Ordering::Relaxed) {
+                true => DISAGREEMENT,
+                false => DONE,
+            };
+            return Ok(code);
         }
         eprintln!("watching {name}; Ctrl-C ends it");
         watch.saved()?;
