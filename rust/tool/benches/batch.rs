@@ -38,20 +38,17 @@ fn processor_time(children: bool) -> f64 {
     (ticks[at] + ticks[at + 1]) * 1e4
 }
 
-/// The least processor time a case.
-fn least(cases: usize, children: bool, mut run: impl FnMut()) -> f64 {
-    let times = (0..RUNS).map(|_| {
-        let before = processor_time(children);
-        run();
-        (processor_time(children) - before) / cases as f64
-    });
-    times.fold(f64::INFINITY, f64::min)
+/// The processor time a case of what is run.
+fn time(cases: usize, children: bool, run: impl FnOnce()) -> f64 {
+    let before = processor_time(children);
+    run();
+    (processor_time(children) - before) / cases as f64
 }
 
 fn bare(files: &Files) -> f64 {
     let mut work = levtosziv::Work::new();
     let [protocol, property, graph] = &files.0;
-    least(CASES, false, || {
+    time(CASES, false, || {
         for _ in 0..CASES {
             let _ = black_box(work.check(protocol, property, graph));
         }
@@ -95,15 +92,21 @@ fn batch(arguments: &[&str]) -> Command {
     command
 }
 
-fn row(name: &str, cases: usize, bare: f64, arguments: &[&str]) {
-    let time = least(cases, true, || {
-        let status = batch(arguments)
-            .args(["--jobs", "1"])
-            .status()
-            .expect("it was built");
-        assert!(status.success(), "{name}");
-    });
-    println!("| {name} | {time:.2} | {:.2} |", time / bare);
+/// Both in turn, the least of each.
+fn row(name: &str, cases: usize, files: &Files, arguments: &[&str]) {
+    let [mut alone, mut batched] = [f64::INFINITY; 2];
+    for _ in 0..RUNS {
+        alone = alone.min(bare(files));
+        let run = || {
+            let status = batch(arguments).args(["--jobs", "1"]).status();
+            assert!(status.expect("it was built").success(), "{name}");
+        };
+        batched = batched.min(time(cases, true, run));
+    }
+    println!(
+        "| {name} | {alone:.2} | {batched:.2} | {:.2} |",
+        batched / alone
+    );
 }
 
 /// The most memory of a process, in KB, as long as it runs.
@@ -155,11 +158,8 @@ fn main() {
             std::fs::write(format!("{place}/{name}"), bytes).expect("there is room");
         }
     }
-    let bare = bare(&files);
-    println!("\n| batch, the printed case | processor time, µs a case | ratio |\n|---|---|---|");
-    println!("| the bare call | {bare:.2} | 1 |");
-    let [protocol, property] =
-        ["protocol.bin", "property.bin"].map(|name| example.join(name).display().to_string());
+    println!("\n| processor time a case, µs; the printed case | bare call | batch | ratio |\n|---|---|---|---|");
+    let [protocol, property] = [0, 1].map(|file| example.join(NAMES[file]).display().to_string());
     let given = [
         "graphs.tar",
         "--protocol",
@@ -167,10 +167,15 @@ fn main() {
         "--property",
         &property,
     ];
-    row("tar, graphs only", CASES, bare, &given);
-    row("tar, three files a case", CASES, bare, &["cases.tar"]);
-    row("the same by gzip", CASES, bare, &["cases.tar.gz"]);
-    row("folders, in the system's memory", FOLDERS, bare, &["cases"]);
+    row("tar, graphs only", CASES, &files, &given);
+    row("tar, three files a case", CASES, &files, &["cases.tar"]);
+    row("the same by gzip", CASES, &files, &["cases.tar.gz"]);
+    row(
+        "folders, in the system's memory",
+        FOLDERS,
+        &files,
+        &["cases"],
+    );
     println!("\n| batch | most memory |\n|---|---|");
     for cases in [10_000, 100_000, 1_000_000] {
         memory(cases, &files);

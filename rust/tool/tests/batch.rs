@@ -170,6 +170,15 @@ fn all_inputs_and_numbers_of_jobs_give_the_same() {
     assert_eq!(field(&of_folder, "case")[7], "g00007");
     let of_list = stdout(&batch(&["--list", "list"], &folder));
     assert_eq!(field(&of_list, "line"), lines);
+    let mut child = spawn(&["--list", "-"], &folder);
+    let list = list.join("\n");
+    child
+        .stdin
+        .take()
+        .unwrap()
+        .write_all(list.as_bytes())
+        .unwrap();
+    assert!(stdout(&child.wait_with_output().unwrap()) == of_list);
     assert_eq!(field(&of_list, "input")[7], "cases/g00007");
     assert_eq!(field(&of_list, "crc"), field(&of_folder, "crc"));
 }
