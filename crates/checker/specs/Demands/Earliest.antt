@@ -9,12 +9,13 @@ use Rattle.lists.specs.Choice.{by-size}
 use Rattle.octets.specs.Head.{Bytes}
 use Rattle.octets.specs.Splice.{splice}
 use Rattle.rewriting.specs.Table.{Ruling, passed, refused}
-use Rattle.rewriting.specs.Table.Laws.{refused-passed}
+use Rattle.rewriting.specs.Table.Laws.{refused-passed, refused-number, refused-item}
 use Rattle.rewriting.specs.Graph.{Edge}
 use Rattle.protocol.specs.Protocol.{Protocol}
 use Rattle.steps.specs.Nodes.{read, nodeList}
 use Rattle.steps.specs.Runs.{NamesOnce}
 use Rattle.steps.specs.Runs.Equations.{EarliestSame, run-earliest-same}
+use Rattle.steps.specs.Causes.{stepsItem}
 use Rattle.steps.specs.WellFormed.{stepsLimit, WellFormed}
 use Rattle.graph.specs.Graph.{Graph, encodeGraph}
 use Rattle.property.specs.Formula.{Formula}
@@ -31,12 +32,6 @@ use Rattle.checker.specs.Draw.Written.{written-front, GraphWritten, grap
 use Rattle.checker.specs.Draw.Runs.{well-within}
 use Rattle.checker.specs.Demands.{SuchRun}
 use Rattle.checker.specs.Demands.Third.{IsDrawn, graph-run, whole-list}
-
-fifteen : {A : Type 0} (n k j : ℕ) → n ≤ 14 → Path (Ruling A) (refused n k) (refused 15 j) → ⊥
-fifteen n k j l e = let z : n ≡ 15 = cc in omega arith
-
-need-of : {A : Type 0} (j k : ℕ) → Path (Ruling A) (refused 15 j) (refused 15 k) → k ≡ j
-need-of j k e = cc
 
 module _ (protocol steps : List ℕ) (bytes : Bytes protocol) (steps-bytes : Bytes steps) where
   -- the files have at most one graph whose edges come from the earliest sources
@@ -74,7 +69,7 @@ module _ (protocol steps : List ℕ) (bytes : Bytes protocol) (steps-bytes : Byt
     -- "or need": n is asked for just where n is the length of that graph, and there is no room for it
     module _ (e : Outcome ≡ refused 15 n) where
       other : {C : Type 0} (m k : ℕ) → m ≤ 14 → Outcome ≡ refused m k → C
-      other m k l f = absurd (fifteen m k n l (sym f ∙ e))
+      other m k l f = absurd (omega (arith, l, refused-number m k 15 n (sym f ∙ e)))
 
       of-graph :
           (p : length protocol ≤ protocolLimit) (s : length steps ≤ stepsLimit) (r : Ruling Graph) → graphDrawn protocol steps ≡ r
@@ -85,7 +80,7 @@ module _ (protocol steps : List ℕ) (bytes : Bytes protocol) (steps-bytes : Byt
           let (q, d) = graph-draws protocol steps bytes steps-bytes p s g f in
           by-size output (needOf g)
           (λ l.
-          let i : n ≡ needOf g = need-of (needOf g) n (sym (no-room protocol steps output work long p s g f l) ∙ e) in
+          let i : n ≡ needOf g = refused-item 15 n 15 (needOf g) (sym e ∙ no-room protocol steps output work long p s g f l) in
           (record { is-protocol = q; is-graph = g; files = d; needs = i }, omega (arith, i, l)))
           (λ l. absurd (refused-passed 15 n (needOf g) (sym e ∙ room protocol steps output work long p s g f l)))
 
@@ -94,7 +89,7 @@ module _ (protocol steps : List ℕ) (bytes : Bytes protocol) (steps-bytes : Byt
           by-size protocolLimit (length protocol)
           (λ l. other 2 protocolItem (omega arith) (protocol-over protocol steps output work long l))
           (λ p. by-size stepsLimit (length steps)
-          (λ l. other 2 5 (omega arith) (steps-over protocol steps output work long p l))
+          (λ l. other 2 stepsItem (omega arith) (steps-over protocol steps output work long p l))
           (λ s. of-graph p s (graphDrawn protocol steps) refl))
 
     pub need-exactly : (Outcome ≡ refused 15 n) ↔ (DrawnLength protocol steps n × (output < n))

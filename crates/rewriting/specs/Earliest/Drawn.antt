@@ -20,7 +20,7 @@ use Rattle.rewriting.specs.Places.Laws.{place-eq, place-self, placed-sta
 use Rattle.rewriting.specs.Writer.{addNode, takeOne, takeAll, edgesInto, freeAfter, drawFrom}
 use Rattle.rewriting.specs.Writer.Laws.{add-some}
 use Rattle.rewriting.specs.Earliest.{Earliest}
-use Rattle.rewriting.specs.Earliest.Order.{Ascends, at, ascends-both, placed-ascends, ascends-remove, removed-apart, kept-mem, first-lowest}
+use Rattle.rewriting.specs.Earliest.Order.{Ascends, placeOf, ascends-both, placed-ascends, ascends-remove, removed-apart, kept-mem, first-lowest}
 use Rattle.rewriting.specs.Earliest.Laws.{target, Sourced, Follows, follows-append, targets-earliest}
 
 count-none : {A : Type 0} (p : A → Bool) (xs : List A) → ((a : A) → a ∈ xs → p a ≡ true → ⊥) → countBy p xs ≡ 0
@@ -47,7 +47,7 @@ module _ (F : Facts) (nodes : List (Node (F .Fact))) where
 
   -- The free conclusions before node `k`, in order: those that are persistent or that no edge comes from.
   record Held (k : ℕ) (free : List (Placed Fact)) (written : List Edge) : Type 0 where
-    ascends : Ascends at free
+    ascends : Ascends placeOf free
     stands :
         (t : Placed Fact) → t ∈ free
         → (conclusionAt nodes (t .place) ≡ some (t .fact)) × (t .place .node < k) × (linear (t .fact) ≡ true → outOf (t .place) written ≡ 0)
@@ -89,7 +89,7 @@ module _ (F : Facts) (nodes : List (Node (F .Fact))) where
           let u : Placed Fact = record { place = b; fact = j .from } in
           let q : j .to ≡ p = Option·some-injective _ _ (sym (j .has-target) ∙ to) in
           let s : same p (j .from) ≡ true = ap (λ (g : Fact). same g (j .from)) (sym q) ∙ same-sym (j .from) (j .to) (j .facts-same) in
-          first-lowest at sameAs free t u (held .ascends) found (held .has u (j .has-source) (j .earlier) (f .unused)) s low;
+          first-lowest placeOf sameAs free t u (held .ascends) found (held .has u (j .has-source) (j .earlier) (f .unused)) s low;
     }
 
     -- A conclusion at the place of the source is the source's.
@@ -114,10 +114,10 @@ module _ (F : Facts) (nodes : List (Node (F .Fact))) where
     -- What is left is free after that edge: without the source if it is linear, else all.
     held-used : linear p ≡ true → Held k (removeBy sameAs free) behind
     held-used l = record {
-      ascends = ascends-remove at sameAs free (held .ascends);
+      ascends = ascends-remove placeOf sameAs free (held .ascends);
       stands = λ u m.
           let s = held .stands u (remove-mem sameAs free u m) in
-          (s .0, s .1, λ lu. unused-after u (removed-apart at sameAs free t u (held .ascends) found m) (s .2 lu));
+          (s .0, s .1, λ lu. unused-after u (removed-apart placeOf sameAs free t u (held .ascends) found m) (s .2 lu));
       has = λ u h b f.
           kept-mem sameAs free t u found (held .has u h b (unused-before u f))
           (λ (j : u ≡ t).
@@ -146,7 +146,7 @@ module _ (F : Facts) (nodes : List (Node (F .Fact))) where
   -- The edges of one node.
   record Wrote (k : ℕ) (written es : List Edge) (ws left : List (Placed Fact)) : Type 0 where
     follows : Follows (Tested F) linear nodes written es
-    in-order : map target es ≡ map at ws
+    in-order : map target es ≡ map placeOf ws
     held : Held k left (written ++ es)
 
   edges-follow :
@@ -176,7 +176,7 @@ module _ (F : Facts) (nodes : List (Node (F .Fact))) where
       → ((t : Placed Fact) → conclusionAt nodes (t .place) ≡ some (t .fact) → t .place .node ≡ k → t ∈ placed k 1 cs)
       → Held (suc k) (free ++ placed k 1 cs) written
   held-more k free written cs held of has = record {
-    ascends = ascends-both at free (placed k 1 cs) (held .ascends) (placed-ascends k 1 cs)
+    ascends = ascends-both placeOf free (placed k 1 cs) (held .ascends) (placed-ascends k 1 cs)
         (λ t u m n. inl (omega (arith, held .stands t m .1, placed-node k 1 cs u n)));
     stands = λ t m.
         ⊎-elim
@@ -198,7 +198,7 @@ module _ (F : Facts) (nodes : List (Node (F .Fact))) where
   -- What the writer does to the nodes from `k` on.
   record WroteAll (k : ℕ) (xs : List (Node Fact)) (written es : List Edge) : Type 0 where
     follows : Follows (Tested F) linear nodes written es
-    in-order : map target es ≡ map at (premisesFrom k xs)
+    in-order : map target es ≡ map placeOf (premisesFrom k xs)
 
   nodes-follow :
       (k : ℕ) (xs : List (Node Fact)) (free : List (Placed Fact)) (written es : List Edge) → Held k free written
@@ -229,7 +229,7 @@ module _ (F : Facts) (nodes : List (Node (F .Fact))) where
         in-order =
             map-append target es₁ es₂
             ∙ ap₂ (λ (l m : List Place). l ++ m) (g .in-order) (r .in-order)
-            ∙ sym (map-append at (placed k 1 (x .premises)) (premisesFrom (suc k) xs));
+            ∙ sym (map-append placeOf (placed k 1 (x .premises)) (premisesFrom (suc k) xs));
       })
 
   -- The writer's edges are the earliest.

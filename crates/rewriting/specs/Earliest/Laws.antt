@@ -17,7 +17,7 @@ use Rattle.rewriting.specs.Places.{Placed, premisesFrom, countAt}
 use Rattle.rewriting.specs.Places.Laws.{place-eq, place-self, placed-stands, stands-placed, placedAll-once}
 use Rattle.rewriting.specs.Earliest.{Lower, Lowest, Fits, Earliest}
 use Rattle.rewriting.specs.Earliest.Order.{lowest-unique, lowest-as, Ascends, ascends-nth, nth-ascends, map-mem, mem-map, map-ascends, ascends-map}
-use Rattle.rewriting.specs.Earliest.Order.{ascends-one, at, all-ascends}
+use Rattle.rewriting.specs.Earliest.Order.{ascends-one, placeOf, all-ascends}
 
 abbrev pub target : Edge → Place
 target e = e .target
@@ -60,26 +60,26 @@ module _ {Fact : Type 0} (Same : Fact → Fact → Type 0) (linear : Fact → Bo
   into-targets a [] = refl
   into-targets a (e ∷ es) = omega (arith, into-targets a es)
 
-  places-count : (a : Place) (l : List (Placed Fact)) → countAt a l ≡ countBy (samePlace a) (map at l)
+  places-count : (a : Place) (l : List (Placed Fact)) → countAt a l ≡ countBy (samePlace a) (map placeOf l)
   places-count a [] = refl
   places-count a (t ∷ l) = omega (arith, places-count a l)
 
   abbrev premisePlaces : List Place
-  premisePlaces = map at (premisesFrom 1 nodes)
+  premisePlaces = map placeOf (premisesFrom 1 nodes)
 
   earliest-targets : (es : List Edge) → Earliest Same linear nodes es → map target es ≡ premisePlaces
   earliest-targets es h =
       ascends-one (map target es) premisePlaces (map-ascends target es (nth-ascends target es (h .in-order)))
-      (map-ascends at (premisesFrom 1 nodes) (all-ascends (λ x. x .premises) 1 nodes))
+      (map-ascends placeOf (premisesFrom 1 nodes) (all-ascends (λ x. x .premises) 1 nodes))
       (λ a m.
       let (e, i, q) = map-mem target es a m in
       let (j, s) = mem-nth es e i in
       let n = h .sources j e s .here .joins in
       let t : Placed Fact = record { place = e .target; fact = n .to } in
       subst (λ (b : Place). b ∈ premisePlaces) q
-      (mem-map at (premisesFrom 1 nodes) t (stands-placed (λ x. x .premises) nodes t (n .has-target))))
+      (mem-map placeOf (premisesFrom 1 nodes) t (stands-placed (λ x. x .premises) nodes t (n .has-target))))
       (λ a m.
-      let (t, i, q) = map-mem at (premisesFrom 1 nodes) a m in
+      let (t, i, q) = map-mem placeOf (premisesFrom 1 nodes) a m in
       let one = h .one-into (t .place) (t .fact) (placed-stands (λ x. x .premises) nodes t i) in
       let (e, k, s) = count-pos (λ (d : Edge). samePlace (t .place) (d .target)) es (omega (arith, one)) in
       subst (λ (b : Place). b ∈ map target es) (sym (place-eq (t .place) (e .target) s) ∙ q) (mem-map target es e k))
@@ -103,7 +103,7 @@ module _ {Fact : Type 0} (Same : Fact → Fact → Type 0) (linear : Fact → Bo
       ordered =
           ascends-nth target es
           (ascends-map target es
-          (subst (Ascends (λ (a : Place). a)) (sym o) (map-ascends at (premisesFrom 1 nodes) (all-ascends (λ x. x .premises) 1 nodes))))
+          (subst (Ascends (λ (a : Place). a)) (sym o) (map-ascends placeOf (premisesFrom 1 nodes) (all-ascends (λ x. x .premises) 1 nodes))))
 
       sourced : (j : ℕ) (e : Edge) → nth es j ≡ some e → Sourced (before j es) e
       sourced zero e s = absurd (Option·none-ne-some e s)

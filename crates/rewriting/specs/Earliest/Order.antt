@@ -195,8 +195,8 @@ ascends-one (a ∷ l) (b ∷ m) g h s t =
 
 -- ── placed facts ──
 module _ {Fact : Type 0} where
-  abbrev pub at : Placed Fact → Place
-  at t = t .place
+  abbrev pub placeOf : Placed Fact → Place
+  placeOf t = t .place
 
   index-high : (k i : ℕ) (fs : List Fact) (t : Placed Fact) → t ∈ placed k i fs → i ≤ t .place .index
   index-high k i [] t m = absurd (List·Memᴰ·not-nil m)
@@ -206,7 +206,7 @@ module _ {Fact : Type 0} where
       (λ n. omega (arith, index-high k (suc i) fs t n))
       (List·Memᴰ·cases-cons m)
 
-  pub placed-ascends : (k i : ℕ) (fs : List Fact) → Ascends at (placed k i fs)
+  pub placed-ascends : (k i : ℕ) (fs : List Fact) → Ascends placeOf (placed k i fs)
   placed-ascends k i [] = tt
   placed-ascends k i (f ∷ fs) = (
     (λ u m.
@@ -216,10 +216,10 @@ module _ {Fact : Type 0} where
     placed-ascends k (suc i) fs,
   )
 
-  pub all-ascends : (part : Node Fact → List Fact) (k : ℕ) (xs : List (Node Fact)) → Ascends at (placedAll part k xs)
+  pub all-ascends : (part : Node Fact → List Fact) (k : ℕ) (xs : List (Node Fact)) → Ascends placeOf (placedAll part k xs)
   all-ascends part k [] = tt
   all-ascends part k (x ∷ xs) =
-      ascends-both at (placed k 1 (part x)) (placedAll part (suc k) xs) (placed-ascends k 1 (part x)) (all-ascends part (suc k) xs)
+      ascends-both placeOf (placed k 1 (part x)) (placedAll part (suc k) xs) (placed-ascends k 1 (part x)) (all-ascends part (suc k) xs)
       (λ t u m n.
       let a = placed-node k 1 (part x) t m in
       let (j, b, _) = placedAll-mem part (suc k) xs u n in

@@ -16,10 +16,10 @@ refused-passed n k a e = let z : _≡_ {A = ℕ} 0 1 = cc in omega arith
 pub passed-inj : {A : Type 0} (a b : A) → Path (Ruling A) (passed a) (passed b) → a ≡ b
 passed-inj a b e = cc
 
-refused-number : {A : Type 0} (n k m j : ℕ) → Path (Ruling A) (refused n k) (refused m j) → n ≡ m
+pub refused-number : {A : Type 0} (n k m j : ℕ) → Path (Ruling A) (refused n k) (refused m j) → n ≡ m
 refused-number n k m j e = cc
 
-refused-item : {A : Type 0} (n k m j : ℕ) → Path (Ruling A) (refused n k) (refused m j) → k ≡ j
+pub refused-item : {A : Type 0} (n k m j : ℕ) → Path (Ruling A) (refused n k) (refused m j) → k ≡ j
 refused-item n k m j e = cc
 
 -- There is one smallest item.
