@@ -31,12 +31,12 @@ pub mod Answers
 -- a fit protocol file, and that the rows say it
 pub mod Fit
 
--- "Protocol (4,096 bytes)", "Term (1,024 bytes)"
+-- "Protocol (4,096 bytes)"; document 02, Change 3: "the term file grows to 1,280 bytes"
 abbrev pub protocolLimit : ℕ
 protocolLimit = 4096
 
 abbrev pub termLimit : ℕ
-termLimit = 1024
+termLimit = 1280
 
 -- "An item is 1 protocol, 2 property, 3 graph, 4 term, 5 steps"
 abbrev pub protocolItem : ℕ
@@ -73,7 +73,7 @@ abbrev pub protocolRows : List ℕ → List Row
 protocolRows file = layoutRows protocolItem (protocol file) ++ rowsAfter (layout protocolItem (protocol file)) fitRows
 
 -- ── the term: 3, then 8 ──
--- "Term (1,024 bytes): one term without variables", and no leftover bytes
+-- "one term without variables", and no leftover bytes
 unfoldable pub termFile : List ℕ → List ℕ → Read Term
 termFile arities file =
     reading.andThen (term file arities 0)

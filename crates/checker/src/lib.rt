@@ -28,14 +28,14 @@ use protocol::figures;
 use rules::fit::FitVerdict;
 use term::Walk;
 
-// "Protocol (4,096 bytes)", "Property (1,024 bytes)", "Graph (61,440 bytes)", "Term (1,024 bytes)", and the work area that no call needs more of.
+// "Protocol (4,096 bytes)", "Property (1,024 bytes)", "Graph (61,440 bytes)", "the term file grows to 1,280 bytes", and the work area that no call needs more of.
 pub const PROTOCOL_LIMIT: usize = 4096;
 
 pub const PROPERTY_LIMIT: usize = 1024;
 
 pub const GRAPH_LIMIT: usize = 61440;
 
-const TERM_LIMIT: usize = 1024;
+const TERM_LIMIT: usize = 1280;
 
 pub const WORK_NEED: usize = 65536;
 

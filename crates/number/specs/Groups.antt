@@ -1,5 +1,5 @@
--- "A number is written in groups of seven bits, lowest first, top bit set where another group follows, shortest form,
--- three groups at most (2,097,151)."
+-- "A number is written in groups of seven bits, lowest first, top bit set where another group follows, shortest form"; document 02, Change 3:
+-- "A number may have four groups, up to 268,435,455".
 use Prim.Native.Nat.{ℕ, zero, suc, _+_, _/_, _%_, _^_}
 use mathlib.Core.List.{List, [], _∷_}
 use mathlib.Core.Bool.{true, false}
@@ -20,13 +20,9 @@ groupsIn (suc b) n = elim (ltb n base) [ true ↦ n ∷ [] | false ↦ (base + n
 unfoldable pub groups : ℕ → List ℕ
 groups n = groupsIn n n
 
--- "three groups at most"
+-- "A number may have four groups"
 abbrev pub mostGroups : ℕ
-mostGroups = 3
-
--- as many groups as the code has room to read
-abbrev pub roomGroups : ℕ
-roomGroups = 4
+mostGroups = 4
 
 -- the numbers that a file can hold are below this
 unfoldable pub numberLimit : ℕ

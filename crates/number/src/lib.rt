@@ -3,7 +3,7 @@ ghost use mathlib.Core.Path.{_≡_};
 ghost use Prim.Native.Nat.{_+_, _-_, _^_, _≤_, _<_};
 ghost use lib.ListN.{length};
 ghost use Rattle.octets.specs.Splice.{splice};
-ghost use Rattle.number.specs.Groups.{groups, base, roomGroups};
+ghost use Rattle.number.specs.Groups.{groups, base, mostGroups};
 ghost use Rattle.number.specs.Reading.{readNumber, below, asRead, joined, got};
 
 // "groups of seven bits": a group that another follows is from BASE on, so a byte below TOP_BIT is a whole number.
@@ -13,8 +13,8 @@ const BASE: u32 = 1 << BITS;
 
 pub const TOP_BIT: u8 = 1 << BITS;
 
-// "three groups at most", and the limit that follows.
-const MOST_GROUPS: usize = 3;
+// "A number may have four groups", and the limit that follows.
+pub const MOST_GROUPS: usize = 4;
 
 pub const NUMBER_LIMIT: usize = 1 << (BITS * MOST_GROUPS);
 
@@ -32,7 +32,7 @@ pub enum Seen {
 
 // Groups of value `low`, and the rest of the number behind them, which counts `weight` times.
 fn joined(low: u32, weight: u32, v: u32, e: usize) -> Number
-    requires { ⌜ (low < weight) × (weight ≤ base ^ (roomGroups - 1)) × (v < base) ⌝ }
+    requires { ⌜ (low < weight) × (weight ≤ base ^ (mostGroups - 1)) × (v < base) ⌝ }
     ensures { λ r. ⌜ asRead r ≡ joined low weight (got v e) ⌝ }
 {
     if v == 0 {

@@ -49,10 +49,10 @@ pub const TAGS: usize = FIRST_FREE + MOST_FUNCTIONS;
 // The slot of a tag that no function has.
 pub const UNDECLARED: u8 = 255;
 
-// "at most 256 symbols", and the bytes that are kept free for a term: five a symbol, a tag and a number of four groups.
+// "at most 256 symbols", and the bytes that are kept free for a term: for each symbol a tag, and a number of the most groups.
 pub const MOST_SYMBOLS: usize = 256;
 
-const SYMBOL_ROOM: usize = 5;
+const SYMBOL_ROOM: usize = 1 + number::MOST_GROUPS;
 
 pub const TERM_ROOM: usize = SYMBOL_ROOM * MOST_SYMBOLS;
 

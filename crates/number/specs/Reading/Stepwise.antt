@@ -6,7 +6,7 @@ use native.Mathlib.Omega.{arith}
 use native.Mathlib.Nat.{pow-suc, pow-le-pow-right, mul-add, mul-comm, mul-assoc, mul-le-mul-right}
 use lib.ListN.{length, getD}
 use Rattle.lists.specs.Choice.{by-size}
-use Rattle.number.specs.Groups.{mostGroups, base, roomGroups}
+use Rattle.number.specs.Groups.{mostGroups, base}
 use Rattle.number.specs.Reading.{Read, got, fault, joined, longer, readIn, readNumber}
 use Rattle.number.specs.Reading.Numbers.{joined-zero, joined-some, number-more, now-none, now-end, now-one, now-more}
 
@@ -52,9 +52,9 @@ module _ {file : List ℕ} {at i low weight left : ℕ} (s : Sofar file at i low
   sofar-small byte = omega (arith, s .small, mul-le-mul-right {m = getD file i 0 - 128} {n = 127} weight (omega arith))
 
   module _ (some : 0 < left) where
-    -- the code has room for a group more
-    pub sofar-room : weight ≤ base ^ (roomGroups - 1)
-    sofar-room = omega (arith, s .power, pow-le-pow-right {n = base} (omega arith) {i = mostGroups - left} {j = roomGroups - 1} (omega arith))
+    -- a group more has room
+    pub sofar-room : weight ≤ base ^ (mostGroups - 1)
+    sofar-room = omega (arith, s .power, pow-le-pow-right {n = base} (omega arith) {i = mostGroups - left} {j = mostGroups - 1} (omega arith))
 
     module _ (inside : i < length file) where
       pub sofar-last : getD file i 0 < 128 → readNumber file at ≡ joined low weight (got (getD file i 0) (i + 1))
