@@ -1,12 +1,12 @@
--- "80 01 is 128 (M), 80 00 refused (M)": wherever they stand in a file, over the definition of reading; and two neighbours by computation.
-use Prim.Native.Nat.{ℕ, _+_}
+-- "80 01 is 128 (M), 80 00 refused (M)"; document 02, Change 3: "FF FF FF 7F (hexadecimal) is read, and a fifth group is refused as layout". Wherever
+-- they stand in a file, over the definition of reading.
+use Prim.Native.Nat.{ℕ, _+_, _≤_}
 use mathlib.Core.List.{List, [], _∷_, _++_}
-use mathlib.Core.Path.{_≡_, refl, _∙_}
+use mathlib.Core.Path.{_≡_, refl}
 use native.Mathlib.Omega.{arith}
-use lib.ListN.{length, getD, drop}
-use Rattle.octets.specs.Head.{head-at}
+use lib.ListN.{length, drop}
 use Rattle.number.specs.Groups.{groups, groupsIn, numberLimit}
-use Rattle.number.specs.Reading.{got, fault, readNumber, readIn}
+use Rattle.number.specs.Reading.{got, fault, readNumber}
 use Rattle.number.specs.Reading.Numbers as laws
 
 -- these bytes are this number, or none
@@ -27,17 +27,21 @@ groups-128 = refl
 
 -- 80 00 is refused
 pub not-shortest : NoNumber (0x80 ∷ 0x00 ∷ [])
-not-shortest file at rest e =
-    let h = head-at file at 0x80 (0x00 ∷ rest) e in
-    let i = head-at file (at + 1) 0x00 rest (h .next) in
-    laws.two-groups file at (h .inside) (omega (arith, h .here)) (i .inside) (omega (arith, i .here))
-    ∙ laws.longer-zero (getD file at 0) (getD file (at + 1) 0) (at + 1 + 1) (i .here)
+not-shortest file at rest e = laws.number-zero file rest 0x80 [] at (omega arith, tt) e
 
--- the largest number, and a fourth group
-pub largest : readNumber (0xFF ∷ 0xFF ∷ 0x7F ∷ []) 0 ≡ got 2097151 3
-unfolding readNumber readIn
-largest = refl
+-- FF FF FF 7F is read, and is the largest
+pub largest : Number (0xFF ∷ 0xFF ∷ 0xFF ∷ 0x7F ∷ []) 268435455
+unfolding groups groupsIn numberLimit
+largest file at rest e = laws.read-back file at 268435455 rest (omega arith) e
 
-pub fourth-group : readNumber (0xFF ∷ 0xFF ∷ 0xFF ∷ 0x7F ∷ []) 0 ≡ fault
-unfolding readNumber readIn
-fourth-group = refl
+pub largest-below : numberLimit ≡ 268435455 + 1
+unfolding numberLimit
+largest-below = refl
+
+-- 80 80 80 00 is not
+pub four-not-shortest : NoNumber (0x80 ∷ 0x80 ∷ 0x80 ∷ 0x00 ∷ [])
+four-not-shortest file at rest e = laws.number-zero file rest 0x80 (0x80 ∷ 0x80 ∷ []) at (omega arith, (omega arith, (omega arith, tt))) e
+
+-- nor are any four groups with another behind them
+pub fifth-group : (a b c d : ℕ) → 128 ≤ a → 128 ≤ b → 128 ≤ c → 128 ≤ d → NoNumber (a ∷ b ∷ c ∷ d ∷ [])
+fifth-group a b c d i j k l file at rest e = laws.number-long file rest (a ∷ b ∷ c ∷ d ∷ []) at refl (i, (j, (k, (l, tt)))) e

@@ -9,6 +9,7 @@ use Rattle.cases_proved.specs.Pinned.Refusals as refusals
 use Rattle.cases_proved.specs.Pinned.Rules as rules
 use Rattle.cases_proved.specs.Pinned.Limits as limits
 use Rattle.cases_proved.specs.Pinned.Edges as edges
+use Rattle.cases_proved.specs.Pinned.Groups as groups
 use Rattle.cases_proved.specs.Pinned.Sources as sources
 use Rattle.cases_proved.specs.Pinned.Equations as equations
 use Rattle.cases_proved.specs.Pinned.Properties as properties
@@ -21,6 +22,8 @@ pub mod Rules
 -- the figures of the files, each at its most and one past it; the numbers of tags, symbols, sorts and flags
 pub mod Limits
 pub mod Edges
+-- numbers of four groups and of five, wherever a number stands
+pub mod Groups
 -- which sources the writer takes
 pub mod Sources
 -- which messages are equal and which are canonical
@@ -39,6 +42,7 @@ parts =
     ∷ record { rows = rules.rows; rows-hold = rules.rows-hold }
     ∷ record { rows = limits.rows; rows-hold = limits.rows-hold }
     ∷ record { rows = edges.rows; rows-hold = edges.rows-hold }
+    ∷ record { rows = groups.rows; rows-hold = groups.rows-hold }
     ∷ record { rows = sources.rows; rows-hold = sources.rows-hold }
     ∷ record { rows = equations.rows; rows-hold = equations.rows-hold }
     ∷ record { rows = properties.rows; rows-hold = properties.rows-hold }

@@ -62,6 +62,8 @@ use Rattle.checker.specs.Check.Laws.{at-most, Holds, Answers, files-fit,
 pub mod Third
 -- document 02, Change 2: the earliest source
 pub mod Earliest
+-- document 02, Change 3: old files
+pub mod Older
 
 -- the trace of right nodes makes the property true, over all messages and all times
 abbrev pub NodesHold : (p : Protocol) → Within p → Formula → (xs : List Node) → All (NodeWithin p) xs → All (NodeRight p) xs → Type 0

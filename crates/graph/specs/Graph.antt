@@ -8,11 +8,13 @@ use Rattle.number.specs.Reading.{Read, got, andThen, readNumber, counted}
 use Rattle.number.specs.Layout.{listed}
 use Rattle.rewriting.specs.Graph.{Place, Edge}
 use Rattle.protocol.specs.Protocol.{Protocol}
-use Rattle.steps.specs.Nodes.{Node, encodeNodes, NodesWithin, Reading, read, onward, plainly, allOf, nodeList}
+use Rattle.steps.specs.Nodes.{Node, encodeNodes, NodesBelow, Reading, read, onward, plainly, allOf, nodeList}
 -- what is within the limits reads back from its bytes, and what reads is within them and stands there
 pub mod Exact
 -- an accepted graph keeps within the limits
 pub mod Limits
+-- a larger limit of numbers
+pub mod Wider
 
 -- ── graphs ──
 -- "as steps, then count of edges (4,096), each source node, conclusion, target node, premise, all from 1, in any order"
@@ -44,18 +46,26 @@ encodeEdge e = encodePlace (e .source) ++ encodePlace (e .target)
 abbrev pub encodeGraph : Graph → List ℕ
 encodeGraph g = encodeNodes (g .nodes) ++ listed encodeEdge (g .edges)
 
--- ── what a file can hold ──
-abbrev pub PlaceWithin : Place → Type 0
-PlaceWithin a = (a .node < numberLimit) × (a .index < numberLimit)
+-- ── the limits, with numbers below `limit` ──
+module _ (limit : ℕ) where
+  abbrev pub PlaceBelow : Place → Type 0
+  PlaceBelow a = (a .node < limit) × (a .index < limit)
 
+  abbrev pub EdgeBelow : Edge → Type 0
+  EdgeBelow e = PlaceBelow (e .source) × PlaceBelow (e .target)
+
+  abbrev pub EdgesBelow : List Edge → Type 0
+  EdgesBelow es = (length es ≤ mostEdges) × All EdgeBelow es
+
+  abbrev pub GraphBelow : Protocol → Graph → Type 0
+  GraphBelow p g = NodesBelow limit p (g .nodes) × EdgesBelow (g .edges)
+
+-- with the numbers that a file can hold
 abbrev pub EdgeWithin : Edge → Type 0
-EdgeWithin e = PlaceWithin (e .source) × PlaceWithin (e .target)
-
-abbrev pub EdgesWithin : List Edge → Type 0
-EdgesWithin es = (length es ≤ mostEdges) × All EdgeWithin es
+EdgeWithin = EdgeBelow numberLimit
 
 abbrev pub GraphWithin : Protocol → Graph → Type 0
-GraphWithin p g = NodesWithin p (g .nodes) × EdgesWithin (g .edges)
+GraphWithin = GraphBelow numberLimit
 
 -- ── reading ──
 module _ (file : List ℕ) where

@@ -5,10 +5,11 @@ use mathlib.Core.Bool.{Bool, true}
 use mathlib.Core.Path.{_≡_}
 use lib.ListN.{length}
 use Rattle.lists.specs.Lists.{anyBy}
+use Rattle.number.specs.Groups.{numberLimit}
 use Rattle.number.specs.Reading.{Read, got}
 use Rattle.property.specs.Figures.{mostScope}
 use Rattle.property.specs.Formula.{Sort, Atom, Formula}
-use Rattle.property.specs.Formula.Limits.{ScopesWithin}
+use Rattle.property.specs.Formula.Limits.{ScopesBelow}
 use Rattle.property.specs.Fit.{fit, patternFits, atomFits, guarded}
 use Rattle.property.specs.Meaning.{Value, Entry, Trace}
 use Rattle.property.specs.Layout.{Timed, head-of, quantified, property}
@@ -55,7 +56,7 @@ pub record Fits (file table : List ℕ) (at n : ℕ) (w : Written) : Type 0 wher
   pub size : length (w .scope) ≡ n
   pub few : n ≤ mostScope
   pub fits : fit (w .scope) (w .formula) ≡ true
-  pub within : ScopesWithin (w .ars) (length (w .scope)) (w .formula)
+  pub within : ScopesBelow numberLimit (w .ars) (length (w .scope)) (w .formula)
 
 -- the whole file is a property that is read and fit
 pub record Property (file table ars : List ℕ) (φ : Formula) : Type 0 where

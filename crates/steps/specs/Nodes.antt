@@ -14,11 +14,13 @@ use Rattle.lists.specs.All.{All}
 use Rattle.term.specs.Term.{Term, encode}
 use Rattle.term.specs.Arity.{tagArities}
 use Rattle.term.specs.Reader.{term}
-use Rattle.term.specs.Reader.Exact.{Good}
+use Rattle.term.specs.Reader.Exact.{GoodBelow}
 use Rattle.protocol.specs.Protocol.{Rule, Protocol}
 use Rattle.rules.specs.Numbered.{ruleOf}
 -- what is within the limits reads back from its bytes, and what reads is within them and stands there
 pub mod Exact
+-- a larger limit of numbers
+pub mod Wider
 -- "no such rule", said exactly
 pub mod Unknown
 -- the reading depends on the bytes up to the end of the list alone
@@ -78,20 +80,29 @@ abbrev pub absent : {A : Type 0} → Option A → Bool
 absent none = true
 absent (some x) = false
 
-module _ (p : Protocol) where
+-- numbers below `limit`
+module _ (limit : ℕ) (p : Protocol) where
   -- a node with a rule of that number, one value per variable of it, of any length
-  pub record NodeWithin (x : Node) : Type 0 where
+  pub record NodeBelow (x : Node) : Type 0 where
     pub is : Rule
     pub known : ruleOf p (x .rule) ≡ some is
-    pub range : x .rule < numberLimit
+    pub range : x .rule < limit
     pub takes : length (x .values) ≡ length (is .sorts)
-    pub each : All (Good (tagArities (p .functions))) (x .values)
+    pub each : All (GoodBelow limit (tagArities (p .functions))) (x .values)
 
   -- "count of nodes (512)"
-  pub record NodesWithin (xs : List Node) : Type 0 where
+  pub record NodesBelow (xs : List Node) : Type 0 where
     pub few : length xs ≤ mostNodes
-    pub each : All NodeWithin xs
+    pub each : All NodeBelow xs
 
+-- with the numbers that a file can hold
+abbrev pub NodeWithin : Protocol → Node → Type 0
+NodeWithin = NodeBelow numberLimit
+
+abbrev pub NodesWithin : Protocol → List Node → Type 0
+NodesWithin = NodesBelow numberLimit
+
+module _ (p : Protocol) where
   -- "no such rule": a number was read, and no rule has it
   abbrev pub unknown : Read ℕ → Bool
   unknown (got r e) = absent (ruleOf p r)

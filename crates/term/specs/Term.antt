@@ -63,15 +63,22 @@ abbrev mutual
   Formeds ar nil = Unit {0}
   Formeds ar (t & ts) = Formed ar t × Formeds ar ts
 
--- every number in it can stand in a file
+-- every number in it is below some limit
 abbrev mutual
-  pub InRange : Term → Type 0
-  InRange (leaf k n) = n < numberLimit
-  InRange (app f ts) = (f < numberLimit) × InRanges ts
+  pub Below : ℕ → Term → Type 0
+  Below limit (leaf k n) = n < limit
+  Below limit (app f ts) = (f < limit) × Belows limit ts
 
-  pub InRanges : Terms → Type 0
-  InRanges nil = Unit {0}
-  InRanges (t & ts) = InRange t × InRanges ts
+  pub Belows : ℕ → Terms → Type 0
+  Belows limit nil = Unit {0}
+  Belows limit (t & ts) = Below limit t × Belows limit ts
+
+-- every number in it can stand in a file
+abbrev pub InRange : Term → Type 0
+InRange = Below numberLimit
+
+abbrev pub InRanges : Terms → Type 0
+InRanges = Belows numberLimit
 
 -- the leaf of a kind and a number stands in a term, below any function
 abbrev mutual

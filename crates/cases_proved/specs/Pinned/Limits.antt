@@ -142,9 +142,9 @@ rows =
     ∷ forms none (0x01 ∷ 0x7F ∷ []) 2 (passed 2)
     ∷ forms none (0x01 ∷ 0x80 ∷ 0x01 ∷ []) 3 (passed 3)
     ∷ forms none (0x01 ∷ 0x80 ∷ 0x80 ∷ 0x01 ∷ []) 4 (passed 4)
-    -- "shortest form, three groups at most (2,097,151)"
-    ∷ forms none (0x01 ∷ 0xFF ∷ 0xFF ∷ 0x7F ∷ []) 4 (passed 4)
-    ∷ forms none (0x01 ∷ 0x80 ∷ 0x80 ∷ 0x80 ∷ 0x01 ∷ []) 5 (refused 3 4)
+    -- "shortest form"; document 02, Change 3: "A number may have four groups, up to 268,435,455"
+    ∷ forms none (0x01 ∷ 0xFF ∷ 0xFF ∷ 0xFF ∷ 0x7F ∷ []) 5 (passed 5)
+    ∷ forms none (0x01 ∷ 0x80 ∷ 0x80 ∷ 0x80 ∷ 0x80 ∷ 0x01 ∷ []) 6 (refused 3 4)
     ∷ forms none (0x01 ∷ 0xFF ∷ 0x00 ∷ []) 3 (refused 3 4)
     ∷ forms none (0x01 ∷ 0xFF ∷ 0xFF ∷ 0x00 ∷ []) 4 (refused 3 4)
     ∷ forms none (0x01 ∷ 0x80 ∷ []) 2 (refused 3 4)

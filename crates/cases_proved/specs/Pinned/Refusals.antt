@@ -37,7 +37,7 @@ rows =
     ∷ in-area 65536 (draws printed-protocol printed-nodes 26 (passed 26))
     ∷ in-area 65535 (forms none (0x0B ∷ 0x03 ∷ []) 1 (refused 1 0))
     ∷ in-area 65536 (forms none (0x0B ∷ 0x03 ∷ []) 1 (passed 1))
-    -- "file over its byte limit | 2 | file": 4,096, 1,024, 61,440, 32,768 and 1,024 bytes; a file of just as many is read, and has leftover bytes
+    -- "file over its byte limit | 2 | file": 4,096, 1,024, 61,440, 32,768 and 1,280 bytes; a file of just as many is read, and has leftover bytes
     ∷ checks (replicate 4097 0x00) falsehood no-graph (refused 2 1)
     ∷ checks (replicate 4096 0x00) falsehood no-graph (refused 3 1)
     ∷ checks none (replicate 1025 0x00) no-graph (refused 2 2)
@@ -50,14 +50,14 @@ rows =
     ∷ draws none (replicate 32768 0x00) 0 (refused 3 5)
     ∷ forms (replicate 4097 0x00) (0x03 ∷ []) 0 (refused 2 1)
     ∷ forms (replicate 4096 0x00) (0x03 ∷ []) 0 (refused 3 1)
-    ∷ forms none (replicate 1025 0x00) 0 (refused 2 4)
-    ∷ forms none (replicate 1024 0x00) 0 (refused 3 4)
+    ∷ forms none (replicate 1281 0x00) 0 (refused 2 4)
+    ∷ forms none (replicate 1280 0x00) 0 (refused 3 4)
     -- "2 for all files in order", before 3 of any
     ∷ checks (replicate 4097 0x00) (replicate 1025 0x00) (replicate 61441 0x00) (refused 2 1)
     ∷ checks [] (replicate 1025 0x00) (replicate 61441 0x00) (refused 2 2)
     ∷ checks [] [] (replicate 61441 0x00) (refused 2 3)
     ∷ draws [] (replicate 32769 0x00) 0 (refused 2 5)
-    ∷ forms [] (replicate 1025 0x00) 0 (refused 2 4)
+    ∷ forms [] (replicate 1281 0x00) 0 (refused 2 4)
     -- "layout .. | 3 | file": an empty file
     ∷ checks [] falsehood no-graph (refused 3 1)
     ∷ checks none [] no-graph (refused 3 2)

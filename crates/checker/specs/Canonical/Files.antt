@@ -32,7 +32,7 @@ small-enough : (n : ℕ) → (mostSymbols < n → ⊥) → n ≤ mostSymbols
 small-enough n f = by-size mostSymbols n (λ l. absurd (f l)) (λ l. l)
 
 module _ (protocol term : List ℕ) (protocol-bytes : Bytes protocol) (bytes : Bytes term) where
-  encodes : (t : Term) → Holds protocol term t → Encodes protocol term t
+  pub encodes : (t : Term) → Holds protocol term t → Encodes protocol term t
   encodes t h =
       let r = h .small .reads in
       record {

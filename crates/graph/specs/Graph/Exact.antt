@@ -19,14 +19,14 @@ use Rattle.steps.specs.Nodes.{Node, Reading, read, broken, no-rule, encodeNodes
 use Rattle.steps.specs.Nodes.Unknown.{RuleMissing, all-rule, no-rule-exactly}
 use Rattle.steps.specs.Nodes.Exact.{cut-read, cut-plain, nodes-back, nodes-form}
 use Rattle.graph.specs.Graph.{Graph, graph-of, place-of, edge-of, mostEdges, encodePlace, encodeEdge, encodeGraph}
-use Rattle.graph.specs.Graph.{PlaceWithin, EdgeWithin, EdgesWithin, GraphWithin, place, edge, edgeList, withEdges, parts, graph}
+use Rattle.graph.specs.Graph.{PlaceBelow, EdgeWithin, EdgesBelow, GraphWithin, place, edge, edgeList, withEdges, parts, graph}
 
 most-small : mostEdges < numberLimit
 unfolding numberLimit
 most-small = omega arith
 
 module _ (file : List ℕ) (bytes : Bytes file) where
-  place-exact : Exact file (place file) PlaceWithin encodePlace
+  place-exact : Exact file (place file) (PlaceBelow numberLimit) encodePlace
   unfolding place
   place-exact =
       then-exact file (readNumber file) (λ v. v < numberLimit) groups (number-exact file bytes)
@@ -36,11 +36,11 @@ module _ (file : List ℕ) (bytes : Bytes file) where
   edge-exact : Exact file (edge file) EdgeWithin encodeEdge
   unfolding edge
   edge-exact =
-      then-exact file (place file) PlaceWithin encodePlace place-exact
-      (λ a. place file) (λ a. PlaceWithin) encodePlace (λ a w. place-exact)
+      then-exact file (place file) (PlaceBelow numberLimit) encodePlace place-exact
+      (λ a. place file) (λ a. PlaceBelow numberLimit) encodePlace (λ a w. place-exact)
       edge-of (λ e. e .source) (λ e. e .target) (λ e. refl) (λ a b. refl) (λ a b. refl)
 
-  pub edges-exact : Exact file (edgeList file) EdgesWithin (listed encodeEdge)
+  pub edges-exact : Exact file (edgeList file) (EdgesBelow numberLimit) (listed encodeEdge)
   unfolding edgeList
   edges-exact = counted-exact file (edge file) EdgeWithin encodeEdge edge-exact bytes mostEdges most-small
 

@@ -27,7 +27,7 @@ use Rattle.steps.specs.Facts.{factsOf}
 use Rattle.steps.specs.Facts.Counts.{facts-few}
 use Rattle.steps.specs.Runs.{protocolFacts, rewritten, rewrittens, Accepted}
 use Rattle.steps.specs.Runs.Theorems.{accepted-size}
-use Rattle.graph.specs.Graph.{graph-of, mostEdges, encodePlace, encodeEdge, encodeGraph, PlaceWithin, EdgeWithin, GraphWithin}
+use Rattle.graph.specs.Graph.{graph-of, mostEdges, encodePlace, encodeEdge, encodeGraph, PlaceBelow, EdgeWithin, GraphWithin}
 
 -- ── lengths ──
 -- of the count of edges, and of an edge
@@ -45,7 +45,7 @@ place-short : (a : Place) → PlaceFew a → length (encodePlace a) ≤ 3
 place-short a (l, m) =
     omega (arith, length-append (groups (a .node)) (groups (a .index)), groups-few 1 (a .node) (omega arith), groups-few 0 (a .index) (omega arith))
 
-place-within : (a : Place) → PlaceFew a → PlaceWithin a
+place-within : (a : Place) → PlaceFew a → PlaceBelow numberLimit a
 unfolding numberLimit
 place-within a (l, m) = (omega arith, omega arith)
 

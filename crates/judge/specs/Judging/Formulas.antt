@@ -7,10 +7,11 @@ use native.Mathlib.Omega.{arith}
 use lib.ListN.{length, length-append}
 use lib.Dec.{eqb}
 use Rattle.lists.specs.Tests.{and-split}
+use Rattle.number.specs.Groups.{numberLimit}
 use Rattle.number.specs.Reading.{got, readNumber}
 use Rattle.property.specs.Figures.{falseTag, andTag, existsTag, everyTag, mostScope}
 use Rattle.property.specs.Formula.{Sort, Atom, Formula, absurdity}
-use Rattle.property.specs.Formula.Limits.{HeadWithin, ScopesWithin}
+use Rattle.property.specs.Formula.Limits.{HeadBelow, ScopesBelow}
 use Rattle.property.specs.Fit.{fit, patternFits, atomFits, guarded}
 use Rattle.property.specs.Layout.{Head, headAt, atomAt, signed, asserts, paired, quantified}
 use Rattle.property.specs.Reads.{Reads, r-false, r-atom, r-pair, r-quant}
@@ -103,7 +104,7 @@ paired-fits : (q : Bool) (x y : Formula) (scope : List Sort) → fit scope (pair
 paired-fits true x y scope = refl
 paired-fits false x y scope = refl
 
-paired-within : (q : Bool) (x y : Formula) (ars : List ℕ) (n : ℕ) → ScopesWithin ars n (paired q x y) → ScopesWithin ars n x × ScopesWithin ars n y
+paired-within : (q : Bool) (x y : Formula) (ars : List ℕ) (n : ℕ) → ScopesBelow numberLimit ars n (paired q x y) → ScopesBelow numberLimit ars n x × ScopesBelow numberLimit ars n y
 paired-within true x y ars n w = w
 paired-within false x y ars n w = w
 
@@ -121,8 +122,8 @@ quantified-fits true h x scope = refl
 quantified-fits false h x scope = refl
 
 quantified-within :
-    (q : Bool) (h : Head) (x : Formula) (ars : List ℕ) (n : ℕ) → ScopesWithin ars n (quantified q h x)
-    → HeadWithin ars n (h .sorts) (h .guard .pattern) (h .guard .time) × ScopesWithin ars (n + length (h .sorts)) x
+    (q : Bool) (h : Head) (x : Formula) (ars : List ℕ) (n : ℕ) → ScopesBelow numberLimit ars n (quantified q h x)
+    → HeadBelow numberLimit ars n (h .sorts) (h .guard .pattern) (h .guard .time) × ScopesBelow numberLimit ars (n + length (h .sorts)) x
 quantified-within true h x ars n w = w
 quantified-within false h x ars n w = w
 
@@ -169,7 +170,7 @@ module _ {file table : List ℕ} {at n t i : ℕ} (w : Written) (f : Fits file t
       let p = and-split (fit (w .scope) (a .x)) (fit (w .scope) (a .y))
       (sym (paired-fits (eqb t andTag) (a .x) (a .y) (w .scope)) ∙ ap (fit (w .scope)) (a .whole) ∙ f .fits) in
       let q = paired-within (eqb t andTag) (a .x) (a .y) (w .ars) (length (w .scope))
-      (subst (ScopesWithin (w .ars) (length (w .scope))) (sym (a .whole)) (f .within)) in
+      (subst (ScopesBelow numberLimit (w .ars) (length (w .scope))) (sym (a .whole)) (f .within)) in
       record {
         x = a .x;
         y = a .y;
@@ -188,7 +189,7 @@ module _ {file table : List ℕ} {at n t i : ℕ} (w : Written) (f : Fits file t
       (sym (quantified-fits (eqb t everyTag) h (a .x) (w .scope)) ∙ ap (fit (w .scope)) (a .whole) ∙ f .fits) in
       let g = and-split (newGuarded (w .scope) h) (fit (w .scope ++ h .sorts) (a .x)) (p .1) in
       let q = quantified-within (eqb t everyTag) h (a .x) (w .ars) (length (w .scope))
-      (subst (ScopesWithin (w .ars) (length (w .scope))) (sym (a .whole)) (f .within)) in
+      (subst (ScopesBelow numberLimit (w .ars) (length (w .scope))) (sym (a .whole)) (f .within)) in
       let l : length (w .scope ++ h .sorts) ≡ length (w .scope) + length (h .sorts) = length-append (w .scope) (h .sorts) in
       record {
         head = h;
@@ -202,7 +203,7 @@ module _ {file table : List ℕ} {at n t i : ℕ} (w : Written) (f : Fits file t
           size = omega (arith, l, f .size);
           few = omega (arith, f .size, q .0 .room);
           fits = g .1;
-          within = subst (λ (m : ℕ). ScopesWithin (w .ars) m (a .x)) (sym l) (q .1);
+          within = subst (λ (m : ℕ). ScopesBelow numberLimit (w .ars) m (a .x)) (sym l) (q .1);
         };
         whole = a .whole;
         fits = p .0;

@@ -1,12 +1,14 @@
 -- Numbers: what is written reads back; what reads is the groups of its value, so that the shortest form is unique.
 use Prim.Native.Nat.{ℕ, zero, suc, _+_, _-_, _*_, _/_, _%_, _^_, _≤_, _<_}
-use mathlib.Core.List.{List, _∷_, _++_}
+use mathlib.Core.List.{List, [], _∷_, _++_}
+use mathlib.Core.Logic.{_↔_}
 use mathlib.Core.Path.{_≡_, refl, ap, ap₂, sym, _∙_, subst, subst₂}
 use native.Mathlib.Omega.{arith}
 use native.Mathlib.Nat.{pow-succ', pow-zero, one-le-pow}
 use lib.ListN.{length, getD, drop}
 use borrow.Author.Tests.{lt-ltb, le-ltb, eq-eqb, ne-eqb}
 use Rattle.lists.specs.Choice.{cut-lt, cut-eq, by-size, clash}
+use Rattle.lists.specs.All.{All}
 use Rattle.octets.specs.Head.{head-at, head-of, Bytes, Stands, stands-within}
 use Rattle.octets.specs.Splice.{splice}
 use Rattle.octets.specs.Splice.Laws.{part-splice}
@@ -78,6 +80,60 @@ module _ (file : List ℕ) (at : ℕ) (inside : at < length file) (more : 128 �
       at + 1 < length file → getD file (at + 1) 0 < 128
       → readNumber file at ≡ longer (getD file at 0) (got (getD file (at + 1) 0) (at + 1 + 1))
   two-groups h l = number-more ∙ ap (longer (getD file at 0)) (now-one file (at + 1) (mostGroups - 1) (λ z. omega arith) h l)
+
+-- ── what is no number ──
+-- groups that another follows
+abbrev pub Followed : List ℕ → Type 0
+Followed bs = All (λ b. 128 ≤ b) bs
+
+module _ (file rest : List ℕ) where
+  -- as many groups as are allowed, and each has another behind it
+  pub in-long : (bs : List ℕ) (at : ℕ) → Followed bs → drop at file ≡ bs ++ rest → readIn (length bs) file at ≡ fault
+  in-long [] at h e = now-none zero file at refl
+  in-long (b ∷ bs) at h e =
+      let p = head-at file at b (bs ++ rest) e in
+      in-more (length bs) file at (p .inside) (omega (arith, p .here, h .0)) ∙ ap (longer (getD file at 0)) (in-long bs (at + 1) (h .1) (p .next))
+
+  pub number-long : (bs : List ℕ) (at : ℕ) → length bs ≡ mostGroups → Followed bs → drop at file ≡ bs ++ rest → readNumber file at ≡ fault
+  number-long bs at l h e = sym (number-in file at) ∙ ap (λ (k : ℕ). readIn k file at) (sym l) ∙ in-long bs at h e
+
+  -- "shortest form": a last group of zero behind others
+  zero-last : (k b at : ℕ) → drop at file ≡ 0 ∷ rest → longer b (readIn k file at) ≡ fault
+  zero-last zero b at e = ap (longer b) (now-none zero file at refl)
+  zero-last (suc k) b at e =
+      let p = head-at file at 0 rest e in
+      ap (longer b) (in-one k file at (p .inside) (omega (arith, p .here))) ∙ longer-zero b (getD file at 0) (at + 1) (p .here)
+
+  zero-behind : (bs : List ℕ) (b k at : ℕ) → Followed bs → drop at file ≡ bs ++ (0 ∷ rest) → longer b (readIn k file at) ≡ fault
+  zero-behind [] b k at h e = zero-last k b at e
+  zero-behind (c ∷ bs) b zero at h e = ap (longer b) (now-none zero file at refl)
+  zero-behind (c ∷ bs) b (suc k) at h e =
+      let p = head-at file at c (bs ++ (0 ∷ rest)) e in
+      ap (longer b)
+      (in-more k file at (p .inside) (omega (arith, p .here, h .0)) ∙ zero-behind bs (getD file at 0) k (at + 1) (h .1) (p .next))
+
+  pub number-zero : (b : ℕ) (bs : List ℕ) (at : ℕ) → Followed (b ∷ bs) → drop at file ≡ b ∷ (bs ++ (0 ∷ rest)) → readNumber file at ≡ fault
+  number-zero b bs at h e =
+      let p = head-at file at b (bs ++ (0 ∷ rest)) e in
+      number-more file at (p .inside) (omega (arith, p .here, h .0)) ∙ zero-behind bs (getD file at 0) (mostGroups - 1) (at + 1) (h .1) (p .next)
+
+-- ── what reads with at most k groups reads alike with more ──
+longer-wider :
+    (b : ℕ) (r s : Read ℕ) → ((v e : ℕ) → r ≡ got v e → s ≡ got v e) → (v e : ℕ) → longer b r ≡ got v e → longer b s ≡ got v e
+longer-wider b (got w d) s h v e q = ap (longer b) (h w d refl) ∙ q
+longer-wider b fault s h v e q = clash (cc)
+
+pub in-wider : (file : List ℕ) (k j : ℕ) → k ≤ j → (at v e : ℕ) → readIn k file at ≡ got v e → readIn j file at ≡ got v e
+unfolding readIn
+in-wider file zero j l at v e h = clash (cc)
+in-wider file (suc k) zero l at v e h = absurd (omega arith)
+in-wider file (suc k) (suc j) l at v e h =
+    cut-lt _ _ _ at (length file) h
+    (λ inside h. cut-lt _ _ _ (getD file at 0) 128 h
+    (λ one h. in-one j file at inside one ∙ h)
+    (λ more h. in-more j file at inside more
+    ∙ longer-wider (getD file at 0) (readIn k file (at + 1)) (readIn j file (at + 1)) (in-wider file k j (omega arith) (at + 1)) v e h))
+    (λ out h. clash (cc))
 
 -- ── what is written reads back ──
 module _ (n at : ℕ) (file rest : List ℕ) (e : drop at file ≡ groups n ++ rest) where
@@ -178,6 +234,15 @@ module _ (file : List ℕ) (bytes : Bytes file) where
   pub read-form : (at v e : ℕ) → readNumber file at ≡ got v e → (v < numberLimit) × Stands file at (groups v) e
   unfolding readNumber numberLimit
   read-form at v e h = let w = in-form mostGroups at v e h in (w .small, w .stands)
+
+  -- a number of at most k groups is one below 128 ^ k, and reads so
+  pub few-groups : (k : ℕ) → k < mostGroups → (at v e : ℕ) → (readIn (suc k) file at ≡ got v e) ↔ ((readNumber file at ≡ got v e) × (v < 128 ^ suc k))
+  few-groups k l at v e = (
+    (λ h. (sym (number-in file at) ∙ in-wider file (suc k) mostGroups (omega arith) at v e h, in-form (suc k) at v e h .small)),
+    (λ (h, small).
+        let s = read-form at v e h .1 in
+        in-back k v at file (drop e file) small (s .there) ∙ ap (got v) (sym (s .ends))),
+  )
 
 -- ── below a bound, case by case ──
 module _ (file : List ℕ) (n at : ℕ) where

@@ -1,4 +1,4 @@
--- The limits of a property file, as one predicate.
+-- The limits of a property file, as one predicate, with numbers below any limit.
 use Prim.Native.Nat.{ℕ, suc, _+_, max, _≤_, _<_}
 use mathlib.Core.List.{List}
 use mathlib.Core.Path.{_≡_}
@@ -8,6 +8,8 @@ use Rattle.number.specs.Groups.{numberLimit}
 use Rattle.property.specs.Figures.{mostNew, mostScope, mostNesting}
 use Rattle.property.specs.Formula.{Sort, Term, var, public, Pattern, Atom, equal, before, together, action, Formula}
 use Rattle.property.specs.Formula.{absurdity, is, isnt, both, either, exists, every}
+-- a larger limit of numbers
+pub mod Wider
 
 -- "nesting at most 16, the outermost formula counting one": every formula on a path counts
 abbrev pub depth : Formula → ℕ
@@ -19,42 +21,46 @@ depth (either f g) = suc (max (depth f) (depth g))
 depth (exists s g i f) = suc (depth f)
 depth (every s g i f) = suc (depth f)
 
--- a number that a file can hold
-abbrev pub TermWithin : Term → Type 0
-TermWithin (var x) = x < numberLimit
-TermWithin (public n) = n < numberLimit
+-- numbers below `limit`
+abbrev pub TermBelow : ℕ → Term → Type 0
+TermBelow limit (var x) = x < limit
+TermBelow limit (public n) = n < limit
 
--- under the arities of the fact symbols
-module _ (ars : List ℕ) where
+-- and under the arities of the fact symbols
+module _ (limit : ℕ) (ars : List ℕ) where
   -- a declared symbol, and as many terms as its arity
-  pub record PatternWithin (g : Pattern) : Type 0 where
+  pub record PatternBelow (g : Pattern) : Type 0 where
     pub known : g .symbol < length ars
     pub takes : length (g .terms) ≡ getD ars (g .symbol) 0
-    pub each : All TermWithin (g .terms)
+    pub each : All (TermBelow limit) (g .terms)
 
-  abbrev pub AtomWithin : Atom → Type 0
-  AtomWithin (equal t u) = TermWithin t × TermWithin u
-  AtomWithin (before i j) = (i < numberLimit) × (j < numberLimit)
-  AtomWithin (together i j) = (i < numberLimit) × (j < numberLimit)
-  AtomWithin (action g i) = PatternWithin g × (i < numberLimit)
+  abbrev pub AtomBelow : Atom → Type 0
+  AtomBelow (equal t u) = TermBelow limit t × TermBelow limit u
+  AtomBelow (before i j) = (i < limit) × (j < limit)
+  AtomBelow (together i j) = (i < limit) × (j < limit)
+  AtomBelow (action g i) = PatternBelow g × (i < limit)
 
   -- "a count of new variables (8)", "16 in scope", of which n are of the enclosing quantifiers
-  pub record HeadWithin (n : ℕ) (s : List Sort) (g : Pattern) (i : ℕ) : Type 0 where
+  pub record HeadBelow (n : ℕ) (s : List Sort) (g : Pattern) (i : ℕ) : Type 0 where
     pub few : length s ≤ mostNew
     pub room : n + length s ≤ mostScope
-    pub guard : PatternWithin g
-    pub time : i < numberLimit
+    pub guard : PatternBelow g
+    pub time : i < limit
 
   -- a formula where n variables are in scope: those of enclosing quantifiers, and of no sibling
-  abbrev pub ScopesWithin : ℕ → Formula → Type 0
-  ScopesWithin n absurdity = Unit {0}
-  ScopesWithin n (is a) = AtomWithin a
-  ScopesWithin n (isnt a) = AtomWithin a
-  ScopesWithin n (both f g) = ScopesWithin n f × ScopesWithin n g
-  ScopesWithin n (either f g) = ScopesWithin n f × ScopesWithin n g
-  ScopesWithin n (exists s g i f) = HeadWithin n s g i × ScopesWithin (n + length s) f
-  ScopesWithin n (every s g i f) = HeadWithin n s g i × ScopesWithin (n + length s) f
+  abbrev pub ScopesBelow : ℕ → Formula → Type 0
+  ScopesBelow n absurdity = Unit {0}
+  ScopesBelow n (is a) = AtomBelow a
+  ScopesBelow n (isnt a) = AtomBelow a
+  ScopesBelow n (both f g) = ScopesBelow n f × ScopesBelow n g
+  ScopesBelow n (either f g) = ScopesBelow n f × ScopesBelow n g
+  ScopesBelow n (exists s g i f) = HeadBelow n s g i × ScopesBelow (n + length s) f
+  ScopesBelow n (every s g i f) = HeadBelow n s g i × ScopesBelow (n + length s) f
 
-  pub record FormulaWithin (f : Formula) : Type 0 where
+  pub record FormulaBelow (f : Formula) : Type 0 where
     pub nesting : depth f ≤ mostNesting
-    pub scopes : ScopesWithin 0 f
+    pub scopes : ScopesBelow 0 f
+
+-- with the numbers that a file can hold
+abbrev pub FormulaWithin : List ℕ → Formula → Type 0
+FormulaWithin = FormulaBelow numberLimit

@@ -10,7 +10,7 @@ use lib.Dec.{eqb}
 use borrow.Author.Tests.{eq-eqb}
 use Rattle.lists.specs.Choice.{pick, cut-lt, cut-eq, clash, by-size}
 use Rattle.octets.specs.Head.{Bytes, Stands, stands-join, behind}
-use Rattle.number.specs.Groups.{groups}
+use Rattle.number.specs.Groups.{groups, numberLimit}
 use Rattle.number.specs.Reading.{Read, got, fault, andThen, below}
 use Rattle.number.specs.Reading.Laws.{cut-got, then-got}
 use Rattle.number.specs.Reading.Numbers.{below-back, below-inside}
@@ -18,7 +18,7 @@ use Rattle.number.specs.Layout.{Exact}
 use Rattle.property.specs.Figures.{andTag, existsTag, everyTag, formulaTags, mostNesting}
 use Rattle.property.specs.Formula.{Atom, equal, before, together, action, Formula}
 use Rattle.property.specs.Formula.{absurdity, is, isnt, both, either, exists, every}
-use Rattle.property.specs.Formula.Limits.{depth, AtomWithin, ScopesWithin, FormulaWithin}
+use Rattle.property.specs.Formula.Limits.{depth, AtomBelow, ScopesBelow, FormulaWithin}
 use Rattle.property.specs.Layout.{timed-of, Head, head-of, signed, asserts, paired, quantified}
 use Rattle.property.specs.Layout.{encodeHead, atomTag, encodeAtom, encodeFormula}
 use Rattle.property.specs.Layout.{atomAt, scopedAt, bodyAt, formulaAt, property}
@@ -60,7 +60,7 @@ quant-bytes tag h x l k =
 module _ (file : List ℕ) (bytes : Bytes file) (ars : List ℕ) (few : length ars ≤ 256) where
   -- ── formulas: their bytes by the tag that code has read ──
   abbrev Fine : ℕ → ℕ → Formula → Type 0
-  Fine levels n f = (depth f ≤ levels) × ScopesWithin ars n f
+  Fine levels n f = (depth f ≤ levels) × ScopesBelow numberLimit ars n f
 
   module _ (levels : ℕ) (inner : (n : ℕ) → Exact file (formulaAt file ars levels n) (Fine levels n) encodeFormula) (n : ℕ) where
     abbrev body : ℕ → ℕ → Read Formula
@@ -153,7 +153,7 @@ module _ (file : List ℕ) (bytes : Bytes file) (ars : List ℕ) (few : length a
         form-by tag at i e (encodeAtom a) (signed (asserts tag) a) (signed-fine (asserts tag) a (m .within)) (signed-bytes tag a (m .low) (m .high)) s
         (m .stands)
       where
-        signed-fine : (q : Bool) (a : Atom) → AtomWithin ars a → Fine (suc levels) n (signed q a)
+        signed-fine : (q : Bool) (a : Atom) → AtomBelow numberLimit ars a → Fine (suc levels) n (signed q a)
         signed-fine true a w = (omega arith, w)
         signed-fine false a w = (omega arith, w)
 

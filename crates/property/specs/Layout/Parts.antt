@@ -19,7 +19,7 @@ use Rattle.number.specs.Layout.{flat, listed, Exact}
 use Rattle.number.specs.Layout.Laws.{number-exact, exact-as, below-exact, test-exact, many-exact, counted-exact, then-exact}
 use Rattle.property.specs.Figures.{mostNew, mostScope, termTags}
 use Rattle.property.specs.Formula.{Sort, msg, tmp, Term, var, public, Pattern, pattern-of, Atom, equal, action}
-use Rattle.property.specs.Formula.Limits.{TermWithin, PatternWithin, AtomWithin, HeadWithin}
+use Rattle.property.specs.Formula.Limits.{TermBelow, PatternBelow, AtomBelow, HeadBelow}
 use Rattle.property.specs.Layout.{Timed, timed-of, Head, head-of, encodeTerm, encodeSort, encodePattern}
 use Rattle.property.specs.Layout.{encodeTimed, encodeHead, atomTag, encodeAtom, termOf, termAt, sortAt, equalAt, timesAt, timesOf}
 use Rattle.property.specs.Layout.{factAt, timedAt, headAt, actionAt, atomAt, scopedAt}
@@ -69,14 +69,14 @@ module _ {A B C : Type 0} (file : List ℕ) (p : ℕ → Read A) (Good : A → T
 
 -- ── the parts of a formula ──
 abbrev pub TimedWithin : List ℕ → Timed → Type 0
-TimedWithin ars g = PatternWithin ars (g .pattern) × Number (g .time)
+TimedWithin ars g = PatternBelow numberLimit ars (g .pattern) × Number (g .time)
 
 abbrev pub Scoped : List ℕ → ℕ → Head → Type 0
-Scoped ars n h = HeadWithin ars n (h .sorts) (h .guard .pattern) (h .guard .time)
+Scoped ars n h = HeadBelow numberLimit ars n (h .sorts) (h .guard .pattern) (h .guard .time)
 
 -- an atom behind a tag: its bytes, and its tag or the next one
 pub record AtomForm (file ars : List ℕ) (tag at : ℕ) (a : Atom) (e : ℕ) : Type 0 where
-  pub within : AtomWithin ars a
+  pub within : AtomBelow numberLimit ars a
   pub stands : Stands file at (encodeAtom a) e
   pub low : atomTag a ≤ tag
   pub high : tag ≤ suc (atomTag a)
@@ -90,7 +90,7 @@ term-bytes zero n h = refl
 term-bytes (suc zero) n h = refl
 term-bytes (suc (suc t)) n h = absurd (omega arith)
 
-term-range : (b : Bool) (n : ℕ) → n < numberLimit → TermWithin (pick b (var n) (public n))
+term-range : (b : Bool) (n : ℕ) → n < numberLimit → TermBelow numberLimit (pick b (var n) (public n))
 term-range true n h = h
 term-range false n h = h
 
@@ -99,7 +99,7 @@ module _ (file : List ℕ) (bytes : Bytes file) where
   Tag t = (t < termTags) × Number t
 
   term-back :
-      (t : Term) (at : ℕ) (rest : List ℕ) → TermWithin t → drop at file ≡ encodeTerm t ++ rest → termAt file at ≡ got t (at + length (encodeTerm t))
+      (t : Term) (at : ℕ) (rest : List ℕ) → TermBelow numberLimit t → drop at file ≡ encodeTerm t ++ rest → termAt file at ≡ got t (at + length (encodeTerm t))
   unfolding termAt
   term-back (var x) at rest w there =
       made-back file (below file termTags) Tag groups (below-exact file bytes termTags) (λ t. readNumber file) (λ t. Number) groups
@@ -108,14 +108,14 @@ module _ (file : List ℕ) (bytes : Bytes file) where
       made-back file (below file termTags) Tag groups (below-exact file bytes termTags) (λ t. readNumber file) (λ t. Number) groups
       (λ t. number-exact file bytes) termOf 1 n at rest (omega arith, omega (arith, small-limit)) w there
 
-  pub term-exact : Exact file (termAt file) TermWithin encodeTerm
+  pub term-exact : Exact file (termAt file) (TermBelow numberLimit) encodeTerm
   unfolding termAt
   term-exact = record {
     back = term-back;
     form = λ t at e h.
         let m = made-form file (below file termTags) Tag groups (below-exact file bytes termTags) (λ t. readNumber file) (λ t. Number) groups
         (λ t. number-exact file bytes) termOf t at e h in
-        subst (λ (u : Term). TermWithin u × Stands file at (encodeTerm u) e) (m .made) (
+        subst (λ (u : Term). TermBelow numberLimit u × Stands file at (encodeTerm u) e) (m .made) (
           term-range (eqb (m .one) 0) (m .two) (m .second),
           subst (λ (l : List ℕ). Stands file at l e) (sym (term-bytes (m .one) (m .two) (m .first .0))) (m .stands),
         );
@@ -146,11 +146,11 @@ module _ (file : List ℕ) (bytes : Bytes file) where
           subst₂ (λ (l : List ℕ) (k : ℕ). Stands file at l k) (ap groups a ∙ sym g ∙ ap encodeSort b) c h
 
   pub equal-back :
-      (t u : Term) (at : ℕ) (rest : List ℕ) → TermWithin t × TermWithin u → drop at file ≡ encodeAtom (equal t u) ++ rest
+      (t u : Term) (at : ℕ) (rest : List ℕ) → TermBelow numberLimit t × TermBelow numberLimit u → drop at file ≡ encodeAtom (equal t u) ++ rest
       → equalAt file at ≡ got (equal t u) (at + length (encodeAtom (equal t u)))
   unfolding equalAt
   equal-back t u at rest w there =
-      made-back file (termAt file) TermWithin encodeTerm term-exact (λ t. termAt file) (λ t. TermWithin) encodeTerm (λ t. term-exact)
+      made-back file (termAt file) (TermBelow numberLimit) encodeTerm term-exact (λ t. termAt file) (λ t. TermBelow numberLimit) encodeTerm (λ t. term-exact)
       equal t u at rest (w .0) (w .1) there
 
   pub times-back :
@@ -162,13 +162,13 @@ module _ (file : List ℕ) (bytes : Bytes file) where
       (λ i. number-exact file bytes) (timesOf q) i j at rest (w .0) (w .1) there
 
   module _ (ars : List ℕ) (few : length ars ≤ 256) where
-    pub fact-exact : Exact file (factAt file ars) (PatternWithin ars) encodePattern
+    pub fact-exact : Exact file (factAt file ars) (PatternBelow numberLimit ars) encodePattern
     unfolding factAt
     fact-exact =
-        exact-as file (factAt file ars) _ (PatternWithin ars) encodePattern
+        exact-as file (factAt file ars) _ (PatternBelow numberLimit ars) encodePattern
         (then-exact file (below file (length ars)) (λ y. (y < length ars) × Number y) groups (below-exact file bytes (length ars))
-        (λ y. many (termAt file) (getD ars y 0)) (λ y ts. (length ts ≡ getD ars y 0) × All TermWithin ts) (flat encodeTerm)
-        (λ y g. many-exact file (termAt file) TermWithin encodeTerm term-exact (getD ars y 0))
+        (λ y. many (termAt file) (getD ars y 0)) (λ y ts. (length ts ≡ getD ars y 0) × All (TermBelow numberLimit) ts) (flat encodeTerm)
+        (λ y g. many-exact file (termAt file) (TermBelow numberLimit) encodeTerm term-exact (getD ars y 0))
         pattern-of (λ g. g .symbol) (λ g. g .terms) (λ g. refl) (λ y ts. refl) (λ y ts. refl))
         (λ g w. ((w .known, omega (arith, w .known, small-limit)), (w .takes, w .each)))
         (λ g w. record { known = w .0 .0; takes = w .1 .0; each = w .1 .1 })
@@ -176,7 +176,7 @@ module _ (file : List ℕ) (bytes : Bytes file) where
     pub timed-exact : Exact file (timedAt file ars) (TimedWithin ars) encodeTimed
     unfolding timedAt
     timed-exact =
-        then-exact file (factAt file ars) (PatternWithin ars) encodePattern fact-exact (λ g. readNumber file) (λ g. Number) groups
+        then-exact file (factAt file ars) (PatternBelow numberLimit ars) encodePattern fact-exact (λ g. readNumber file) (λ g. Number) groups
         (λ g w. number-exact file bytes) timed-of (λ g. g .pattern) (λ g. g .time) (λ g. refl) (λ g i. refl) (λ g i. refl)
 
     sorts-exact : Exact file (counted file mostNew (sortAt file)) (λ s. (length s ≤ mostNew) × All (λ t. Unit {0}) s) (listed encodeSort)
@@ -203,7 +203,7 @@ module _ (file : List ℕ) (bytes : Bytes file) where
 
     -- ── atoms ──
     pub action-back :
-        (g : Pattern) (i at : ℕ) (rest : List ℕ) → PatternWithin ars g × Number i → drop at file ≡ encodeTimed (timed-of g i) ++ rest
+        (g : Pattern) (i at : ℕ) (rest : List ℕ) → PatternBelow numberLimit ars g × Number i → drop at file ≡ encodeTimed (timed-of g i) ++ rest
         → actionAt file ars at ≡ got (action g i) (at + length (encodeTimed (timed-of g i)))
     unfolding actionAt
     action-back g i at rest w there = then-got (timedAt file ars at) _ (timed-exact .back (timed-of g i) at rest w there)
@@ -211,7 +211,7 @@ module _ (file : List ℕ) (bytes : Bytes file) where
     equal-form : (tag at : ℕ) (a : Atom) (e : ℕ) → equalAt file at ≡ got a e → 1 ≤ tag → tag < 3 → AtomForm file ars tag at a e
     unfolding equalAt
     equal-form tag at a e h l k =
-        let m = made-form file (termAt file) TermWithin encodeTerm term-exact (λ t. termAt file) (λ t. TermWithin) encodeTerm (λ t. term-exact)
+        let m = made-form file (termAt file) (TermBelow numberLimit) encodeTerm term-exact (λ t. termAt file) (λ t. TermBelow numberLimit) encodeTerm (λ t. term-exact)
         equal a at e h in
         subst (λ (a : Atom). AtomForm file ars tag at a e) (m .made)
         (record { within = (m .first, m .second); stands = m .stands; low = omega arith; high = omega arith })

@@ -1,45 +1,49 @@
--- The limits of a protocol file, as one predicate. "A figure in brackets after a file or a count is the most allowed."
+-- The limits of a protocol file, as one predicate: "A figure in brackets after a file or a count is the most allowed." They are said with numbers
+-- below any limit, and hold with the numbers that a file can hold.
 use Prim.Native.Nat.{ℕ, _≤_, _<_}
 use mathlib.Core.List.{List}
 use mathlib.Core.Bool.{true}
 use mathlib.Core.Path.{_≡_}
 use lib.ListN.{length, getD}
+use Rattle.number.specs.Groups.{numberLimit}
 use Rattle.term.specs.Tags.{mostFunctions}
 use Rattle.protocol.specs.Figures.{mostOwn, flagCount, mostRules, arityLimit, factArityLimit}
 use Rattle.protocol.specs.Figures.{mostVariables, sortCount, listCount, mostFacts, mostRuleSymbols}
 use Rattle.lists.specs.All.{All}
-use Rattle.term.specs.Term.{Term, symbols, Formed, InRange}
+use Rattle.term.specs.Term.{Term, symbols, Formed, Below}
 use Rattle.term.specs.Arity.{arity, tagArities}
 use Rattle.protocol.specs.Protocol.{Fact, Rule, Own, Protocol, factArities, declared}
+-- a larger limit of numbers
+pub mod Wider
 
--- under the arities of functions, a slot for each tag (arities), and of fact symbols (ars)
-module _ (arities : List ℕ) where
-  -- "a rule's term has at most 64 symbols", each a declared function's, its numbers as a file can hold them
-  pub record TermWithin (t : Term) : Type 0 where
+-- numbers below `limit`, under the arities of functions, a slot for each tag (arities), and of fact symbols (ars)
+module _ (limit : ℕ) (arities : List ℕ) where
+  -- "a rule's term has at most 64 symbols", each a declared function's
+  pub record TermBelow (t : Term) : Type 0 where
     pub formed : Formed (arity arities) t
-    pub range : InRange t
+    pub range : Below limit t
     pub short : symbols t ≤ mostRuleSymbols
 
   module _ (ars : List ℕ) where
-    pub record FactWithin (f : Fact) : Type 0 where
+    pub record FactBelow (f : Fact) : Type 0 where
       pub known : f .symbol < length ars
       pub takes : length (f .terms) ≡ getD ars (f .symbol) 0
-      pub each : All TermWithin (f .terms)
+      pub each : All TermBelow (f .terms)
 
     -- "each a count (8) and facts"
-    pub record FactsWithin (fs : List Fact) : Type 0 where
+    pub record FactsBelow (fs : List Fact) : Type 0 where
       pub few : length fs ≤ mostFacts
-      pub each : All FactWithin fs
+      pub each : All FactBelow fs
 
     -- the layout of a rule: "count of variables (16), each sort (0 message, 1 fresh, 2 public)", and three lists
-    pub record LayoutWithin (r : Rule) : Type 0 where
+    pub record LayoutBelow (r : Rule) : Type 0 where
       pub few : length (r .sorts) ≤ mostVariables
       pub sorted : All (λ v. v < sortCount) (r .sorts)
       pub three : length (r .lists) ≡ listCount
-      pub each : All FactsWithin (r .lists)
+      pub each : All FactsBelow (r .lists)
 
-    pub record RuleWithin (r : Rule) : Type 0 where
-      pub laid : LayoutWithin r
+    pub record RuleBelow (r : Rule) : Type 0 where
+      pub laid : LayoutBelow r
       pub bound : declared r ≡ true
 
 -- "each arity (0 to 8) and 0 linear or 1 persistent"
@@ -47,7 +51,7 @@ pub record OwnWithin (o : Own) : Type 0 where
   pub small : o .arity < factArityLimit
   pub either : o .flag < flagCount
 
-pub record Within (p : Protocol) : Type 0 where
+pub record ProtocolBelow (limit : ℕ) (p : Protocol) : Type 0 where
   -- "count of free functions (16), each arity (0 to 4)"
   pub few-functions : length (p .functions) ≤ mostFunctions
   pub arities : All (λ a. a < arityLimit) (p .functions)
@@ -56,4 +60,23 @@ pub record Within (p : Protocol) : Type 0 where
   pub symbols : All OwnWithin (p .symbols)
   -- "count of rules (64)"
   pub few-rules : length (p .rules) ≤ mostRules
-  pub rules : All (RuleWithin (tagArities (p .functions)) (factArities (p .symbols))) (p .rules)
+  pub rules : All (RuleBelow limit (tagArities (p .functions)) (factArities (p .symbols))) (p .rules)
+
+-- ── with the numbers that a file can hold ──
+abbrev pub TermWithin : List ℕ → Term → Type 0
+TermWithin = TermBelow numberLimit
+
+abbrev pub FactWithin : List ℕ → List ℕ → Fact → Type 0
+FactWithin = FactBelow numberLimit
+
+abbrev pub FactsWithin : List ℕ → List ℕ → List Fact → Type 0
+FactsWithin = FactsBelow numberLimit
+
+abbrev pub LayoutWithin : List ℕ → List ℕ → Rule → Type 0
+LayoutWithin = LayoutBelow numberLimit
+
+abbrev pub RuleWithin : List ℕ → List ℕ → Rule → Type 0
+RuleWithin = RuleBelow numberLimit
+
+abbrev pub Within : Protocol → Type 0
+Within = ProtocolBelow numberLimit

@@ -18,7 +18,7 @@ use Rattle.number.specs.Layout.Laws.{many-form}
 use Rattle.term.specs.declared.Symbol.{Symbol}
 use Rattle.term.specs.declared.Symbol.the-variants as sy
 use Rattle.term.specs.Term.{Kind, variable, public, fresh, Term, leaf, app, Terms, nil}
-use Rattle.term.specs.Term.{_&_, tagOf, count, encode, encodes, Formed, Formeds, InRange, InRanges}
+use Rattle.term.specs.Term.{_&_, tagOf, count, encode, encodes, Formed, Formeds, Below, InRange, InRanges}
 use Rattle.term.specs.Term.Laws.{tag-small}
 use Rattle.term.specs.Arity.{arity}
 use Rattle.term.specs.Arity.Laws.{no-leaf}
@@ -53,9 +53,12 @@ tag-kind (suc zero) h = refl
 tag-kind (suc (suc zero)) h = refl
 tag-kind (suc (suc (suc t))) h = absurd (omega arith)
 
--- formed under a table of slots, and in range
+-- formed under a table of slots, its numbers below a limit; and in range
+abbrev pub GoodBelow : ℕ → List ℕ → Term → Type 0
+GoodBelow limit arities t = Formed (arity arities) t × Below limit t
+
 abbrev pub Good : List ℕ → Term → Type 0
-Good arities t = Formed (arity arities) t × InRange t
+Good = GoodBelow numberLimit
 
 all-good : (arities : List ℕ) (ts : List Term) → All (Good arities) ts → Formeds (arity arities) (terms ts) × InRanges (terms ts)
 all-good arities [] g = (tt, tt)

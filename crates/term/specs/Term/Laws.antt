@@ -1,4 +1,4 @@
--- The laws of the encoding: it is read in one way only, and a symbol takes a byte at least.
+-- The laws of the encoding: it is read in one way only, and a symbol takes a byte at least; a wider range of numbers.
 use Prim.Native.Nat.{ℕ, _+_, _≤_, _<_}
 use mathlib.Core.List.{List, _++_, append-assoc}
 use mathlib.Core.Option.{Option, some}
@@ -8,7 +8,7 @@ use lib.ListN.{length, length-append}
 use Rattle.number.specs.Groups.{groups}
 use Rattle.number.specs.Groups.Laws.{groups-prefix, groups-some}
 use Rattle.term.specs.Term.{Kind, variable, public, fresh, Term, leaf, app, Terms, nil}
-use Rattle.term.specs.Term.{_&_, tagOf, count, encode, encodes, symbols, symbolss, Formed, Formeds}
+use Rattle.term.specs.Term.{_&_, tagOf, count, encode, encodes, symbols, symbolss, Formed, Formeds, Below, Belows}
 
 -- ── leaves ──
 pub tag-small : (k : Kind) → tagOf k < 3
@@ -77,3 +77,14 @@ mutual
 pub encode-some : (t : Term) → 0 < length (encode t)
 encode-some (leaf k n) = omega (arith, length-append (groups (tagOf k)) (groups n), groups-some n)
 encode-some (app f ts) = omega (arith, length-append (groups f) (encodes ts), groups-some f)
+
+-- ── numbers below a limit are below a larger one ──
+module _ (limit more : ℕ) (wider : limit ≤ more) where
+  mutual
+    pub below-wider : (t : Term) → Below limit t → Below more t
+    below-wider (leaf k n) h = omega arith
+    below-wider (app f ts) h = (omega (arith, h .0), belows-wider ts (h .1))
+
+    belows-wider : (ts : Terms) → Belows limit ts → Belows more ts
+    belows-wider nil h = tt
+    belows-wider (t & ts) h = (below-wider t (h .0), belows-wider ts (h .1))
