@@ -29,6 +29,8 @@ pub mod Files
 pub mod Meaning
 -- its packed answer comes apart into the outcome
 pub mod Bounds
+-- a term of 256 symbols is short
+pub mod Short
 
 -- the protocol and the term that the files hold, or the refusal of one of them
 abbrev pub termOf : List ℕ → List ℕ → Ruling Term

@@ -61,9 +61,6 @@ module _ (limit : ℕ) where
   GraphBelow p g = NodesBelow limit p (g .nodes) × EdgesBelow (g .edges)
 
 -- with the numbers that a file can hold
-abbrev pub EdgeWithin : Edge → Type 0
-EdgeWithin = EdgeBelow numberLimit
-
 abbrev pub GraphWithin : Protocol → Graph → Type 0
 GraphWithin = GraphBelow numberLimit
 

@@ -19,7 +19,7 @@ use Rattle.rules.specs.Numbered.{ruleOf}
 use Rattle.steps.specs.Nodes.{Reading, read, node-of, NodesWithin}
 use Rattle.steps.specs.Causes.{graphItem, readRuling}
 use Rattle.steps.specs.Facts.{sameFact, sameTerm, sameTerms}
-use Rattle.graph.specs.Graph.{Graph, graph-of, place-of, edge-of, EdgeWithin, GraphWithin, encodeGraph, graph}
+use Rattle.graph.specs.Graph.{Graph, graph-of, place-of, edge-of, EdgeBelow, GraphWithin, encodeGraph, graph}
 use Rattle.graph.specs.Graph.Exact.{graph-back}
 use Rattle.graph.specs.Causes.{ruling, graphRuling}
 use Rattle.property.specs.Formula.{absurdity}
@@ -61,7 +61,7 @@ unfolding groups groupsIn
 is-graph = refl
 
 -- ── they are within the limits ──
-each-edge : (n : ℕ) → All EdgeWithin (replicate n joins)
+each-edge : (n : ℕ) → All (EdgeBelow numberLimit) (replicate n joins)
 unfolding numberLimit
 each-edge zero = tt
 each-edge (suc n) = (((omega arith, omega arith), (omega arith, omega arith)), each-edge n)

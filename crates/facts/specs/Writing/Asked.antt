@@ -23,7 +23,7 @@ use Rattle.canonical.specs.Size.{bytes-few}
 use Rattle.canonical.specs.Loose.Laws.{sub-range}
 use Rattle.canonical.specs.Contract.{Value}
 use Rattle.protocol.specs.Protocol.{Fact, fact, leafIn}
-use Rattle.protocol.specs.Protocol.Limits.{TermWithin}
+use Rattle.protocol.specs.Protocol.Limits.Parts.{TermWithin}
 use Rattle.protocol.specs.Places.{Here}
 use Rattle.prepared.specs.Sections.{preparedLength}
 use Rattle.prepared.specs.Prepared.{slotsOf, aritiesOf}

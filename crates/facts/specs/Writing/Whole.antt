@@ -27,7 +27,7 @@ use Rattle.canonical.specs.Builtins.{Builtins, group}
 use Rattle.canonical.specs.Contract.{Job, Out}
 use Rattle.canonical.specs.Contract.Laws.{written-canons}
 use Rattle.protocol.specs.Protocol.{Fact, ruleTerm, fact}
-use Rattle.protocol.specs.Protocol.Limits.{TermWithin}
+use Rattle.protocol.specs.Protocol.Limits.Parts.{TermWithin}
 use Rattle.protocol.specs.Protocol.Exact.{rule-term-exact}
 use Rattle.protocol.specs.Places.{placeOf, valueOf, Here, termPlace}
 use Rattle.protocol.specs.Places.Laws.{fact-fields}

@@ -19,7 +19,7 @@ use Rattle.steps.specs.Nodes.{Node, Reading, read, broken, no-rule, encodeNodes
 use Rattle.steps.specs.Nodes.Unknown.{RuleMissing, all-rule, no-rule-exactly}
 use Rattle.steps.specs.Nodes.Exact.{cut-read, cut-plain, nodes-back, nodes-form}
 use Rattle.graph.specs.Graph.{Graph, graph-of, place-of, edge-of, mostEdges, encodePlace, encodeEdge, encodeGraph}
-use Rattle.graph.specs.Graph.{PlaceBelow, EdgeWithin, EdgesBelow, GraphWithin, place, edge, edgeList, withEdges, parts, graph}
+use Rattle.graph.specs.Graph.{PlaceBelow, EdgeBelow, EdgesBelow, GraphWithin, place, edge, edgeList, withEdges, parts, graph}
 
 most-small : mostEdges < numberLimit
 unfolding numberLimit
@@ -33,7 +33,7 @@ module _ (file : List ℕ) (bytes : Bytes file) where
       (λ n. readNumber file) (λ n i. i < numberLimit) groups (λ n l. number-exact file bytes)
       place-of (λ a. a .node) (λ a. a .index) (λ a. refl) (λ n i. refl) (λ n i. refl)
 
-  edge-exact : Exact file (edge file) EdgeWithin encodeEdge
+  edge-exact : Exact file (edge file) (EdgeBelow numberLimit) encodeEdge
   unfolding edge
   edge-exact =
       then-exact file (place file) (PlaceBelow numberLimit) encodePlace place-exact
@@ -42,7 +42,7 @@ module _ (file : List ℕ) (bytes : Bytes file) where
 
   pub edges-exact : Exact file (edgeList file) (EdgesBelow numberLimit) (listed encodeEdge)
   unfolding edgeList
-  edges-exact = counted-exact file (edge file) EdgeWithin encodeEdge edge-exact bytes mostEdges most-small
+  edges-exact = counted-exact file (edge file) (EdgeBelow numberLimit) encodeEdge edge-exact bytes mostEdges most-small
 
   module _ (p : Protocol) where
     -- what reads is within the limits, and the file is its bytes

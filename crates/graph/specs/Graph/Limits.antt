@@ -27,7 +27,7 @@ use Rattle.steps.specs.Facts.{factsOf}
 use Rattle.steps.specs.Facts.Counts.{facts-few}
 use Rattle.steps.specs.Runs.{protocolFacts, rewritten, rewrittens, Accepted}
 use Rattle.steps.specs.Runs.Theorems.{accepted-size}
-use Rattle.graph.specs.Graph.{graph-of, mostEdges, encodePlace, encodeEdge, encodeGraph, PlaceBelow, EdgeWithin, GraphWithin}
+use Rattle.graph.specs.Graph.{graph-of, mostEdges, encodePlace, encodeEdge, encodeGraph, PlaceBelow, EdgeBelow, GraphWithin}
 
 -- ── lengths ──
 -- of the count of edges, and of an edge
@@ -96,7 +96,7 @@ module _ (p : Protocol) (fit : Within p) where
         within,
         (
           few-edges,
-          all-map EdgeFew EdgeWithin (λ e h. (place-within (e .source) (h .0), place-within (e .target) (h .1))) es edges-few,
+          all-map EdgeFew (EdgeBelow numberLimit) (λ e h. (place-within (e .source) (h .0), place-within (e .target) (h .1))) es edges-few,
         ),
       )
 

@@ -13,6 +13,8 @@ use Rattle.lists.specs.All.{All}
 use Rattle.term.specs.Term.{Term, symbols, Formed, Below}
 use Rattle.term.specs.Arity.{arity, tagArities}
 use Rattle.protocol.specs.Protocol.{Fact, Rule, Own, Protocol, factArities, declared}
+-- the parts, with the numbers that a file can hold
+pub mod Parts
 -- a larger limit of numbers
 pub mod Wider
 
@@ -62,21 +64,6 @@ pub record ProtocolBelow (limit : ℕ) (p : Protocol) : Type 0 where
   pub few-rules : length (p .rules) ≤ mostRules
   pub rules : All (RuleBelow limit (tagArities (p .functions)) (factArities (p .symbols))) (p .rules)
 
--- ── with the numbers that a file can hold ──
-abbrev pub TermWithin : List ℕ → Term → Type 0
-TermWithin = TermBelow numberLimit
-
-abbrev pub FactWithin : List ℕ → List ℕ → Fact → Type 0
-FactWithin = FactBelow numberLimit
-
-abbrev pub FactsWithin : List ℕ → List ℕ → List Fact → Type 0
-FactsWithin = FactsBelow numberLimit
-
-abbrev pub LayoutWithin : List ℕ → List ℕ → Rule → Type 0
-LayoutWithin = LayoutBelow numberLimit
-
-abbrev pub RuleWithin : List ℕ → List ℕ → Rule → Type 0
-RuleWithin = RuleBelow numberLimit
-
+-- with the numbers that a file can hold
 abbrev pub Within : Protocol → Type 0
 Within = ProtocolBelow numberLimit

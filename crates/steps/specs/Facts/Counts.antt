@@ -15,7 +15,8 @@ use Rattle.term.specs.Term.{Term}
 use Rattle.term.specs.Arity.{tagArities}
 use Rattle.protocol.specs.Figures.{firstOwn, mostFacts}
 use Rattle.protocol.specs.Protocol.{Rule, Own, Protocol, fact-of, listOf, frSymbol, inSymbol, outSymbol, kSymbol, factArities, factFlags}
-use Rattle.protocol.specs.Protocol.Limits.{FactsWithin, Within}
+use Rattle.protocol.specs.Protocol.Limits.{Within}
+use Rattle.protocol.specs.Protocol.Limits.Parts.{FactsWithin}
 use Rattle.rules.specs.Numbered.Limits.{rule-within}
 use Rattle.steps.specs.Nodes.{Node, NodeWithin}
 use Rattle.steps.specs.Facts.{filledFact, filledList, factsOf, isLinear}

@@ -1,14 +1,16 @@
--- The laws of arities: what each tag's slot is.
+-- The laws of arities: what each tag's slot is; tags are few, and so are arguments.
 use Prim.Native.Nat.{ℕ, zero, suc, _+_, _-_, _≤_, _<_}
-use mathlib.Core.List.{List, [], _∷_}
+use mathlib.Core.List.{List, [], _∷_, _++_}
 use mathlib.Core.Option.{some, none}
-use mathlib.Core.Path.{_≡_, refl, sym, _∙_}
+use mathlib.Core.Path.{_≡_, refl, ap, sym, _∙_}
 use native.Mathlib.Omega.{arith}
-use lib.ListN.{length, getD, List·getD-append, List·getD-eq-default}
+use lib.ListN.{length, getD, length-append, List·getD-append, List·getD-eq-default}
 use lib.Seq.{getD-append-add}
 use lib.Dec.{ltb}
 use borrow.Author.Tests.{le-ltb, eq-eqb, ne-eqb}
-use Rattle.lists.specs.Choice.{cut-lt, pick-same, clash}
+use Rattle.lists.specs.Choice.{cut-lt, cut-eq, by-size, pick-same, clash}
+use Rattle.lists.specs.All.{All}
+use Rattle.lists.specs.All.Laws.{all-at, all-append}
 use Rattle.term.specs.Arity.{undeclared, arity, builtin, padded, tagArities}
 
 -- a slot in the table, and past its end
@@ -51,3 +53,51 @@ slot-free free j h = getD-append-add builtin (padded 16 free) j undeclared ∙ p
 pub slot-builtin : (free : List ℕ) (f : ℕ) → f < 13 → getD (tagArities free) f undeclared ≡ getD builtin f undeclared
 unfolding tagArities
 slot-builtin free f h = List·getD-append builtin (padded 16 free) undeclared f h
+
+-- ── the tags of functions, and the most arguments that one takes ──
+padded-length : (n : ℕ) (l : List ℕ) → length (padded n l) ≡ n
+padded-length zero l = refl
+padded-length (suc n) [] = ap suc (padded-length n [])
+padded-length (suc n) (a ∷ l) = ap suc (padded-length n l)
+
+-- what a slot says where a function has an arity
+arity-slot : (l : List ℕ) (f n : ℕ) → arity l f ≡ some n → (getD l f undeclared ≡ undeclared → ⊥) × (getD l f undeclared ≡ n)
+unfolding arity
+arity-slot l f n e =
+    cut-lt _ _ _ f 3 e (λ h e. clash (cc)) (λ h e. cut-eq _ _ _ (getD l f undeclared) undeclared e (λ u e. clash (cc)) (λ u e. (u, (cc))))
+
+pub tag-few : (free : List ℕ) (f n : ℕ) → arity (tagArities free) f ≡ some n → f < 29
+unfolding tagArities
+tag-few free f n e =
+    let l = builtin ++ padded 16 free in
+    by-size f 29 (λ h. h) (λ h.
+    absurd (arity-slot l f n e .0 (sym (slot-outside l f (omega (arith, length-append builtin (padded 16 free), padded-length 16 free))))))
+
+module _ (most : ℕ) where
+  -- no function, or a small arity
+  abbrev Small : ℕ → Type 0
+  Small a = (a ≡ undeclared → ⊥) → a ≤ most
+
+  padded-small : (n : ℕ) (l : List ℕ) → All (λ a. a ≤ most) l → All Small (padded n l)
+  padded-small zero l h = tt
+  padded-small (suc n) [] h = ((λ u. absurd (u refl)), padded-small n [] h)
+  padded-small (suc n) (a ∷ l) h = ((λ u. h .0), padded-small n l (h .1))
+
+  -- two built-in arguments at most, and as many as are declared
+  pub arity-most : 2 ≤ most → (free : List ℕ) → All (λ a. a ≤ most) free → (f n : ℕ) → arity (tagArities free) f ≡ some n → n ≤ most
+  unfolding tagArities
+  arity-most two free h f n e =
+      let l = builtin ++ padded 16 free in
+      let (u, q) = arity-slot l f n e in
+      let s = all-at Small undeclared (λ u. absurd (u refl)) l (all-append Small builtin (padded 16 free) builtin-small (padded-small 16 free h)) f u in
+      omega (arith, q, s)
+    where
+      none : Small undeclared
+      none u = absurd (u refl)
+
+      small : (a : ℕ) → a ≤ 2 → Small a
+      small a h u = omega arith
+
+      builtin-small : All Small builtin
+      builtin-small =
+          (none, (none, (none, (small 0 (omega arith), (small 2 (omega arith), (small 2 (omega arith), (small 1 (omega arith), (small 2 (omega arith), (small 1 (omega arith), (small 1 (omega arith), (small 2 (omega arith), (small 1 (omega arith), (small 2 (omega arith), tt)))))))))))))

@@ -20,7 +20,8 @@ use Rattle.message.specs.Canon.{canon}
 use Rattle.message.specs.Theorems.{canon-is-formed, canon-is-in-range, declared}
 use Rattle.canonical.specs.Loose.Laws.{sub-range}
 use Rattle.protocol.specs.Protocol.{Fact, Rule, Protocol, noFact, listOf, factArities}
-use Rattle.protocol.specs.Protocol.Limits.{TermWithin, FactWithin, Within}
+use Rattle.protocol.specs.Protocol.Limits.{Within}
+use Rattle.protocol.specs.Protocol.Limits.Parts.{TermWithin, FactWithin}
 use Rattle.rules.specs.Numbered.Limits.{rule-within}
 use Rattle.prepared.specs.Prepared.{slotsOf}
 use Rattle.steps.specs.Nodes.{Node, NodeWithin}
