@@ -19,8 +19,7 @@ use Rattle.rewriting.specs.Table.{Pass, Ruled, Absent}
 use Rattle.rewriting.specs.Table.Laws.{ruled, ruled-and-then}
 use Rattle.rewriting.specs.Table.Passes.{restated, leastPass, lessPass}
 use Rattle.protocol.specs.Protocol.{Rule, Protocol, factArities, protocol}
-use Rattle.protocol.specs.Protocol.Limits.{Within}
-use Rattle.protocol.specs.Protocol.Limits.Parts.{RuleWithin}
+use Rattle.protocol.specs.Protocol.Limits.{RuleWithin, Within}
 use Rattle.protocol.specs.Protocol.Exact.{protocol-form}
 use Rattle.rules.specs.Fit.{fits}
 use Rattle.rules.specs.Fit.Meaning.{Fit}

@@ -24,8 +24,8 @@ use Rattle.message.specs.Canon.{canon}
 use Rattle.canonical.specs.Builtins.{Builtins, declared}
 use Rattle.canonical.specs.Contract.Laws.{own-canonical}
 use Rattle.protocol.specs.Protocol.{Fact, Rule, Own, Protocol, listOf, noFact, factArities, fact, leafIn}
-use Rattle.protocol.specs.Protocol.Limits.{OwnWithin, Within}
-use Rattle.protocol.specs.Protocol.Limits.Parts.{FactWithin, RuleWithin}
+use Rattle.protocol.specs.Protocol.Limits.{RuleWithin, OwnWithin, Within}
+use Rattle.protocol.specs.Protocol.Limits.Parts.{FactWithin}
 use Rattle.protocol.specs.Places.{Here}
 use Rattle.prepared.specs.Prepared.{slotsOf, aritiesOf}
 use Rattle.prepared.specs.Prepared.Laws.{part-at}

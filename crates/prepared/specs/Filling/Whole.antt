@@ -12,8 +12,8 @@ use Rattle.octets.specs.Splice.Laws.{length-splice, part-splice, splice-before}
 use Rattle.lists.specs.All.{All}
 use Rattle.term.specs.Arity.{tagArities, padded}
 use Rattle.protocol.specs.Protocol.{Fact, Rule, Own, Protocol, factArities, encodeRule}
-use Rattle.protocol.specs.Protocol.Limits.{Within}
-use Rattle.protocol.specs.Protocol.Limits.Parts.{FactWithin, FactsWithin, RuleWithin}
+use Rattle.protocol.specs.Protocol.Limits.{RuleWithin, Within}
+use Rattle.protocol.specs.Protocol.Limits.Parts.{FactWithin, FactsWithin}
 use Rattle.protocol.specs.Protocol.Exact.{rule-exact, few-arities}
 use Rattle.protocol.specs.Index.{Entries}
 use Rattle.rules.specs.Fit.Laws.{Indexes}

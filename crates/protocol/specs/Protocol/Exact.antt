@@ -25,8 +25,8 @@ use Rattle.term.specs.Reader.{term}
 use Rattle.term.specs.Reader.Exact.{Good, term-exact}
 use Rattle.protocol.specs.Protocol.{Rule, Own, Protocol, fact-of, rule-of, own-of, protocol-of, factArities, declared, encodeFact}
 use Rattle.protocol.specs.Protocol.{encodeRule, encodeOwn, encodeProtocol, ruleTerm, fact, facts, layout, rule, own, protocol}
-use Rattle.protocol.specs.Protocol.Limits.{OwnWithin, Within}
-use Rattle.protocol.specs.Protocol.Limits.Parts.{TermWithin, FactWithin, FactsWithin, LayoutWithin, RuleWithin}
+use Rattle.protocol.specs.Protocol.Limits.{RuleWithin, OwnWithin, Within}
+use Rattle.protocol.specs.Protocol.Limits.Parts.{TermWithin, FactWithin, FactsWithin, LayoutWithin}
 
 pick-true : {A : Type 0} {b : Bool} (x y : A) → b ≡ true → pick b x y ≡ x
 pick-true x y h = ap (λ (t : Bool). pick t x y) h

@@ -65,5 +65,8 @@ pub record ProtocolBelow (limit : ℕ) (p : Protocol) : Type 0 where
   pub rules : All (RuleBelow limit (tagArities (p .functions)) (factArities (p .symbols))) (p .rules)
 
 -- with the numbers that a file can hold
+abbrev pub RuleWithin : List ℕ → List ℕ → Rule → Type 0
+RuleWithin = RuleBelow numberLimit
+
 abbrev pub Within : Protocol → Type 0
 Within = ProtocolBelow numberLimit

@@ -18,8 +18,8 @@ use Rattle.term.specs.Arity.{arity, tagArities, builtin, padded, undeclared}
 use Rattle.term.specs.Reader.{terms}
 use Rattle.term.specs.Walk.{holds, holdss}
 use Rattle.protocol.specs.Protocol.{Fact, Rule, Own, Protocol, fact-of, rule-of, factArities, leafIn, declared}
-use Rattle.protocol.specs.Protocol.Limits.{Within}
-use Rattle.protocol.specs.Protocol.Limits.Parts.{TermWithin, FactWithin, FactsWithin, RuleWithin}
+use Rattle.protocol.specs.Protocol.Limits.{RuleWithin, Within}
+use Rattle.protocol.specs.Protocol.Limits.Parts.{TermWithin, FactWithin, FactsWithin}
 use Rattle.rules.specs.Numbered.{first, fixed, variables, known, applies, applied, ruleOf}
 
 -- ── arities are at most 4 ──

@@ -22,8 +22,8 @@ use Rattle.message.specs.Substitution.Laws.{sub-formed, sub-ground}
 use Rattle.message.specs.Theorems.{declared}
 use Rattle.protocol.specs.Protocol.{Fact, Rule, Protocol, listOf, factArities, leafIn}
 use Rattle.rules.specs.Numbered.Limits.{rule-within}
-use Rattle.protocol.specs.Protocol.Limits.{Within}
-use Rattle.protocol.specs.Protocol.Limits.Parts.{TermWithin, FactWithin, FactsWithin, RuleWithin}
+use Rattle.protocol.specs.Protocol.Limits.{RuleWithin, Within}
+use Rattle.protocol.specs.Protocol.Limits.Parts.{TermWithin, FactWithin, FactsWithin}
 use Rattle.lists.specs.All.Laws.{all-map, all-both, all-at, map-all, none-all}
 use Rattle.steps.specs.Nodes.{Node, NodeWithin}
 use Rattle.steps.specs.Facts.{valueAt, filledFact, filledList, factsOf, SameFact, sameFact}

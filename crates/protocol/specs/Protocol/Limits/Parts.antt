@@ -4,7 +4,7 @@ use mathlib.Core.List.{List}
 use Rattle.number.specs.Groups.{numberLimit}
 use Rattle.term.specs.Term.{Term}
 use Rattle.protocol.specs.Protocol.{Fact, Rule}
-use Rattle.protocol.specs.Protocol.Limits.{TermBelow, FactBelow, FactsBelow, LayoutBelow, RuleBelow}
+use Rattle.protocol.specs.Protocol.Limits.{TermBelow, FactBelow, FactsBelow, LayoutBelow}
 
 abbrev pub TermWithin : List ℕ → Term → Type 0
 TermWithin = TermBelow numberLimit
@@ -17,6 +17,3 @@ FactsWithin = FactsBelow numberLimit
 
 abbrev pub LayoutWithin : List ℕ → List ℕ → Rule → Type 0
 LayoutWithin = LayoutBelow numberLimit
-
-abbrev pub RuleWithin : List ℕ → List ℕ → Rule → Type 0
-RuleWithin = RuleBelow numberLimit

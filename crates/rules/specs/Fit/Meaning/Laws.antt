@@ -16,7 +16,8 @@ use Rattle.term.specs.Term.{variable, fresh, InRange, Occurs}
 use Rattle.lists.specs.Tests.{or-cases, or-right, not-from, not-both}
 use Rattle.protocol.specs.Protocol.{Rule, listOf, premises, actions, conclusions, leafIn}
 use Rattle.protocol.specs.Protocol.Walks.{symbolIn}
-use Rattle.protocol.specs.Protocol.Limits.Parts.{TermWithin, FactWithin, FactsWithin, RuleWithin}
+use Rattle.protocol.specs.Protocol.Limits.{RuleWithin}
+use Rattle.protocol.specs.Protocol.Limits.Parts.{TermWithin, FactWithin, FactsWithin}
 use Rattle.rules.specs.Fit.{p1, p2, p3, stands, p45, bound, fits}
 use Rattle.lists.specs.Some.{Some, some-part}
 use Rattle.rules.specs.Fit.Meaning.{Occurs, OccursIn, Bound, Fit}

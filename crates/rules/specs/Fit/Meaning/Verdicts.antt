@@ -12,8 +12,7 @@ use Rattle.octets.specs.Head.{Bytes}
 use Rattle.number.specs.Reading.{Read, got, fault}
 use Rattle.term.specs.Arity.{tagArities}
 use Rattle.protocol.specs.Protocol.{Protocol, emptyRule, factArities, protocol}
-use Rattle.protocol.specs.Protocol.Limits.{Within}
-use Rattle.protocol.specs.Protocol.Limits.Parts.{RuleWithin}
+use Rattle.protocol.specs.Protocol.Limits.{RuleWithin, Within}
 use Rattle.protocol.specs.Protocol.Exact.{protocol-form}
 use Rattle.rules.specs.Fit.{fits, sound, broken, outcome, judged}
 use Rattle.lists.specs.Below.{least, least-zero, least-some, none-least, first-least, least-bound}
