@@ -7,7 +7,8 @@ use reference::calls::{Outcome, WORK_AREA};
 use reference::cases::{self, hexadecimal};
 use reference::corpus;
 use reference::cost;
-use reference::generate::{canonical, graphs};
+use reference::generate::canonical::{self, LONGEST_TERM};
+use reference::generate::graphs;
 use reference::random::Random;
 use reference::refusal::File;
 use std::panic::{catch_unwind, AssertUnwindSafe};
@@ -139,7 +140,12 @@ impl Input {
         let messages = cases::message_cases(&text("messages.txt"));
         let messages = messages.iter().map(|case| {
             let protocol = [&[case.under.len() as u8], &case.under[..], &[0, 0]].concat();
-            Input::writing(Call::Canonical, [&protocol, &case.bytes], 1_024, WORK_AREA)
+            Input::writing(
+                Call::Canonical,
+                [&protocol, &case.bytes],
+                LONGEST_TERM,
+                WORK_AREA,
+            )
         });
         let nodes = graphs.chain(steps).chain(draws);
         corpus.chain(nodes).chain(messages).collect()

@@ -1,6 +1,7 @@
 //! Terms of a given number of symbols.
 
-use crate::number::LARGEST;
+use crate::figures::MOST_GROUPS;
+use crate::number::least_of;
 use crate::random::Random;
 use crate::term::*;
 
@@ -13,11 +14,6 @@ pub struct Material<'a> {
     /// Whether products, inverses and exponents are to be frequent.
     pub products: bool,
 }
-
-/// Name numbers whose byte order differs from their own, and the ends of each number of groups.
-const RARE_NAMES: [u32; 10] = [
-    127, 128, 129, 255, 256, 257, 16_383, 16_384, 16_385, LARGEST,
-];
 
 impl Material<'_> {
     /// A term of exactly so many symbols.
@@ -119,12 +115,22 @@ fn shuffled(random: &mut Random, term: &Term) -> Term {
 }
 
 /// Few different names, so that factors meet again.
-fn name(random: &mut Random) -> u32 {
-    if random.percent(20) {
-        *random.choose(&RARE_NAMES)
+pub fn name(random: &mut Random) -> u32 {
+    if random.percent(15) {
+        rare_name(random)
     } else {
         random.below(4) as u32
     }
+}
+
+/// The ends of each number of groups, and numbers near them: their byte order differs from their own.
+pub fn rare_name(random: &mut Random) -> u32 {
+    let least = least_of(1 + random.below(MOST_GROUPS));
+    let near = [least - 1, least, least + 1];
+    let twice = [2 * least - 1, 2 * least, 2 * least + 1];
+    let last = 128 * (least - 1) + 127;
+    let names = [&near[..], &twice, &[last]].concat();
+    *random.choose(&names)
 }
 
 /// `total` cut into so many parts, none of them zero.
