@@ -110,10 +110,10 @@ impl Moves {
         }
     }
 
-    /// At least a fifth of the inputs were accepted, drawn or written, and each of these moves was made by one of 500 inputs.
+    /// At least a sixth of the inputs were accepted, drawn or written, and each of these moves was made by one of 500 inputs.
     fn often_enough(&self, moves: &[&str]) {
         println!("{} of {}: {:#?}", self.rulings, self.inputs, self.counts);
-        assert!(5 * self.rulings >= self.inputs);
+        assert!(6 * self.rulings >= self.inputs);
         for kind in moves {
             let count = self.counts.get(*kind).copied().unwrap_or(0);
             assert!(500 * count >= self.inputs, "{kind}: {count}");

@@ -15,6 +15,9 @@ pub struct Material<'a> {
     pub products: bool,
 }
 
+/// Products of rare names have fewer symbols than this.
+const MOST_RARE: usize = 20;
+
 impl Material<'_> {
     /// A term of exactly so many symbols.
     pub fn term(&self, random: &mut Random, symbols: usize) -> Term {
@@ -24,10 +27,24 @@ impl Material<'_> {
         if symbols >= 5 && random.percent(15) {
             return self.reducible(random, symbols);
         }
+        if (3..MOST_RARE).contains(&symbols) && self.products && random.percent(5) {
+            return self.rare_product(random, symbols);
+        }
         let tag = self.tag(random, symbols - 1);
         let arity = self.signature.arity(tag).expect("a declared function");
         let sizes = shares(random, symbols - 1, arity);
         Term::apply(tag, sizes.into_iter().map(|size| self.term(random, size)))
+    }
+
+    /// A product of rare names of one kind, which is to be sorted by bytes; an inverse where the symbols are even.
+    fn rare_product(&self, random: &mut Random, symbols: usize) -> Term {
+        let fresh = self.fresh_names && random.percent(70);
+        let factors = (0..symbols.div_ceil(2)).map(|_| match (fresh, rare_name(random)) {
+            (true, number) => Term::Fresh(Fresh(number)),
+            (false, number) => Term::Public(Public(number)),
+        });
+        let product = factors.reduce(|first, next| Term::apply(MUL, [first, next]));
+        padded(product.expect("a factor"), symbols)
     }
 
     fn leaf(&self, random: &mut Random) -> Term {
