@@ -4,15 +4,16 @@
 //!
 //! - bytes.txt: `number | LABEL | BYTES` and `term | LABEL | ARITIES | BYTES`
 //! - messages.txt: `LABEL | ARITIES | BYTES`
-//! - steps.txt, facts.txt, graphs.txt and draws.txt: `LABEL | PROTOCOL | BYTES`
+//! - steps.txt, facts.txt, graphs.txt, draws.txt and terms.txt: `LABEL | PROTOCOL | BYTES`
 //! - properties.txt: `LABEL | PROTOCOL | PROPERTY | STEPS`
 //!
 //! ARITIES are those of the free functions, in decimal, free function 0 first; PROTOCOL, BYTES, PROPERTY and
 //! STEPS are bytes as `notation::bytes` reads them. Each may be empty. A case's number is its place among the
 //! cases of its file, from 1.
 
-use crate::calls::{drawn, fit_property, fit_protocol, ruled_graph, ruled_steps, Outcome};
+use crate::calls::{self, drawn, fit_property, fit_protocol, ruled_graph, ruled_steps, Outcome};
 use crate::canonical::canonical_form;
+use crate::generate::canonical::LONGEST_TERM;
 use crate::graph::Edge;
 use crate::judge::holds;
 use crate::notation;
@@ -22,6 +23,9 @@ use crate::protocol::Fact;
 use crate::refusal::Judged;
 use crate::steps::Node;
 use crate::term::{Prefix, Public, Signature, Term};
+
+/// A canonical form of more symbols is not told in words.
+const MOST_SHOWN: usize = 20;
 
 /// What is asked of the bytes.
 #[derive(Clone, Copy, Debug, PartialEq, Eq)]
@@ -33,6 +37,7 @@ pub enum Kind {
     Facts,
     Graph,
     Draw,
+    TermFile,
     Property,
 }
 
@@ -83,6 +88,11 @@ pub fn graphs_cases(text: &str) -> Vec<Case> {
 /// The cases of draws.txt.
 pub fn draws_cases(text: &str) -> Vec<Case> {
     under_protocols(Kind::Draw, text)
+}
+
+/// The cases of terms.txt.
+pub fn terms_cases(text: &str) -> Vec<Case> {
+    under_protocols(Kind::TermFile, text)
 }
 
 /// The cases of properties.txt.
@@ -165,6 +175,7 @@ impl Case {
                 format!("good {} {}", nodes.len(), edges.len())
             })),
             Kind::Draw => Ok(said(self.drawn_edges(), |drawn| drawn)),
+            Kind::TermFile => Ok(self.written()),
             Kind::Property => Ok(said(self.property(), |(property, nodes)| {
                 truth(&property, &nodes)
             })),
@@ -220,6 +231,31 @@ impl Case {
         Ok(format!("written {}{comma}{}", graph.len(), words.join(" ")))
     }
 
+    /// What the call canonical form answers, with as much output as it may need, and what it writes.
+    pub fn canonical_form(&self) -> (Outcome, Vec<u8>) {
+        let (mut output, mut work) = (vec![0; LONGEST_TERM], vec![0; calls::WORK_AREA]);
+        let outcome = calls::canonical_form(&self.under, &self.bytes, &mut output, &mut work);
+        if let Outcome::Written(length) = outcome {
+            output.truncate(length as usize);
+        }
+        (outcome, output)
+    }
+
+    /// The outcome of a term file, and the canonical form in words where it is short.
+    fn written(&self) -> String {
+        let (outcome, form) = self.canonical_form();
+        let Outcome::Written(_) = outcome else {
+            return outcome.to_string();
+        };
+        let protocol = fit_protocol(&self.under).expect("a fit protocol");
+        let prefix = Prefix::read(&mut Reader::new(&form), &protocol.signature);
+        let prefix = prefix.expect("a term");
+        match prefix.symbols() {
+            0..=MOST_SHOWN => format!("{outcome}, {}", notation::show(&prefix.tree())),
+            _ => outcome.to_string(),
+        }
+    }
+
     /// The files of a property and of a step list.
     pub fn property_and_steps(&self) -> (&[u8], &[u8]) {
         let (length, files) = self.bytes.split_at(2);
@@ -244,6 +280,7 @@ impl Case {
             Kind::Steps | Kind::Facts | Kind::Draw => 2,
             Kind::Graph => 3,
             Kind::Property => 4,
+            Kind::TermFile => panic!("no test program reads a term file"),
         }];
         for part in [&self.under, &self.bytes] {
             data.extend(with_length(part));

@@ -4,7 +4,7 @@ use reference::by_words;
 use reference::calls::{fit_protocol, ruled_graph};
 use reference::cases::{
     bytes_cases, data, draws_cases, facts, facts_cases, graphs_cases, message_cases,
-    properties_cases, steps_cases, trace, Case, Kind,
+    properties_cases, steps_cases, terms_cases, trace, Case, Kind,
 };
 use reference::earliest::is_earliest;
 use reference::generate::runs::{edges_by, latest};
@@ -20,6 +20,7 @@ const STEPS: &str = include_str!("../../../tests/cases/steps.txt");
 const FACTS: &str = include_str!("../../../tests/cases/facts.txt");
 const GRAPHS: &str = include_str!("../../../tests/cases/graphs.txt");
 const DRAWS: &str = include_str!("../../../tests/cases/draws.txt");
+const TERMS: &str = include_str!("../../../tests/cases/terms.txt");
 const PROPERTIES: &str = include_str!("../../../tests/cases/properties.txt");
 
 #[test]
@@ -51,7 +52,7 @@ fn a_number_is_its_label() {
             numbers += 1;
         }
     }
-    assert_eq!(numbers, 12);
+    assert_eq!(numbers, 18);
 }
 
 #[test]
@@ -63,13 +64,14 @@ fn a_term_that_is_said_to_be_cut_off_is_a_fault() {
     assert!(outcomes.iter().all(|outcome| outcome == "fault"));
 }
 
-/// The label of a step list, a graph, a drawn graph or a property is its outcome by document 01, a colon, and words.
+/// The label of a step list, a graph, a drawn graph, a term file or a property is its outcome by document 01, a colon, and words.
 #[test]
 fn nodes_and_properties_have_the_outcomes_of_their_labels() {
     let all = [
         (300, steps_cases(STEPS)),
         (300, graphs_cases(GRAPHS)),
         (50, draws_cases(DRAWS)),
+        (70, terms_cases(TERMS)),
         (300, properties_cases(PROPERTIES)),
     ];
     for (least, cases) in all {
