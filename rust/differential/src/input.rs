@@ -125,7 +125,8 @@ impl Input {
         let inputs = |name: &str, cases: fn(&str) -> Vec<Case>, inputs: fn(&Case) -> Vec<Input>| {
             cases(&text(name)).iter().flat_map(inputs).collect()
         };
-        let all: [Vec<Input>; 8] = [
+        let all: [Vec<Input>; 9] = [
+            inputs("checks.txt", cases::checks_cases, of_check),
             inputs("graphs.txt", cases::graphs_cases, of_graph),
             inputs("steps.txt", cases::steps_cases, of_steps),
             inputs("facts.txt", cases::facts_cases, of_steps),
@@ -239,6 +240,11 @@ impl Input {
     }
 }
 
+fn of_check(case: &Case) -> Vec<Input> {
+    let (property, graph) = case.property_and_nodes();
+    vec![Input::check([&case.under, property, graph], WORK_AREA)]
+}
+
 fn of_graph(case: &Case) -> Vec<Input> {
     vec![Input::check([&case.under, &[0], &case.bytes], WORK_AREA)]
 }
@@ -264,7 +270,7 @@ fn of_draw(case: &Case) -> Vec<Input> {
 
 /// The property of the graph that is drawn of the steps, or that they are without edges.
 fn of_property(case: &Case) -> Vec<Input> {
-    let (property, steps) = case.property_and_steps();
+    let (property, steps) = case.property_and_nodes();
     let graph = fit_protocol(&case.under).and_then(|protocol| drawn(&protocol, steps));
     let graph = graph.unwrap_or_else(|_| [steps, &[0]].concat());
     vec![Input::check([&case.under, property, &graph], WORK_AREA)]

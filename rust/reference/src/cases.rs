@@ -6,6 +6,7 @@
 //! - messages.txt: `LABEL | ARITIES | BYTES`
 //! - steps.txt, facts.txt, graphs.txt, draws.txt and terms.txt: `LABEL | PROTOCOL | BYTES`
 //! - properties.txt: `LABEL | PROTOCOL | PROPERTY | STEPS`
+//! - checks.txt: `LABEL | PROTOCOL | PROPERTY | GRAPH`
 //!
 //! ARITIES are those of the free functions, in decimal, free function 0 first; PROTOCOL, BYTES, PROPERTY and
 //! STEPS are bytes as `notation::bytes` reads them. Each may be empty. A case's number is its place among the
@@ -20,7 +21,7 @@ use crate::notation;
 use crate::number::{Read, Reader};
 use crate::property::Formula;
 use crate::protocol::Fact;
-use crate::refusal::Judged;
+use crate::refusal::{File, Judged};
 use crate::steps::Node;
 use crate::term::{Prefix, Public, Signature, Term};
 
@@ -39,6 +40,7 @@ pub enum Kind {
     Draw,
     TermFile,
     Property,
+    Check,
 }
 
 #[derive(Clone, Debug)]
@@ -47,7 +49,7 @@ pub struct Case {
     pub label: String,
     /// What the bytes are read under: the arity of each free function, or of nodes the protocol file.
     pub under: Vec<u8>,
-    /// Of a property: the length of its file, two bytes, low byte first; its file; the step list.
+    /// Of a property and of a check: the length of the property's file, two bytes, low byte first; that file; the step list or the graph.
     pub bytes: Vec<u8>,
 }
 
@@ -107,6 +109,13 @@ pub fn properties_cases(text: &str) -> Vec<Case> {
         _ => panic!("no case: {fields:?}"),
     };
     lines(text).map(|fields| case(&fields)).collect()
+}
+
+/// The cases of checks.txt.
+pub fn checks_cases(text: &str) -> Vec<Case> {
+    let mut cases = properties_cases(text);
+    cases.iter_mut().for_each(|case| case.kind = Kind::Check);
+    cases
 }
 
 /// A property over a step list, under a protocol.
@@ -176,6 +185,7 @@ impl Case {
             })),
             Kind::Draw => Ok(said(self.drawn_edges(), |drawn| drawn)),
             Kind::TermFile => Ok(self.written()),
+            Kind::Check => Ok(self.checked().to_string()),
             Kind::Property => Ok(said(self.property(), |(property, nodes)| {
                 truth(&property, &nodes)
             })),
@@ -214,7 +224,15 @@ impl Case {
 
     /// The graph that is drawn of a step list.
     pub fn drawn(&self) -> Judged<Vec<u8>> {
+        File::Protocol.within_limit(&self.under)?;
+        File::Steps.within_limit(&self.bytes)?;
         drawn(&fit_protocol(&self.under)?, &self.bytes)
+    }
+
+    /// What the call check answers.
+    pub fn checked(&self) -> Outcome {
+        let (property, graph) = self.property_and_nodes();
+        calls::check(&self.under, property, graph, &mut [0; calls::WORK_AREA])
     }
 
     /// Its length and its edges.
@@ -256,15 +274,15 @@ impl Case {
         }
     }
 
-    /// The files of a property and of a step list.
-    pub fn property_and_steps(&self) -> (&[u8], &[u8]) {
+    /// The files of a property and of a step list or a graph.
+    pub fn property_and_nodes(&self) -> (&[u8], &[u8]) {
         let (length, files) = self.bytes.split_at(2);
         files.split_at(usize::from(u16::from_le_bytes([length[0], length[1]])))
     }
 
     /// A property, and the nodes of a step list.
     pub fn property(&self) -> Judged<(Formula, Vec<Node>)> {
-        let (property, steps) = self.property_and_steps();
+        let (property, steps) = self.property_and_nodes();
         let protocol = fit_protocol(&self.under)?;
         let property = fit_property(property, &protocol)?;
         Ok((property, ruled_steps(&protocol, steps)?))
@@ -280,7 +298,7 @@ impl Case {
             Kind::Steps | Kind::Facts | Kind::Draw => 2,
             Kind::Graph => 3,
             Kind::Property => 4,
-            Kind::TermFile => panic!("no test program reads a term file"),
+            Kind::TermFile | Kind::Check => panic!("no test program makes this call"),
         }];
         for part in [&self.under, &self.bytes] {
             data.extend(with_length(part));

@@ -13,7 +13,6 @@ use reference::number::{least_of, Reader, LARGEST, LEAST_WIDE};
 use reference::protocol::Protocol;
 use reference::random::Random;
 use reference::refusal::{File, Refusal};
-use reference::steps::read_steps;
 use reference::term::{Fresh, Prefix, Public, Term, MUL};
 use std::collections::{BTreeMap, BTreeSet};
 
@@ -256,10 +255,8 @@ fn term_files_come_up_to_their_limit() {
 }
 
 /// The nodes of a well-formed list.
-fn steps_of(file: File, protocol: &[u8], bytes: &[u8]) -> Vec<Step> {
+fn steps_of(protocol: &[u8], bytes: &[u8]) -> Vec<Step> {
     let protocol = Protocol::read(protocol).expect("a protocol");
-    let mut reader = Reader::new(bytes);
-    read_steps(file, &mut reader, &protocol).expect("nodes");
     let mut reader = Reader::new(bytes);
     let count = reader.number().expect("a count");
     let step = |_| {
@@ -275,7 +272,7 @@ fn steps_of(file: File, protocol: &[u8], bytes: &[u8]) -> Vec<Step> {
     (0..count).map(step).collect()
 }
 
-/// A node's bytes, and what is asked of the names in its values.
+/// Whether a node of these rules has such a name in its values.
 fn has_name(steps: &[Step], rules: impl Fn(u32) -> bool, name: impl Fn(u32) -> bool) -> bool {
     let mut of_rules = steps.iter().filter(|step| rules(step.rule));
     of_rules.any(|step| {
@@ -295,31 +292,31 @@ fn runs_have_wide_names() {
     let mut random = Random::new(44);
     let mut counts: BTreeMap<&str, usize> = BTreeMap::new();
     for number in 0..INPUTS {
-        let (file, [protocol, bytes], outcome) = match number % 2 {
+        let ([protocol, bytes], outcome) = match number % 2 {
             0 => {
                 let input = check_input(&mut random);
                 let mut work = vec![0; input.work];
                 let outcome = check(&input.protocol, &input.property, &input.graph, &mut work);
-                (File::Graph, [input.protocol, input.graph], outcome)
+                ([input.protocol, input.graph], outcome)
             }
             _ => {
                 let input = draw_input(&mut random);
                 let (mut output, mut work) = (vec![0; input.output], vec![0; input.work]);
                 let outcome = draw(&input.protocol, &input.steps, &mut output, &mut work);
-                (File::Steps, [input.protocol, input.steps], outcome)
+                ([input.protocol, input.steps], outcome)
             }
         };
         let mut count = |what, holds: bool| *counts.entry(what).or_default() += usize::from(holds);
         let wide = |number| number >= LEAST_WIDE;
         match outcome {
             Outcome::Refused(Refusal { number: 9, item }) => {
-                let steps = steps_of(file, &protocol, &bytes);
+                let steps = steps_of(&protocol, &bytes);
                 let again = &steps[item as usize - 1..item as usize];
                 count("made twice", has_name(again, |_| true, wide));
             }
             Outcome::Refused(_) => {}
             _ => {
-                let steps = steps_of(file, &protocol, &bytes);
+                let steps = steps_of(&protocol, &bytes);
                 count("made", has_name(&steps, |rule| rule == 0, wide));
                 count("known", has_name(&steps, |rule| rule == 3, wide));
                 count(
