@@ -1,11 +1,14 @@
 /* The calls from C, by the header alone: document 01's first case of canonical form, a short output, a short work area, a recorded
-   variable that no premise has. */
+   variable that no premise has; numbers of four groups and of five, and the term file's limit. */
 #include "levtosziv.h"
 
 #include <stdio.h>
 #include <string.h>
 
 static uint8_t work[65536];
+
+/* h over h and so on, over a fresh name. */
+static uint8_t nested[LEVTOSZIV_TERM_BYTES + 1];
 
 static int asked;
 
@@ -26,7 +29,13 @@ int main(void)
     const uint8_t form[] = {10, 1, 0, 2, 1};
     /* Nothing --[ K(x) ]-> nothing, x a message. */
     const uint8_t unbound[] = {0, 0, 1, 1, 0, 0, 1, 3, 0, 0, 0};
-    uint8_t output[8];
+    const uint8_t largest[] = {1, 255, 255, 255, 127};
+    const uint8_t fifth_group[] = {1, 255, 255, 255, 255, 127};
+    const uint8_t not_shortest[] = {1, 128, 128, 128, 0};
+    /* Fresh names 129, 2,097,152 and 128, and as their bytes sort them. */
+    const uint8_t product[] = {12, 2, 129, 1, 12, 2, 128, 128, 128, 1, 2, 128, 1};
+    const uint8_t sorted[] = {12, 2, 128, 1, 12, 2, 128, 128, 128, 1, 2, 129, 1};
+    uint8_t output[16];
     int failed = 0;
 
     memset(output, 0xA5, sizeof output);
@@ -47,6 +56,26 @@ int main(void)
 
     answer = levtosziv_canonical(unbound, sizeof unbound, term, sizeof term, output, sizeof output, work, sizeof work);
     failed += fails("refused 4 1", answer == ((uint64_t)4 << 32 | 1));
+
+    answer = levtosziv_canonical(protocol, sizeof protocol, largest, sizeof largest, output, sizeof output, work, sizeof work);
+    failed += fails("the largest name", answer == ((uint64_t)3 << 56 | 5) && memcmp(output, largest, 5) == 0);
+    answer = levtosziv_canonical(protocol, sizeof protocol, fifth_group, sizeof fifth_group, output, sizeof output, work, sizeof work);
+    failed += fails("a fifth group", answer == ((uint64_t)3 << 32 | 4));
+    answer = levtosziv_canonical(protocol, sizeof protocol, not_shortest, sizeof not_shortest, output, sizeof output, work, sizeof work);
+    failed += fails("four groups that are not the shortest form", answer == ((uint64_t)3 << 32 | 4));
+    answer = levtosziv_canonical(protocol, sizeof protocol, product, sizeof product, output, sizeof output, work, sizeof work);
+    failed += fails("a product", answer == ((uint64_t)3 << 56 | sizeof sorted) && memcmp(output, sorted, sizeof sorted) == 0);
+
+    memset(nested, 6, sizeof nested);
+    nested[LEVTOSZIV_TERM_BYTES - 2] = 2;
+    nested[LEVTOSZIV_TERM_BYTES - 1] = 0;
+    answer = levtosziv_canonical(protocol, sizeof protocol, nested, LEVTOSZIV_TERM_BYTES, output, sizeof output, work, sizeof work);
+    failed += fails("a term file at its limit", answer == (uint64_t)8 << 32);
+    answer = levtosziv_canonical(protocol, sizeof protocol, nested, LEVTOSZIV_TERM_BYTES - 1, output, sizeof output, work, sizeof work);
+    failed += fails("one that is cut off", answer == ((uint64_t)3 << 32 | 4));
+    answer = levtosziv_canonical(protocol, sizeof protocol, nested, sizeof nested, output, sizeof output, work, sizeof work);
+    failed += fails("one above its limit", answer == ((uint64_t)2 << 32 | 4));
+    failed += fails("the limit", LEVTOSZIV_TERM_BYTES == 1280);
     printf("C, canonical form: %d of %d as document 01 says\n", asked - failed, asked);
     return failed != 0;
 }

@@ -1,5 +1,5 @@
 /* Checking from C, by the header alone: document 01's printed case, without its last edge, no nodes at all, a short work area, a recorded
-   variable that no premise has. */
+   variable that no premise has; numbers of four groups. */
 #include "levtosziv.h"
 
 #include <stdio.h>
@@ -26,6 +26,11 @@ int main(void)
     const uint8_t never[] = {0};
     /* Nothing --[ K(x) ]-> nothing, x a message. */
     const uint8_t unbound[] = {0, 0, 1, 1, 0, 0, 1, 3, 0, 0, 0};
+    /* A property's variable, a rule number and a target node of four groups, each right in its lower three; the largest name. */
+    const uint8_t wide_variable[] = {11, 2, 0, 3, 3, 0, 0, 1, 1, 0, 128, 128, 128, 1, 1, 0};
+    const uint8_t wide_rule[] = {1, 131, 128, 128, 1, 1, 0, 0};
+    const uint8_t wide_target[] = {2, 3, 1, 0, 2, 1, 0, 1, 1, 1, 130, 128, 128, 1, 1};
+    const uint8_t wide_name[] = {2, 3, 1, 255, 255, 255, 127, 2, 1, 255, 255, 255, 127, 1, 1, 1, 2, 1};
     int failed = 0;
 
     memset(work, 0x5A, sizeof work);
@@ -49,6 +54,15 @@ int main(void)
 
     answer = levtosziv_check(unbound, sizeof unbound, never, sizeof never, nothing, sizeof nothing, work, sizeof work);
     failed += fails("refused 4 1", answer == ((uint64_t)4 << 32 | 1));
+
+    answer = levtosziv_check(protocol, sizeof protocol, wide_variable, sizeof wide_variable, nothing, sizeof nothing, work, sizeof work);
+    failed += fails("refused 5 0", answer == (uint64_t)5 << 32);
+    answer = levtosziv_check(protocol, sizeof protocol, never, sizeof never, wide_rule, sizeof wide_rule, work, sizeof work);
+    failed += fails("refused 6 1", answer == ((uint64_t)6 << 32 | 1));
+    answer = levtosziv_check(protocol, sizeof protocol, never, sizeof never, wide_target, sizeof wide_target, work, sizeof work);
+    failed += fails("refused 10 1", answer == ((uint64_t)10 << 32 | 1));
+    answer = levtosziv_check(protocol, sizeof protocol, never, sizeof never, wide_name, sizeof wide_name, work, sizeof work);
+    failed += fails("attack 2 1 1", answer == ((uint64_t)1 << 56 | (uint64_t)2 << 32 | 1 << 16 | 1));
     printf("C, checking: %d of %d as document 01 says\n", asked - failed, asked);
     return failed != 0;
 }

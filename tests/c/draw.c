@@ -1,6 +1,7 @@
 /*
  * Drawing from C, by the header alone: the steps of document 01's printed case, whose graph is then checked; a short output, a step list that is
- * no run, a name made twice, a short work area, a recorded variable that no premise has; equal facts, of which the lowest are taken.
+ * no run, a name made twice, a short work area, a recorded variable that no premise has; equal facts, of which the lowest are taken; numbers
+ * of four groups.
  */
 #include "levtosziv.h"
 
@@ -34,6 +35,10 @@ int main(void)
     const uint8_t doubled[] = {0, 1, 0, 0, 2, 0, 0, 0, 2, 4, 4, 0, 2, 4, 4, 0, 0};
     const uint8_t equal_facts[] = {3, 31, 31, 32};
     const uint8_t earliest[] = {3, 31, 31, 32, 2, 1, 1, 3, 1, 1, 2, 3, 2};
+    /* The largest name twice; a rule number and a variable in a value of four groups. */
+    const uint8_t largest_twice[] = {2, 0, 2, 255, 255, 255, 127, 0, 2, 255, 255, 255, 127};
+    const uint8_t wide_rule[] = {1, 133, 128, 128, 1};
+    const uint8_t wide_variable[] = {1, 8, 0, 128, 128, 128, 1};
     uint8_t output[32], other[sizeof earliest];
     int failed = 0;
 
@@ -73,6 +78,13 @@ int main(void)
     failed += fails("another output", answer == ((uint64_t)3 << 56 | sizeof earliest) && memcmp(output, other, sizeof other) == 0);
     answer = levtosziv_draw(doubled, sizeof doubled, equal_facts, sizeof equal_facts, other, sizeof other - 1, work, sizeof work);
     failed += fails("the need", answer == ((uint64_t)15 << 32 | sizeof earliest));
+
+    answer = levtosziv_draw(protocol, sizeof protocol, largest_twice, sizeof largest_twice, output, sizeof output, work, sizeof work);
+    failed += fails("the largest name twice", answer == ((uint64_t)9 << 32 | 2));
+    answer = levtosziv_draw(protocol, sizeof protocol, wide_rule, sizeof wide_rule, output, sizeof output, work, sizeof work);
+    failed += fails("a rule number of four groups", answer == ((uint64_t)6 << 32 | 1));
+    answer = levtosziv_draw(protocol, sizeof protocol, wide_variable, sizeof wide_variable, output, sizeof output, work, sizeof work);
+    failed += fails("a variable of four groups in a value", answer == ((uint64_t)7 << 32 | 1));
     printf("C, drawing: %d of %d as document 01 says\n", asked - failed, asked);
     return failed != 0;
 }

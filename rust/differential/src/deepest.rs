@@ -3,9 +3,11 @@
 use crate::sized::{chain, nested, Files, CHAINS, GUARDS};
 use reference::calls::{self, Outcome, WORK_AREA};
 use reference::canonical::canonical_form;
+use reference::generate::canonical::LONGEST_TERM;
 use reference::generate::protocols::fact_of;
 use reference::generate::runs::{encoded, Step};
 use reference::graph::{write_edges, Edge};
+use reference::number::LEAST_WIDE;
 use reference::property::{Formula, Quantifier, Sort as PropertySort, MOST_NESTING};
 use reference::protocol::{Protocol, Rule, Sort, IN, K, MOST_RULE_SYMBOLS, OUT};
 use reference::refusal::File;
@@ -28,7 +30,8 @@ fn places() -> Vec<Place> {
         .collect()
 }
 
-/// Two functions in turn, each within the other, over a term and up to so many symbols; names stand in the other arguments.
+/// Two functions in turn, each within the other, over a term and up to so many symbols; names stand in the other arguments, every second one
+/// of as many groups as there may be.
 fn in_turn(places: [Place; 2], over: Term, symbols: usize) -> Term {
     let mut term = over;
     let mut size = term.symbols();
@@ -39,7 +42,8 @@ fn in_turn(places: [Place; 2], over: Term, symbols: usize) -> Term {
         }
         size += arity;
         let mut arguments: Vec<Term> = (0..arity)
-            .map(|argument| Term::Public(Public((size + argument) as u32 % 100)))
+            .map(|argument| (size + argument) as u32 % 100)
+            .map(|number| Term::Public(Public(number + number % 2 * LEAST_WIDE)))
             .collect();
         arguments[place] = term;
         term = Term::Apply(tag, arguments);
@@ -115,14 +119,14 @@ impl Cases {
 
     fn canonical(&mut self, term: &Term) {
         let protocol = protocol(vec![]).encoded();
-        let (mut output, mut work) = (vec![0; 1_024], vec![0; WORK_AREA]);
+        let (mut output, mut work) = (vec![0; LONGEST_TERM], vec![0; WORK_AREA]);
         let term = term.encoded();
         let outcome = calls::canonical_form(&protocol, &term, &mut output, &mut work);
         let Outcome::Written(length) = outcome else {
             panic!("{outcome}: {term:02X?}")
         };
         let written = &output[..length as usize];
-        self.add(2, 1_024, &[&protocol, &term], outcome, written);
+        self.add(2, LONGEST_TERM, &[&protocol, &term], outcome, written);
     }
 }
 

@@ -3,13 +3,15 @@
 use crate::{outcome, ruled, Lent};
 // The implementation beside the archive; tests/mutants puts a wrong one in its place.
 use reference::calls as engine;
-use reference::calls::{Outcome, WORK_AREA};
-use reference::cases::{self, hexadecimal};
+use reference::calls::{drawn, fit_protocol, Outcome, WORK_AREA};
+use reference::cases::{self, hexadecimal, Case, Kind};
 use reference::corpus;
 use reference::cost;
-use reference::generate::{canonical, graphs};
+use reference::generate::canonical::{self, LONGEST_TERM};
+use reference::generate::graphs;
 use reference::random::Random;
 use reference::refusal::File;
+use reference::term::PUBLIC;
 use std::panic::{catch_unwind, AssertUnwindSafe};
 
 #[derive(Clone, Copy, Debug, PartialEq, Eq)]
@@ -113,36 +115,28 @@ impl Input {
                 work: case.work,
             }
         });
+        corpus.chain(Input::by_hand()).collect()
+    }
+
+    /// The cases by hand, each to the calls that read its file.
+    pub fn by_hand() -> Vec<Input> {
         let root = concat!(env!("CARGO_MANIFEST_DIR"), "/../../tests/cases/");
         let text = |name: &str| std::fs::read_to_string(format!("{root}{name}")).expect("cases");
-        let graphs = cases::graphs_cases(&text("graphs.txt"));
-        let graphs = graphs
-            .iter()
-            .map(|case| Input::check([&case.under, &[0], &case.bytes], WORK_AREA));
-        // A step list is drawn, and is a graph without edges.
-        let lists = cases::steps_cases(&text("steps.txt"));
-        let steps = lists.iter().flat_map(|case| {
-            let graph = [&case.bytes[..], &[0]].concat();
-            let files = [&case.under[..], &case.bytes];
-            [
-                Input::check([&case.under, &[0], &graph], WORK_AREA),
-                Input::writing(Call::Draw, files, File::Graph.limit(), WORK_AREA),
-            ]
-        });
-        // Drawn into an output that is long enough, and into the longest that is not.
-        let draws = cases::draws_cases(&text("draws.txt"));
-        let draws = draws.iter().flat_map(|case| {
-            let need = case.drawn().map_or(1, |graph| graph.len());
-            let files = [&case.under[..], &case.bytes];
-            [need, need - 1].map(|output| Input::writing(Call::Draw, files, output, WORK_AREA))
-        });
-        let messages = cases::message_cases(&text("messages.txt"));
-        let messages = messages.iter().map(|case| {
-            let protocol = [&[case.under.len() as u8], &case.under[..], &[0, 0]].concat();
-            Input::writing(Call::Canonical, [&protocol, &case.bytes], 1_024, WORK_AREA)
-        });
-        let nodes = graphs.chain(steps).chain(draws);
-        corpus.chain(nodes).chain(messages).collect()
+        let inputs = |name: &str, cases: fn(&str) -> Vec<Case>, inputs: fn(&Case) -> Vec<Input>| {
+            cases(&text(name)).iter().flat_map(inputs).collect()
+        };
+        let all: [Vec<Input>; 9] = [
+            inputs("checks.txt", cases::checks_cases, of_check),
+            inputs("graphs.txt", cases::graphs_cases, of_graph),
+            inputs("steps.txt", cases::steps_cases, of_steps),
+            inputs("facts.txt", cases::facts_cases, of_steps),
+            inputs("draws.txt", cases::draws_cases, of_draw),
+            inputs("properties.txt", cases::properties_cases, of_property),
+            inputs("messages.txt", cases::message_cases, of_bytes),
+            inputs("bytes.txt", cases::bytes_cases, of_bytes),
+            inputs("terms.txt", cases::terms_cases, of_term_file),
+        ];
+        all.concat()
     }
 
     /// Whether judging the property may take much longer than a second.
@@ -244,6 +238,72 @@ impl Input {
         let lent = format!("work area {}, output {}", self.work, self.output);
         format!("{}\n{lent}", files.join(";\n"))
     }
+}
+
+fn of_check(case: &Case) -> Vec<Input> {
+    let (property, graph) = case.property_and_nodes();
+    vec![Input::check([&case.under, property, graph], WORK_AREA)]
+}
+
+fn of_graph(case: &Case) -> Vec<Input> {
+    vec![Input::check([&case.under, &[0], &case.bytes], WORK_AREA)]
+}
+
+/// A step list is drawn, and is a graph without edges.
+fn of_steps(case: &Case) -> Vec<Input> {
+    let graph = [&case.bytes[..], &[0]].concat();
+    let files = [&case.under[..], &case.bytes];
+    vec![
+        Input::check([&case.under, &[0], &graph], WORK_AREA),
+        Input::writing(Call::Draw, files, File::Graph.limit(), WORK_AREA),
+    ]
+}
+
+/// Drawn into an output that is long enough, and into the longest that is not.
+fn of_draw(case: &Case) -> Vec<Input> {
+    let need = case.drawn().map_or(1, |graph| graph.len());
+    let files = [&case.under[..], &case.bytes];
+    [need, need - 1]
+        .map(|output| Input::writing(Call::Draw, files, output, WORK_AREA))
+        .to_vec()
+}
+
+/// The property of the graph that is drawn of the steps, or that they are without edges.
+fn of_property(case: &Case) -> Vec<Input> {
+    let (property, steps) = case.property_and_nodes();
+    let graph = fit_protocol(&case.under).and_then(|protocol| drawn(&protocol, steps));
+    let graph = graph.unwrap_or_else(|_| [steps, &[0]].concat());
+    vec![Input::check([&case.under, property, &graph], WORK_AREA)]
+}
+
+/// A term as a term file, and a number as that of a public name in one.
+fn of_bytes(case: &Case) -> Vec<Input> {
+    let arities = &case.under;
+    let protocol = [&[arities.len() as u8], &arities[..], &[0, 0]].concat();
+    let tag: &[u8] = match case.kind {
+        Kind::Number => &[PUBLIC as u8],
+        _ => &[],
+    };
+    let term = [tag, &case.bytes].concat();
+    let files = [&protocol[..], &term];
+    vec![Input::writing(
+        Call::Canonical,
+        files,
+        LONGEST_TERM,
+        WORK_AREA,
+    )]
+}
+
+/// Written into an output that is long enough, and into the longest that is not.
+fn of_term_file(case: &Case) -> Vec<Input> {
+    let need = match case.canonical_form() {
+        (Outcome::Written(length), _) => length as usize,
+        _ => 1,
+    };
+    let files = [&case.under[..], &case.bytes];
+    [need, need - 1]
+        .map(|output| Input::writing(Call::Canonical, files, output, WORK_AREA))
+        .to_vec()
 }
 
 fn answer(line: String, output: &mut Lent, work: &mut Lent) -> Answer {

@@ -1,7 +1,7 @@
 //! Graphs, terms and properties of a given size, whose cost is measured.
 
 use reference::generate::protocols::fact_of;
-use reference::generate::runs::{encoded, run, some_edges, Step};
+use reference::generate::runs::{encoded, run_from, some_edges, Step};
 use reference::graph::{write_edges, Edge};
 use reference::property::{Formula, Quantifier, Sort as PropertySort};
 use reference::protocol::{Fact, FactSymbol, Protocol, Rule, Sort, IN, K};
@@ -184,7 +184,8 @@ pub fn deductions(nodes: usize) -> Files {
         own: vec![],
         rules: vec![],
     };
-    let run = run(&mut random, &protocol, nodes);
+    let first_name = 64 * random.below(3) as u32;
+    let run = run_from(&mut random, &protocol, first_name, nodes);
     let edges = some_edges(&mut random, &protocol, &run.nodes);
     files(&protocol, &Formula::False, &run.steps, &edges)
 }

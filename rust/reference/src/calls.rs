@@ -178,7 +178,7 @@ fn term_of_file(protocol: &Protocol, bytes: &[u8]) -> Judged<Term> {
     Ok(prefix.tree())
 }
 
-/// "Term (1,024 bytes): one term without variables".
+/// "one term without variables"
 fn read_term_file(protocol: &Protocol, bytes: &[u8]) -> Read<Prefix> {
     let mut reader = Reader::new(bytes);
     let prefix = Prefix::read(&mut reader, &protocol.signature)?;

@@ -150,6 +150,9 @@ mod tests {
         assert_eq!(form("mul(n129,n256)"), "mul(n256,n129)");
         assert_eq!(form("mul(n128,n127)"), "mul(n127,n128)");
         assert_eq!(form("inv(mul(p129,p256))"), "inv(mul(p256,p129))");
+        let sorted = "mul(n128,mul(n2097152,n129))";
+        assert_eq!(form("mul(n128,mul(n129,n2097152))"), sorted);
+        assert_eq!(form("mul(n2097152,mul(n129,n128))"), sorted);
     }
 
     #[test]

@@ -4,24 +4,29 @@
 //!
 //! - bytes.txt: `number | LABEL | BYTES` and `term | LABEL | ARITIES | BYTES`
 //! - messages.txt: `LABEL | ARITIES | BYTES`
-//! - steps.txt, facts.txt, graphs.txt and draws.txt: `LABEL | PROTOCOL | BYTES`
+//! - steps.txt, facts.txt, graphs.txt, draws.txt and terms.txt: `LABEL | PROTOCOL | BYTES`
 //! - properties.txt: `LABEL | PROTOCOL | PROPERTY | STEPS`
+//! - checks.txt: `LABEL | PROTOCOL | PROPERTY | GRAPH`
 //!
 //! ARITIES are those of the free functions, in decimal, free function 0 first; PROTOCOL, BYTES, PROPERTY and
 //! STEPS are bytes as `notation::bytes` reads them. Each may be empty. A case's number is its place among the
 //! cases of its file, from 1.
 
-use crate::calls::{drawn, fit_property, fit_protocol, ruled_graph, ruled_steps, Outcome};
+use crate::calls::{self, drawn, fit_property, fit_protocol, ruled_graph, ruled_steps, Outcome};
 use crate::canonical::canonical_form;
+use crate::generate::canonical::LONGEST_TERM;
 use crate::graph::Edge;
 use crate::judge::holds;
 use crate::notation;
 use crate::number::{Read, Reader};
 use crate::property::Formula;
 use crate::protocol::Fact;
-use crate::refusal::Judged;
+use crate::refusal::{File, Judged};
 use crate::steps::Node;
 use crate::term::{Prefix, Public, Signature, Term};
+
+/// A canonical form of more symbols is not told in words.
+const MOST_SHOWN: usize = 20;
 
 /// What is asked of the bytes.
 #[derive(Clone, Copy, Debug, PartialEq, Eq)]
@@ -33,7 +38,9 @@ pub enum Kind {
     Facts,
     Graph,
     Draw,
+    TermFile,
     Property,
+    Check,
 }
 
 #[derive(Clone, Debug)]
@@ -42,7 +49,7 @@ pub struct Case {
     pub label: String,
     /// What the bytes are read under: the arity of each free function, or of nodes the protocol file.
     pub under: Vec<u8>,
-    /// Of a property: the length of its file, two bytes, low byte first; its file; the step list.
+    /// Of a property and of a check: the length of the property's file, two bytes, low byte first; that file; the step list or the graph.
     pub bytes: Vec<u8>,
 }
 
@@ -85,6 +92,11 @@ pub fn draws_cases(text: &str) -> Vec<Case> {
     under_protocols(Kind::Draw, text)
 }
 
+/// The cases of terms.txt.
+pub fn terms_cases(text: &str) -> Vec<Case> {
+    under_protocols(Kind::TermFile, text)
+}
+
 /// The cases of properties.txt.
 pub fn properties_cases(text: &str) -> Vec<Case> {
     let case = |fields: &[&str]| match fields {
@@ -97,6 +109,13 @@ pub fn properties_cases(text: &str) -> Vec<Case> {
         _ => panic!("no case: {fields:?}"),
     };
     lines(text).map(|fields| case(&fields)).collect()
+}
+
+/// The cases of checks.txt.
+pub fn checks_cases(text: &str) -> Vec<Case> {
+    let mut cases = properties_cases(text);
+    cases.iter_mut().for_each(|case| case.kind = Kind::Check);
+    cases
 }
 
 /// A property over a step list, under a protocol.
@@ -165,6 +184,8 @@ impl Case {
                 format!("good {} {}", nodes.len(), edges.len())
             })),
             Kind::Draw => Ok(said(self.drawn_edges(), |drawn| drawn)),
+            Kind::TermFile => Ok(self.written()),
+            Kind::Check => Ok(self.checked().to_string()),
             Kind::Property => Ok(said(self.property(), |(property, nodes)| {
                 truth(&property, &nodes)
             })),
@@ -203,7 +224,15 @@ impl Case {
 
     /// The graph that is drawn of a step list.
     pub fn drawn(&self) -> Judged<Vec<u8>> {
+        File::Protocol.within_limit(&self.under)?;
+        File::Steps.within_limit(&self.bytes)?;
         drawn(&fit_protocol(&self.under)?, &self.bytes)
+    }
+
+    /// What the call check answers.
+    pub fn checked(&self) -> Outcome {
+        let (property, graph) = self.property_and_nodes();
+        calls::check(&self.under, property, graph, &mut [0; calls::WORK_AREA])
     }
 
     /// Its length and its edges.
@@ -220,15 +249,40 @@ impl Case {
         Ok(format!("written {}{comma}{}", graph.len(), words.join(" ")))
     }
 
-    /// The files of a property and of a step list.
-    pub fn property_and_steps(&self) -> (&[u8], &[u8]) {
+    /// What the call canonical form answers, with as much output as it may need, and what it writes.
+    pub fn canonical_form(&self) -> (Outcome, Vec<u8>) {
+        let (mut output, mut work) = (vec![0; LONGEST_TERM], vec![0; calls::WORK_AREA]);
+        let outcome = calls::canonical_form(&self.under, &self.bytes, &mut output, &mut work);
+        if let Outcome::Written(length) = outcome {
+            output.truncate(length as usize);
+        }
+        (outcome, output)
+    }
+
+    /// The outcome of a term file, and the canonical form in words where it is short.
+    fn written(&self) -> String {
+        let (outcome, form) = self.canonical_form();
+        let Outcome::Written(_) = outcome else {
+            return outcome.to_string();
+        };
+        let protocol = fit_protocol(&self.under).expect("a fit protocol");
+        let prefix = Prefix::read(&mut Reader::new(&form), &protocol.signature);
+        let prefix = prefix.expect("a term");
+        match prefix.symbols() {
+            0..=MOST_SHOWN => format!("{outcome}, {}", notation::show(&prefix.tree())),
+            _ => outcome.to_string(),
+        }
+    }
+
+    /// The files of a property and of a step list or a graph.
+    pub fn property_and_nodes(&self) -> (&[u8], &[u8]) {
         let (length, files) = self.bytes.split_at(2);
         files.split_at(usize::from(u16::from_le_bytes([length[0], length[1]])))
     }
 
     /// A property, and the nodes of a step list.
     pub fn property(&self) -> Judged<(Formula, Vec<Node>)> {
-        let (property, steps) = self.property_and_steps();
+        let (property, steps) = self.property_and_nodes();
         let protocol = fit_protocol(&self.under)?;
         let property = fit_property(property, &protocol)?;
         Ok((property, ruled_steps(&protocol, steps)?))
@@ -244,6 +298,7 @@ impl Case {
             Kind::Steps | Kind::Facts | Kind::Draw => 2,
             Kind::Graph => 3,
             Kind::Property => 4,
+            Kind::TermFile | Kind::Check => panic!("no test program makes this call"),
         }];
         for part in [&self.under, &self.bytes] {
             data.extend(with_length(part));

@@ -21,6 +21,9 @@ pub mod properties;
 /// Faults in nodes, edges and properties.
 pub mod faults;
 
+/// Numbers of a file written in too many groups, or in as many as there may be.
+pub mod numbers;
+
 /// Damage to a file's bytes.
 pub mod damage;
 

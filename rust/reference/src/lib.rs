@@ -1,10 +1,13 @@
-//! Document 01 once more, written for reading and not for speed: trees, vectors and maps.
+//! Document 01, with document 02's Changes 1 to 3, once more, written for reading and not for speed: trees, vectors and maps.
 //!
 //! It is the other implementation beside which the proved one is tested, and shares no code with it.
 //! A comment in quotation marks gives the first words of the sentence of document 01 that the code
 //! stands for.
 
 // Messages.
+
+/// How many groups a number may have, and a term file's limit.
+pub mod figures;
 
 /// Numbers in groups of seven bits, and a reader over a file's bytes.
 pub mod number;

@@ -1,10 +1,17 @@
 //! "A number is written in groups of seven bits, lowest first".
 
-/// "three groups at most (2,097,151)".
-pub const MOST_GROUPS: usize = 3;
+use crate::figures::MOST_GROUPS;
 
 /// The largest number that a file can hold.
 pub const LARGEST: u32 = (1 << (7 * MOST_GROUPS)) - 1;
+
+/// The least number of so many groups; 1 for one group.
+pub const fn least_of(groups: usize) -> u32 {
+    1 << (7 * (groups - 1))
+}
+
+/// The least number of as many groups as there may be.
+pub const LEAST_WIDE: u32 = least_of(MOST_GROUPS);
 
 /// A fault of layout: cause 3, whichever it is.
 #[derive(Clone, Copy, Debug, PartialEq, Eq)]
@@ -109,11 +116,29 @@ mod tests {
     }
 
     #[test]
-    fn the_largest_number_and_the_fourth_group() {
-        assert_eq!(LARGEST, 2_097_151);
-        assert_eq!(read(&[0xFF, 0xFF, 0x7F]), Ok((LARGEST, 3)));
-        assert_eq!(read(&[0xFF, 0xFF, 0xFF, 0x7F]), Err(Fault));
-        assert_eq!(read(&[0x80, 0x80, 0x80]), Err(Fault));
+    fn the_largest_number_and_the_fifth_group() {
+        assert_eq!(LARGEST, 268_435_455);
+        assert_eq!(read(&[0xFF, 0xFF, 0xFF, 0x7F]), Ok((LARGEST, 4)));
+        assert_eq!(read(&[0xFF, 0xFF, 0xFF, 0xFF, 0x7F]), Err(Fault));
+        assert_eq!(read(&[0x80, 0x80, 0x80, 0x80, 0x01]), Err(Fault));
+        assert_eq!(read(&[0x80, 0x80, 0x80, 0x80, 0x00]), Err(Fault));
+    }
+
+    #[test]
+    fn the_least_number_of_four_groups() {
+        assert_eq!(LEAST_WIDE, 2_097_152);
+        assert_eq!(read(&[0x80, 0x80, 0x80, 0x01]), Ok((LEAST_WIDE, 4)));
+        assert_eq!(read(&[0xFF, 0xFF, 0x7F]), Ok((LEAST_WIDE - 1, 3)));
+        assert_eq!(read(&[0xFF, 0xFF, 0xFF, 0x00]), Err(Fault));
+        assert_eq!(read(&[0x80, 0x80, 0x80, 0x00]), Err(Fault));
+    }
+
+    #[test]
+    fn numbers_that_are_cut_off() {
+        for length in 0..4 {
+            assert_eq!(read(&[0x80; 4][..length]), Err(Fault));
+            assert_eq!(read(&[0xFF; 4][..length]), Err(Fault));
+        }
     }
 
     #[test]
@@ -130,13 +155,27 @@ mod tests {
         }
     }
 
+    /// The third and the fourth of four bytes.
+    const LAST_GROUPS: [[u8; 2]; 10] = [
+        [0x00, 0x00],
+        [0x01, 0x00],
+        [0x7F, 0x00],
+        [0x80, 0x00],
+        [0xFF, 0x00],
+        [0x80, 0x01],
+        [0xFF, 0x01],
+        [0x80, 0x7F],
+        [0xFF, 0x7F],
+        [0xFF, 0x80],
+    ];
+
     #[test]
     fn what_reads_is_what_would_be_written() {
         let mut good = 0;
         for first in 0..=255 {
             for second in 0..=255 {
-                for third in [0, 1, 0x7F, 0x80, 0xFF] {
-                    let bytes = [first, second, third];
+                for [third, fourth] in LAST_GROUPS {
+                    let bytes = [first, second, third, fourth];
                     if let Ok((number, end)) = read(&bytes) {
                         let mut again = Vec::new();
                         write(number, &mut again);
@@ -146,6 +185,6 @@ mod tests {
                 }
             }
         }
-        assert!(good > 10_000);
+        assert!(good > 100_000);
     }
 }

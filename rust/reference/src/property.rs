@@ -130,7 +130,7 @@ impl FormulaReader<'_, '_> {
 }
 
 impl Formula {
-    fn tag(&self) -> u32 {
+    pub fn tag(&self) -> u32 {
         match self {
             Formula::False => 0,
             Formula::Equal(..) => 1,

@@ -1,5 +1,6 @@
 //! The refusal table's rows and items.
 
+use crate::figures::TERM_BYTES;
 use crate::number::Read;
 
 /// "An item is 1 protocol, 2 property, 3 graph, 4 term, 5 steps where "file" stands."
@@ -19,7 +20,7 @@ impl File {
             File::Protocol => 4_096,
             File::Property => 1_024,
             File::Graph => 61_440,
-            File::Term => 1_024,
+            File::Term => TERM_BYTES,
             File::Steps => 32_768,
         }
     }

@@ -3,8 +3,8 @@
 use reference::by_words;
 use reference::calls::{fit_protocol, ruled_graph};
 use reference::cases::{
-    bytes_cases, data, draws_cases, facts, facts_cases, graphs_cases, message_cases,
-    properties_cases, steps_cases, trace, Case, Kind,
+    bytes_cases, checks_cases, data, draws_cases, facts, facts_cases, graphs_cases, message_cases,
+    properties_cases, steps_cases, terms_cases, trace, Case, Kind,
 };
 use reference::earliest::is_earliest;
 use reference::generate::runs::{edges_by, latest};
@@ -20,6 +20,8 @@ const STEPS: &str = include_str!("../../../tests/cases/steps.txt");
 const FACTS: &str = include_str!("../../../tests/cases/facts.txt");
 const GRAPHS: &str = include_str!("../../../tests/cases/graphs.txt");
 const DRAWS: &str = include_str!("../../../tests/cases/draws.txt");
+const CHECKS: &str = include_str!("../../../tests/cases/checks.txt");
+const TERMS: &str = include_str!("../../../tests/cases/terms.txt");
 const PROPERTIES: &str = include_str!("../../../tests/cases/properties.txt");
 
 #[test]
@@ -51,7 +53,7 @@ fn a_number_is_its_label() {
             numbers += 1;
         }
     }
-    assert_eq!(numbers, 12);
+    assert_eq!(numbers, 18);
 }
 
 #[test]
@@ -63,13 +65,15 @@ fn a_term_that_is_said_to_be_cut_off_is_a_fault() {
     assert!(outcomes.iter().all(|outcome| outcome == "fault"));
 }
 
-/// The label of a step list, a graph, a drawn graph or a property is its outcome by document 01, a colon, and words.
+/// The label of a step list, a graph, a drawn graph, a term file, a property or a check is its outcome by document 01, a colon, and words.
 #[test]
 fn nodes_and_properties_have_the_outcomes_of_their_labels() {
     let all = [
         (300, steps_cases(STEPS)),
         (300, graphs_cases(GRAPHS)),
         (50, draws_cases(DRAWS)),
+        (70, terms_cases(TERMS)),
+        (35, checks_cases(CHECKS)),
         (300, properties_cases(PROPERTIES)),
     ];
     for (least, cases) in all {
@@ -245,7 +249,7 @@ fn the_properties_fit_their_program() {
     assert!(data(&cases).len() <= 65_536);
     let mut longest = 0;
     for case in &cases {
-        let (property, steps) = case.property_and_steps();
+        let (property, steps) = case.property_and_nodes();
         assert_eq!(File::Protocol.within_limit(&case.under), Ok(()));
         assert_eq!(File::Property.within_limit(property), Ok(()));
         assert_eq!(File::Steps.within_limit(steps), Ok(()));

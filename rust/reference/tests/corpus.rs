@@ -72,7 +72,7 @@ fn drawn_graphs_have_the_earliest_sources() {
         choices += usize::from(edges_by(&protocol, &nodes, latest) != Some(edges));
         drawn += 1;
     }
-    assert_eq!((drawn, choices), (77, 25));
+    assert_eq!((drawn, choices), (91, 25));
 }
 
 /// The line for the three files of a folder, or for its steps where it has no graph.

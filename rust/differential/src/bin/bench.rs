@@ -9,6 +9,7 @@ use differential::sized::{
 use levtosziv::{Refusal, Ruling};
 use reference::calls::{Outcome, WORK_AREA};
 use reference::corpus::cases;
+use reference::generate::canonical::LONGEST_TERM;
 use reference::refusal::File;
 use std::cell::RefCell;
 use std::hint::black_box;
@@ -186,7 +187,7 @@ impl Bench {
     fn canonical_forms(&self) {
         self.header("canonical form");
         let protocol = [0, 0, 0];
-        let [mut output, mut their_output] = [(); 2].map(|()| vec![0; 1_024]);
+        let [mut output, mut their_output] = [(); 2].map(|()| vec![0; LONGEST_TERM]);
         let [mut work, mut their_work] = [(); 2].map(|()| vec![0; WORK_AREA]);
         for shape in TERMS {
             for names in [16, 32, 64, 128] {

@@ -2,6 +2,7 @@
 //!
 //!     fuzz MINUTES [--cores N] [--seed N]      as long as that
 //!     fuzz --inputs N [--cores N] [--seed N]   so many inputs
+//!     fuzz --hand                              the cases by hand alone
 //!     fuzz --as-found ..                       the input as it was found, and not the smallest one
 //!     fuzz --call check|draw|canonical ..      inputs of that call alone
 //!
@@ -24,6 +25,7 @@ struct Plan {
     cores: usize,
     seed: u64,
     call: Option<Call>,
+    by_hand: bool,
     as_found: bool,
 }
 
@@ -43,6 +45,7 @@ fn plan() -> Option<Plan> {
         cores: 2,
         seed: 1,
         call: None,
+        by_hand: false,
         as_found: false,
     };
     let words: Vec<String> = std::env::args().skip(1).collect();
@@ -55,10 +58,11 @@ fn plan() -> Option<Plan> {
             "--cores" => plan.cores = figure()? as usize,
             "--seed" => plan.seed = figure()?,
             "--call" => plan.call = Some(call(words.next()?)?),
+            "--hand" => (plan.by_hand, plan.inputs) = (true, 0),
             "--as-found" => plan.as_found = true,
             minutes => plan.time = Duration::from_secs_f64(60.0 * minutes.parse::<f64>().ok()?),
         }
-        let bound = !word.starts_with("--") || word == "--inputs";
+        let bound = !word.starts_with("--") || word == "--inputs" || word == "--hand";
         bounded = bounded || bound;
     }
     bounded.then_some(plan)
@@ -145,7 +149,11 @@ fn main() {
         shares: Mutex::new(Shares::default()),
     };
     let wanted = |input: &Input| state.plan.call.is_none_or(|call| call == input.call);
-    for input in Input::cases().into_iter().filter(wanted) {
+    let cases = match state.plan.by_hand {
+        true => Input::by_hand(),
+        false => Input::cases(),
+    };
+    for input in cases.into_iter().filter(wanted) {
         let mut shares = state.shares.lock().expect("shares");
         state.run(input, &mut shares);
     }

@@ -1,15 +1,24 @@
 //! Inputs of the call canonical form.
 
-use super::damage::{damage, overfill};
+use super::damage::{damage_file, overfill};
+use super::faults::wide;
+use super::numbers;
 use super::protocols::{break_condition, fit, stretch};
 use super::terms::Material;
 use crate::calls::WORK_AREA;
 use crate::canonical::canonical_form;
+use crate::figures::MOST_GROUPS;
 use crate::protocol::Protocol;
 use crate::random::Random;
 use crate::refusal::File;
 use crate::steps::MOST_FILLED_IN_SYMBOLS;
-use crate::term::Term;
+use crate::term::{Fresh, Public, Term, FREE, H};
+
+/// The longest that 256 symbols can be: 192 names of as many groups as there may be, each with its tag, and 64 functions, one of arity 3
+/// and the others of arity 4.
+pub const LONGEST_TERM: usize = LEAVES * (1 + MOST_GROUPS) + FUNCTIONS;
+const LEAVES: usize = 192;
+const FUNCTIONS: usize = 64;
 
 /// What the call is given: two files, and the lengths of the lent slices.
 #[derive(Clone, Debug, PartialEq, Eq)]
@@ -23,7 +32,10 @@ pub struct Input {
 /// About half of the inputs have no fault.
 pub fn input(random: &mut Random) -> Input {
     let mut protocol = fit(random);
-    let term = ground_term(random, &protocol);
+    let term = match random.below(50) {
+        0 => longest_term(random, &mut protocol),
+        _ => ground_term(random, &protocol),
+    };
     let need = canonical_form(&term).encoded().len();
     let mut input = Input {
         protocol: Vec::new(),
@@ -42,20 +54,30 @@ pub fn input(random: &mut Random) -> Input {
     }
     input.protocol = protocol.encoded();
     for fault in &faults {
-        spoil(random, &protocol, &mut input, *fault, need);
+        spoil(random, (&protocol, &term), &mut input, *fault, need);
     }
     input
 }
 
 /// The faults of bytes and lengths; the smaller numbers are faults of the protocol's rules.
-fn spoil(random: &mut Random, protocol: &Protocol, input: &mut Input, fault: usize, need: usize) {
+fn spoil(
+    random: &mut Random,
+    (protocol, term): (&Protocol, &Term),
+    input: &mut Input,
+    fault: usize,
+    need: usize,
+) {
     match fault {
         0..40 => {}
         40..46 => input.work = *random.choose(&[0, 1, 1_024, WORK_AREA - 1]),
-        46..52 => overfill(random, &mut input.protocol, File::Protocol.limit()),
-        52..58 => overfill(random, &mut input.term, File::Term.limit()),
-        58..68 => damage(random, &mut input.protocol),
-        68..78 => damage(random, &mut input.term),
+        46..51 => overfill(random, &mut input.protocol, File::Protocol.limit()),
+        51..55 => overfill(random, &mut input.term, File::Term.limit()),
+        55..60 => input.term = long_file(random, term),
+        60..69 => {
+            let numbers = numbers::of_protocol(protocol);
+            damage_file(random, &mut input.protocol, &numbers);
+        }
+        69..78 => damage_file(random, &mut input.term, &numbers::of_term(term)),
         78..82 => input.term = with_variable(random, protocol),
         82..90 => input.term = large_term(random, protocol),
         _ => input.output = random.below(need),
@@ -71,6 +93,46 @@ fn ground_term(random: &mut Random, protocol: &Protocol) -> Term {
     };
     let products = random.percent(60);
     material(protocol, 0, products).term(random, symbols)
+}
+
+/// As many bytes as 256 symbols can have, all names wide. The protocol gets the functions for it.
+fn longest_term(random: &mut Random, protocol: &mut Protocol) -> Term {
+    let free = &mut protocol.signature.free;
+    let tag = FREE + free.len() as u32;
+    free.extend([4, 3]);
+    let name = |random: &mut Random| {
+        let number = random.below(4) as u32;
+        let number = wide(random, number);
+        match random.below(2) {
+            0 => Term::Fresh(Fresh(number)),
+            _ => Term::Public(Public(number)),
+        }
+    };
+    let mut names = |count| (0..count).map(|_| name(random)).collect::<Vec<Term>>();
+    let innermost = Term::apply(tag + 1, names(3));
+    (1..FUNCTIONS).fold(innermost, |inner, place| {
+        let mut arguments = names(3);
+        arguments.insert(place % 4, inner);
+        Term::apply(tag, arguments)
+    })
+}
+
+/// The term below as many h as make its file as long as 256 symbols can be, or longer; whole, cut off, or with a byte left over.
+fn long_file(random: &mut Random, term: &Term) -> Vec<u8> {
+    let limit = File::Term.limit();
+    let between = LONGEST_TERM + random.below(limit - LONGEST_TERM);
+    let ends = [LONGEST_TERM, LONGEST_TERM + 1, limit - 1, limit, limit + 1];
+    let length = *random.choose(&[&ends[..], &[between; 3]].concat());
+    let term = term.encoded();
+    let mut bytes = vec![H as u8; length.saturating_sub(term.len())];
+    bytes.extend(term);
+    match random.below(5) {
+        0 => drop(bytes.pop()),
+        1 => bytes.push(0),
+        2 => drop(bytes.remove(0)),
+        _ => {}
+    }
+    bytes
 }
 
 fn with_variable(random: &mut Random, protocol: &Protocol) -> Vec<u8> {

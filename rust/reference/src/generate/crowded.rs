@@ -2,6 +2,7 @@
 //! fit source.
 
 use super::runs::Run;
+use super::terms::rare_name;
 use crate::canonical::canonical_form;
 use crate::protocol::*;
 use crate::random::Random;
@@ -104,6 +105,7 @@ fn rule(random: &mut Random, messages: &[Term], premises: usize) -> Rule {
 /// A protocol, and the messages that its facts are of, with names in place of the variables.
 pub struct Crowded {
     pub protocol: Protocol,
+    names: [Term; 2],
     messages: Vec<Term>,
 }
 
@@ -118,12 +120,18 @@ pub fn protocol(random: &mut Random) -> Crowded {
             .map(|count| rule(random, &messages, count))
             .to_vec(),
     };
-    let [p, q] = [0, 1].map(|number| Term::Public(Public(number)));
+    let mut numbers = [0, 1];
+    if random.percent(25) {
+        numbers = numbers.map(|_| rare_name(random));
+    }
+    let names = numbers.map(|number| Term::Public(Public(number)));
+    let [p, q] = names.clone();
     let values = [[p.clone(), p.clone()], [p.clone(), q.clone()], [q, p]];
     let filled_in = |message: &Term| values.each_ref().map(|values| message.fill_in(values));
     let messages = messages.iter().flat_map(filled_in);
     Crowded {
         protocol,
+        names,
         messages: messages.map(|message| canonical_form(&message)).collect(),
     }
 }
@@ -144,7 +152,7 @@ pub fn run<'a>(random: &mut Random, few: &'a Crowded, length: usize) -> Run<'a> 
         let rule = few.protocol.rule(number).expect("a rule");
         let values = rule.variables.iter().map(|sort| match sort {
             Sort::Message => random.choose(&few.messages).clone(),
-            _ => Term::Public(Public(u32::from(random.percent(15)))),
+            _ => few.names[usize::from(random.percent(15))].clone(),
         });
         let values = values.collect();
         run.take(number, values);

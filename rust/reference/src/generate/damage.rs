@@ -1,6 +1,17 @@
 //! Damage to a file's bytes.
 
+use super::numbers::{spoiled, Numbers};
+use crate::figures::MOST_GROUPS;
 use crate::random::Random;
+
+/// Damages a file of these numbers: one of them is written otherwise, or its bytes are damaged wherever that is.
+pub fn damage_file(random: &mut Random, bytes: &mut Vec<u8>, numbers: &Numbers) {
+    if random.percent(40) {
+        *bytes = spoiled(random, numbers).0;
+    } else {
+        damage(random, bytes);
+    }
+}
 
 /// Changes, adds or removes bytes at one place.
 pub fn damage(random: &mut Random, bytes: &mut Vec<u8>) {
@@ -26,7 +37,7 @@ fn lengthen(random: &mut Random, bytes: &mut Vec<u8>, place: usize) {
         return bytes.push(0x80);
     };
     *last |= 0x80;
-    let groups = 1 + random.below(3);
+    let groups = 1 + random.below(MOST_GROUPS);
     let last_group = *random.choose(&[0, 0, 1, 0x7F]);
     let mut rest = vec![0x80; groups - 1];
     rest.push(last_group);

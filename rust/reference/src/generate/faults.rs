@@ -4,12 +4,24 @@ use super::properties::wrap;
 use super::protocols::{fact_of, nested};
 use super::runs::Step;
 use crate::graph::{Edge, MOST_EDGES};
-use crate::number::LARGEST;
+use crate::number::{LARGEST, LEAST_WIDE};
 use crate::property::{Formula, Quantifier, Sort, MOST_NESTING, MOST_NEW};
 use crate::protocol::{Protocol, K};
 use crate::random::Random;
 use crate::steps::{MOST_NODES, MOST_VALUE_SYMBOLS};
 use crate::term::*;
+
+/// A number of as many groups as there may be; without its last group it may be the given one.
+pub fn wide(random: &mut Random, number: u32) -> u32 {
+    let without = number % LEAST_WIDE;
+    let last = 1 + random.below(127) as u32;
+    *random.choose(&[
+        LEAST_WIDE,
+        without + LEAST_WIDE,
+        without + last * LEAST_WIDE,
+        LARGEST,
+    ])
+}
 
 /// A rule number that no rule has: cause 6.
 pub fn rule_number(random: &mut Random, protocol: &Protocol, steps: &mut [Step]) {
@@ -20,7 +32,9 @@ pub fn rule_number(random: &mut Random, protocol: &Protocol, steps: &mut [Step])
     let functions = protocol.signature.free.len() as u32;
     let behind_functions = 15 + functions;
     let behind_rules = 31 + protocol.rules.len() as u32;
-    steps[place].rule = *random.choose(&[behind_functions, behind_rules, 30, 127, 2_097_151]);
+    let wide = wide(random, steps[place].rule);
+    let none = [behind_functions, behind_rules, 30, 127, wide, wide];
+    steps[place].rule = *random.choose(&none);
 }
 
 /// A value that is not right: cause 7.
@@ -36,7 +50,11 @@ pub fn value(random: &mut Random, steps: &mut [Step]) {
         0 => Term::apply(INV, [Term::apply(INV, [old])]),
         1 => Term::apply(MUL, [old, Term::one()]),
         2 => Term::apply(FST, [Term::apply(PAIR, [old, Term::one()])]),
-        3 => Term::Variable(random.below(3) as u32),
+        3 => {
+            let number = random.below(3) as u32;
+            let wide = wide(random, number);
+            Term::Variable(*random.choose(&[number, wide]))
+        }
         4 => nested(MOST_VALUE_SYMBOLS + random.below(2)),
         5 => Term::apply(H, [old]),
         _ => match old {
@@ -130,7 +148,16 @@ pub fn edge_end(random: &mut Random, edges: &mut [Edge]) {
         1 => edge.conclusion = 0,
         2 => edge.premise += 1 + random.below(2),
         3 => edge.conclusion += 1 + random.below(2),
-        4 => edge.target = 2_097_151,
+        4 => {
+            let fields = [
+                &mut edge.source,
+                &mut edge.conclusion,
+                &mut edge.target,
+                &mut edge.premise,
+            ];
+            let field = fields.into_iter().nth(random.below(4)).expect("four");
+            *field = wide(random, *field as u32) as usize;
+        }
         5 => edge.source = edge.target,
         6 => std::mem::swap(&mut edge.source, &mut edge.target),
         _ => edge.target += 1,
@@ -219,7 +246,8 @@ pub fn scope(random: &mut Random, property: Formula) -> Formula {
     };
     let both = [Sort::Message, Sort::Time];
     let name = Term::Public(Public(0));
-    let unfit = match random.below(9) {
+    let wide = [0, 1].map(|number| wide(random, number));
+    let unfit = match random.below(12) {
         0 => Formula::Equal(name, first),
         1 => Formula::Before(0, 0),
         2 => over(&both, &first, 1, Formula::Unequal(first.clone(), second)),
@@ -228,6 +256,9 @@ pub fn scope(random: &mut Random, property: Formula) -> Formula {
         5 => over(&both, &name, 1, Formula::False),
         6 => over(&both, &second, 1, Formula::False),
         7 => over(&[Sort::Message], &first, 0, Formula::False),
+        8 => Formula::Equal(name, Term::Variable(wide[0])),
+        9 => over(&both, &first, 1, Formula::SameTime(1, wide[1])),
+        10 => over(&both, &Term::Variable(wide[0]), wide[1], Formula::False),
         _ => over(&[Sort::Time, Sort::Time], &name, 0, Formula::False),
     };
     match random.below(3) {

@@ -1,10 +1,10 @@
 //! Inputs of the calls check and draw.
 
-use super::damage::{damage, overfill};
+use super::damage::{damage_file, overfill};
 use super::judging::some_property;
 use super::properties::Maker;
 use super::runs::{encoded, run, some_edges, Run, Step};
-use super::{crowded, exchanges, faults, protocols};
+use super::{crowded, exchanges, faults, numbers, protocols};
 use crate::calls::WORK_AREA;
 use crate::cases::trace;
 use crate::graph::{write_edges, Edge};
@@ -81,10 +81,19 @@ fn checked(random: &mut Random, mut parts: Parts) -> CheckInput {
             82..84 => overfill(random, &mut input.protocol, File::Protocol.limit()),
             84..86 => overfill(random, &mut input.property, File::Property.limit()),
             86..88 => overfill(random, &mut input.graph, File::Graph.limit()),
-            88..90 => damage(random, &mut input.protocol),
-            90..93 => damage(random, &mut input.property),
+            88..90 => {
+                let numbers = numbers::of_protocol(&parts.protocol);
+                damage_file(random, &mut input.protocol, &numbers);
+            }
+            90..93 => {
+                let numbers = numbers::of_property(&parts.property);
+                damage_file(random, &mut input.property, &numbers);
+            }
             93 => input.property = vec![*random.choose(&[13, 14, 127])],
-            94.. => damage(random, &mut input.graph),
+            94.. => {
+                let numbers = numbers::of_graph(&parts.steps, &parts.edges);
+                damage_file(random, &mut input.graph, &numbers);
+            }
             _ => {}
         }
     }
@@ -132,8 +141,14 @@ fn drawn(random: &mut Random, mut parts: Parts) -> DrawInput {
             82..84 => input.work = short(random),
             84..87 => overfill(random, &mut input.protocol, File::Protocol.limit()),
             87..90 => overfill(random, &mut input.steps, File::Steps.limit()),
-            90..93 => damage(random, &mut input.protocol),
-            93.. => damage(random, &mut input.steps),
+            90..93 => {
+                let numbers = numbers::of_protocol(&parts.protocol);
+                damage_file(random, &mut input.protocol, &numbers);
+            }
+            93.. => {
+                let numbers = numbers::of_steps(&parts.steps);
+                damage_file(random, &mut input.steps, &numbers);
+            }
             _ => {}
         }
     }

@@ -1,5 +1,6 @@
 //! Properties whose guards meet the actions of a protocol.
 
+use super::terms::name;
 use crate::property::{Formula, Quantifier, Sort};
 use crate::protocol::{Fact, Protocol, K};
 use crate::random::Random;
@@ -120,7 +121,8 @@ fn term(random: &mut Random, scope: &[Sort]) -> Term {
     let variable = number_of(random, scope, Sort::Message).filter(|_| random.percent(80));
     match variable {
         Some(number) => Term::Variable(number),
-        None => Term::Public(Public(random.below(3) as u32)),
+        None if random.percent(90) => Term::Public(Public(random.below(3) as u32)),
+        None => Term::Public(Public(name(random))),
     }
 }
 

@@ -1,12 +1,13 @@
 //! Runs, built forward: every step is one that the machine can take.
 
 use super::protocols::fact_of;
-use super::terms::Material;
+use super::terms::{name, Material};
 use crate::canonical::canonical_form;
 use crate::earliest::{fit_sources, premises, Source};
+use crate::figures::MOST_GROUPS;
 use crate::graph::Edge;
 use crate::machine::Machine;
-use crate::number;
+use crate::number::{self, least_of, LARGEST};
 use crate::protocol::*;
 use crate::random::Random;
 use crate::steps::{instance, Node};
@@ -36,7 +37,24 @@ pub struct Run<'a> {
 
 /// A run of about so many nodes.
 pub fn run<'a>(random: &mut Random, protocol: &'a Protocol, length: usize) -> Run<'a> {
-    let mut run = Run::new(protocol, random.below(3) as u32 * 64);
+    let first_name = first_name(random);
+    run_from(random, protocol, first_name, length)
+}
+
+/// Few, or a little below the ends of each number of groups.
+fn first_name(random: &mut Random) -> u32 {
+    let end = least_of(2 + random.below(MOST_GROUPS - 1));
+    *random.choose(&[0, 0, 64, end - 5, LARGEST - 5])
+}
+
+/// A run of about so many nodes whose new names are numbered from here.
+pub fn run_from<'a>(
+    random: &mut Random,
+    protocol: &'a Protocol,
+    first_name: u32,
+    length: usize,
+) -> Run<'a> {
+    let mut run = Run::new(protocol, first_name);
     for _ in 0..4 * length {
         if run.steps.len() >= length {
             break;
@@ -99,7 +117,7 @@ impl<'a> Run<'a> {
 
     fn new_name(&mut self) -> Term {
         let name = Term::Fresh(Fresh(self.next_name));
-        self.next_name += 1;
+        self.next_name = (self.next_name + 1) % (LARGEST + 1);
         self.take(0, vec![name.clone()]);
         name
     }
@@ -192,7 +210,7 @@ impl<'a> Run<'a> {
     fn some_value(&mut self, random: &mut Random, sort: Sort) -> Term {
         match sort {
             Sort::Fresh => self.new_name(),
-            Sort::Public => Term::Public(Public(random.below(4) as u32)),
+            Sort::Public => Term::Public(Public(name(random))),
             Sort::Message => {
                 if let Some(message) = self.known_message(random) {
                     return message;

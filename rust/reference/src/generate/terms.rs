@@ -1,6 +1,7 @@
 //! Terms of a given number of symbols.
 
-use crate::number::LARGEST;
+use crate::figures::MOST_GROUPS;
+use crate::number::least_of;
 use crate::random::Random;
 use crate::term::*;
 
@@ -14,10 +15,8 @@ pub struct Material<'a> {
     pub products: bool,
 }
 
-/// Name numbers whose byte order differs from their own, and the ends of each number of groups.
-const RARE_NAMES: [u32; 10] = [
-    127, 128, 129, 255, 256, 257, 16_383, 16_384, 16_385, LARGEST,
-];
+/// Products of rare names have fewer symbols than this.
+const MOST_RARE: usize = 20;
 
 impl Material<'_> {
     /// A term of exactly so many symbols.
@@ -28,10 +27,24 @@ impl Material<'_> {
         if symbols >= 5 && random.percent(15) {
             return self.reducible(random, symbols);
         }
+        if (3..MOST_RARE).contains(&symbols) && self.products && random.percent(5) {
+            return self.rare_product(random, symbols);
+        }
         let tag = self.tag(random, symbols - 1);
         let arity = self.signature.arity(tag).expect("a declared function");
         let sizes = shares(random, symbols - 1, arity);
         Term::apply(tag, sizes.into_iter().map(|size| self.term(random, size)))
+    }
+
+    /// A product of rare names of one kind, which is to be sorted by bytes; an inverse where the symbols are even.
+    fn rare_product(&self, random: &mut Random, symbols: usize) -> Term {
+        let fresh = self.fresh_names && random.percent(70);
+        let factors = (0..symbols.div_ceil(2)).map(|_| match (fresh, rare_name(random)) {
+            (true, number) => Term::Fresh(Fresh(number)),
+            (false, number) => Term::Public(Public(number)),
+        });
+        let product = factors.reduce(|first, next| Term::apply(MUL, [first, next]));
+        padded(product.expect("a factor"), symbols)
     }
 
     fn leaf(&self, random: &mut Random) -> Term {
@@ -119,12 +132,22 @@ fn shuffled(random: &mut Random, term: &Term) -> Term {
 }
 
 /// Few different names, so that factors meet again.
-fn name(random: &mut Random) -> u32 {
-    if random.percent(20) {
-        *random.choose(&RARE_NAMES)
+pub fn name(random: &mut Random) -> u32 {
+    if random.percent(15) {
+        rare_name(random)
     } else {
         random.below(4) as u32
     }
+}
+
+/// The ends of each number of groups, and numbers near them: their byte order differs from their own.
+pub fn rare_name(random: &mut Random) -> u32 {
+    let least = least_of(1 + random.below(MOST_GROUPS));
+    let near = [least - 1, least, least + 1];
+    let twice = [2 * least - 1, 2 * least, 2 * least + 1];
+    let last = 128 * (least - 1) + 127;
+    let names = [&near[..], &twice, &[last]].concat();
+    *random.choose(&names)
 }
 
 /// `total` cut into so many parts, none of them zero.
