@@ -1,5 +1,5 @@
 /* The calls from C, by the header alone: document 01's first case of canonical form, a short output, a short work area, a recorded
-   variable that no premise has. */
+   variable that no premise has, the largest number. */
 #include "levtosziv.h"
 
 #include <stdio.h>
@@ -26,6 +26,8 @@ int main(void)
     const uint8_t form[] = {10, 1, 0, 2, 1};
     /* Nothing --[ K(x) ]-> nothing, x a message. */
     const uint8_t unbound[] = {0, 0, 1, 1, 0, 0, 1, 3, 0, 0, 0};
+    /* Public names whose numbers have four groups and five. */
+    const uint8_t largest[] = {1, 0xFF, 0xFF, 0xFF, 0x7F}, larger[] = {1, 0x80, 0x80, 0x80, 0x80, 1};
     uint8_t output[8];
     int failed = 0;
 
@@ -47,6 +49,13 @@ int main(void)
 
     answer = levtosziv_canonical(unbound, sizeof unbound, term, sizeof term, output, sizeof output, work, sizeof work);
     failed += fails("refused 4 1", answer == ((uint64_t)4 << 32 | 1));
+
+    answer = levtosziv_canonical(protocol, sizeof protocol, largest, sizeof largest, output, sizeof output, work, sizeof work);
+    failed += fails("the largest number", answer == ((uint64_t)3 << 56 | 5) && memcmp(output, largest, sizeof largest) == 0);
+    failed += fails("its value", LEVTOSZIV_LARGEST_NUMBER == (1 << 28) - 1);
+
+    answer = levtosziv_canonical(protocol, sizeof protocol, larger, sizeof larger, output, sizeof output, work, sizeof work);
+    failed += fails("a larger number", answer == ((uint64_t)3 << 32 | LEVTOSZIV_TERM));
     printf("C, canonical form: %d of %d as document 01 says\n", asked - failed, asked);
     return failed != 0;
 }
