@@ -29,7 +29,12 @@ enum {
     LEVTOSZIV_PROPERTY_BYTES = 1024,
     LEVTOSZIV_STEPS_BYTES = 32768,
     LEVTOSZIV_GRAPH_BYTES = 61440,
-    LEVTOSZIV_TERM_BYTES = 1024
+    LEVTOSZIV_TERM_BYTES = 1280
+};
+
+/* The largest number that a file can hold, be it a name's or any other: FF FF FF 7F (hexadecimal), four groups of seven bits. */
+enum {
+    LEVTOSZIV_LARGEST_NUMBER = 268435455
 };
 
 /* What an answer is. */
@@ -81,7 +86,11 @@ uint64_t levtosziv_check(const uint8_t *protocol, size_t protocol_length, const 
 uint64_t levtosziv_draw(const uint8_t *protocol, size_t protocol_length, const uint8_t *steps, size_t steps_length,
                         uint8_t *output, size_t output_length, uint8_t *work, size_t work_length);
 
-/* Writes the canonical form of the term file's term, read under the protocol, to the start of the output: LEVTOSZIV_TERM_BYTES at most. */
+/*
+ * Writes the canonical form of the term file's term, read under the protocol, to the start of the output. An output of
+ * LEVTOSZIV_TERM_BYTES is always long enough: a term has at most 256 symbols, and these take at most 1,024 bytes. So a term file that is
+ * longer than that, though not over its limit, is refused with 3 or 8.
+ */
 uint64_t levtosziv_canonical(const uint8_t *protocol, size_t protocol_length, const uint8_t *term, size_t term_length,
                              uint8_t *output, size_t output_length, uint8_t *work, size_t work_length);
 

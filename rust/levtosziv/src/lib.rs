@@ -30,10 +30,18 @@ pub use refusal::{Cause, Refusal};
 
 /// The bytes of a work area; a longer one does no harm.
 pub const WORK_BYTES: usize = 65_536;
-/// An output of so many bytes is long enough for every graph.
+/// The most bytes of a protocol file.
+pub const PROTOCOL_BYTES: usize = 4_096;
+/// The most bytes of a property file.
+pub const PROPERTY_BYTES: usize = 1_024;
+/// The most bytes of a steps file.
+pub const STEPS_BYTES: usize = 32_768;
+/// The most bytes of a graph file; an output of so many is long enough for every graph.
 pub const GRAPH_BYTES: usize = 61_440;
-/// An output of so many bytes is long enough for every term.
-pub const TERM_BYTES: usize = 1_024;
+/// The most bytes of a term file; an output of so many is long enough for every canonical form. (Its 256 symbols never take more than 1,024.)
+pub const TERM_BYTES: usize = 1_280;
+/// The largest number that a file can hold, be it a name's or any other: `FF FF FF 7F`, four groups of seven bits.
+pub const LARGEST_NUMBER: u32 = 268_435_455;
 
 /// "nodes, nodes with an action, edges"
 #[derive(Clone, Copy, Debug, PartialEq, Eq)]
@@ -276,5 +284,62 @@ impl Work {
 impl Default for Work {
     fn default() -> Self {
         Work::new()
+    }
+}
+
+#[cfg(test)]
+mod tests {
+    use super::*;
+
+    /// The C header has the same figures.
+    #[test]
+    fn the_header_says_the_same() {
+        let header = include_str!("../../../include/levtosziv.h");
+        let figures = [
+            ("WORK_BYTES", WORK_BYTES),
+            ("PROTOCOL_BYTES", PROTOCOL_BYTES),
+            ("PROPERTY_BYTES", PROPERTY_BYTES),
+            ("STEPS_BYTES", STEPS_BYTES),
+            ("GRAPH_BYTES", GRAPH_BYTES),
+            ("TERM_BYTES", TERM_BYTES),
+            ("LARGEST_NUMBER", LARGEST_NUMBER as usize),
+        ];
+        for (name, figure) in figures {
+            let said = format!("    LEVTOSZIV_{name} = {figure}");
+            let mut lines = header.lines().map(|line| line.trim_end_matches(','));
+            assert!(lines.any(|line| line == said), "{said}");
+        }
+    }
+
+    /// A public name, as a term file has it.
+    fn name(number: u32) -> Vec<u8> {
+        let mut bytes = vec![1];
+        let mut rest = number;
+        while rest > 0x7F {
+            bytes.push(0x80 | rest as u8);
+            rest >>= 7;
+        }
+        bytes.push(rest as u8);
+        bytes
+    }
+
+    #[test]
+    fn figures_are_the_calls_own() {
+        let mut work = Work::new();
+        let mut output = [0; TERM_BYTES];
+        let mut form = |term: &[u8]| {
+            let length = work.canonical_form(&[0, 0, 0], term, &mut output);
+            length.map(|length| output[..length].to_vec())
+        };
+        let refused = |cause: Cause| {
+            Err(Refusal {
+                number: cause as u32,
+                item: 4,
+            })
+        };
+        assert_eq!(form(&name(LARGEST_NUMBER)), Ok(name(LARGEST_NUMBER)));
+        assert_eq!(form(&name(LARGEST_NUMBER + 1)), refused(Cause::Layout));
+        assert_eq!(form(&[0; TERM_BYTES]), refused(Cause::Layout));
+        assert_eq!(form(&[0; TERM_BYTES + 1]), refused(Cause::FileTooLong));
     }
 }

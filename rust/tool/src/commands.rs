@@ -408,7 +408,7 @@ fn explain(number: u32) -> Result<i32, Failure> {
         return Err(Failure::Arguments(message));
     };
     say(&format!("refused {number}: {}\n", row.cause.words()));
-    say(&format!("The item is {}.\n{}\n", row.item, row.advice));
+    say(&format!("The item is {}.\n{}\n", row.item, (row.advice)()));
     if !row.example.is_empty() {
         say("\nFor example, this text is refused so:\n\n");
         row.example

@@ -2,8 +2,8 @@
 
 use crate::bytes;
 use crate::model::*;
+use levtosziv::Work;
 pub use levtosziv::{Counts, Refusal, Ruling};
-use levtosziv::{Work, GRAPH_BYTES, TERM_BYTES};
 
 /// What checking answers.
 pub type Ruled = Result<Ruling, Refusal>;
@@ -43,7 +43,7 @@ impl Kernel {
     }
 
     pub fn draw(&mut self, steps: &[u8]) -> Result<Vec<u8>, Refusal> {
-        let mut output = vec![0; GRAPH_BYTES];
+        let mut output = vec![0; limits::GRAPH_BYTES];
         let length = self.work.draw(&self.protocol, steps, &mut output)?;
         output.truncate(length);
         Ok(output)
@@ -51,7 +51,7 @@ impl Kernel {
 
     /// The canonical form of a term. None where the core's answer is no term of the protocol, which no proved core gives.
     pub fn canonical(&mut self, term: &Term, declared: &Protocol) -> Result<Option<Term>, Refusal> {
-        let mut output = [0; TERM_BYTES];
+        let mut output = [0; limits::TERM_BYTES];
         let term = bytes::encode_term(term);
         let length = self
             .work

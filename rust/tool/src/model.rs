@@ -120,10 +120,9 @@ pub const SORT_SIGNS: [&str; 4] = ["", "~", "$", "#"];
 
 /// The most that the files may have, as document 01 puts in brackets.
 pub mod limits {
-    pub const PROTOCOL_BYTES: usize = 4_096;
-    pub const PROPERTY_BYTES: usize = 1_024;
-    pub const STEPS_BYTES: usize = 32_768;
-    pub const GRAPH_BYTES: usize = 61_440;
+    pub use levtosziv::{
+        GRAPH_BYTES, LARGEST_NUMBER, PROPERTY_BYTES, PROTOCOL_BYTES, STEPS_BYTES, TERM_BYTES,
+    };
     pub const FUNCTIONS: u32 = 16;
     pub const FUNCTION_ARITY: u32 = 4;
     pub const FACT_SYMBOLS: u32 = 32;
@@ -137,7 +136,6 @@ pub mod limits {
     pub const NESTING: u32 = 16;
     pub const NODES: u32 = 512;
     pub const EDGES: u32 = 4_096;
-    pub const NUMBER: u32 = 2_097_151;
     pub const VALUE_SYMBOLS: usize = 128;
     pub const FILLED_IN_SYMBOLS: usize = 256;
 }

@@ -145,6 +145,19 @@ pub fn visible(text: &str) -> String {
     out
 }
 
+/// A number with commas: 1,234,567.
+pub fn grouped(number: impl ToString) -> String {
+    let digits = number.to_string();
+    let mut grouped = String::new();
+    for (i, digit) in digits.chars().enumerate() {
+        if i > 0 && (digits.len() - i).is_multiple_of(3) {
+            grouped.push(',');
+        }
+        grouped.push(digit);
+    }
+    grouped
+}
+
 /// A text of so many characters at most.
 pub fn cut(text: &str, most: usize) -> String {
     match text.char_indices().nth(most) {

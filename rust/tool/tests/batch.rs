@@ -104,7 +104,8 @@ fn each_line_is_that_of_the_report_program_and_of_check() {
         }
     }
     let header = report.lines().next().unwrap();
-    assert_eq!(header, "{\"report\":1,\"tool\":\"levtosziv 0.1.0\"}");
+    let by = format!("{{\"report\":1,\"tool\":\"levtosziv {VERSION}\"}}");
+    assert_eq!(header, by);
     let end: Value = serde_json::from_str(report.lines().last().unwrap()).unwrap();
     assert_eq!(end["cases"], folders.len());
 }
@@ -385,12 +386,13 @@ fn a_report_of_another_input_is_left_alone() {
     );
     resume(
         &all,
-        &whole.replace("0.1.0", "0.0.9"),
-        "report:1: a report that begins with",
+        &whole.replacen(VERSION, "0.1.0", 1),
+        &format!("report:1: this report is by levtosziv 0.1.0, and this is levtosziv {VERSION}; a report has rulings of one version, so a new one is to be begun"),
     );
+    let mark = format!("{VERSION}\"");
     resume(
         &all,
-        &whole.replacen("0.1.0\"", "0.1.0\",\"shard\":\"1/3\"", 1),
+        &whole.replacen(&mark, &format!("{mark},\"shard\":\"1/3\""), 1),
         "report:1: a report that begins with",
     );
     resume(

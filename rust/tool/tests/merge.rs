@@ -127,6 +127,36 @@ fn reports_of_several_inputs_are_one() {
 }
 
 #[test]
+fn a_merged_report_is_by_one_version() {
+    let folder = folder("merge-versions");
+    put(
+        &folder,
+        &[
+            ("a.tar", &archive(&many(40))),
+            ("b.tar", &archive(&many(30))),
+        ],
+    );
+    batch("whole", &["a.tar", "b.tar"], &folder);
+    let read = |name: &str| std::fs::read_to_string(folder.join(name)).unwrap();
+    let old = |report: String| report.replacen(VERSION, "0.1.0", 1);
+    for (report, input) in [("a", "a.tar"), ("b", "b.tar")] {
+        batch(report, &[input], &folder);
+        let name = format!("old-{report}");
+        put(&folder, &[(&name, old(read(report)).as_bytes())]);
+    }
+    fails(
+        &merge(&["old-a", "b", "--report", "merged"], &folder),
+        &format!("b:1: this report is by levtosziv {VERSION}, and old-a is by levtosziv 0.1.0; a report has rulings of one version"),
+    );
+    assert!(!folder.join("merged").exists());
+    // What another version has ruled stays its own.
+    let merged = merge(&["old-a", "old-b", "--summary", "summary"], &folder);
+    assert_eq!(merged.status.code(), Some(0), "{}", stderr(&merged));
+    assert!(stdout(&merged) == old(read("whole")));
+    assert!(read("summary").contains("\"tool\":\"levtosziv 0.1.0\""));
+}
+
+#[test]
 fn reports_that_are_unfinished_or_none() {
     let folder = folder("merge-unfinished");
     put(&folder, &[("a.tar", &archive(&many(40)))]);

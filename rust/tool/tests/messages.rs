@@ -48,17 +48,19 @@ fn messages_are_as_they_were_read() {
 }
 
 /// What makes a message, in the source.
-const CALLS: [&str; 6] = [
+const CALLS: [&str; 8] = [
     "error(",
+    "too_large(",
     "Err(Error {",
     "unexpected(\"",
     ".expect(\"",
     ".word(\"",
     ".number(\"",
+    ".file_number(\"",
 ];
 /// How many of these there are. Who adds one adds a block to `messages.txt`.
-const SITES: usize = 105;
-const BLOCKS: usize = 103;
+const SITES: usize = 107;
+const BLOCKS: usize = 105;
 
 #[test]
 fn each_message_is_there() {

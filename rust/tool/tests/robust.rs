@@ -17,7 +17,7 @@ const FILES: usize = 1_000;
 const PIECES: [&str; 40] = [
     "(", ")", "[", "]", "<", ">", ",", ":", ".", "/", "!", "~", "$", "#", "=", "&", "|", "^", "*",
     "\"", "?7", "'", "==>", "--[", "]->", "-->", "0x0B03", "All", "Ex", "not", "rule", "run",
-    "graph", "lemma", "edges:", "let", "know", "2097151", "é", "//",
+    "graph", "lemma", "edges:", "let", "know", "2097152", "é", "//",
 ];
 
 /// A text with a few pieces put in, taken out or doubled.

@@ -9,6 +9,7 @@ use super::resume::Old;
 use super::rule::{kept, Done, Setup};
 use crate::arguments::FailOn;
 use crate::failure::Failure;
+use crate::print::grouped;
 use std::collections::BTreeMap;
 use std::sync::atomic::{AtomicUsize, Ordering};
 use std::sync::mpsc::RecvTimeoutError;
@@ -151,7 +152,7 @@ impl Collector {
                 seconds,
                 jobs,
             };
-            Summary::new(given.shard, totals, Some(this_run)).write(path)?;
+            Summary::new(&Header::new(given.shard), totals, Some(this_run)).write(path)?;
         }
         Ok(FailOn::code(
             &given.fail_on,

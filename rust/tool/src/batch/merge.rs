@@ -9,20 +9,39 @@ use std::collections::HashSet;
 use std::path::{Path, PathBuf};
 
 pub fn merge(given: &Merge) -> Result<i32, Failure> {
+    let header = Header::by(&tool(&given.reports)?);
     let groups = groups(&given.reports)?;
     let output = Output::create(given.report.as_deref())?;
-    let merged = Merged::of(&groups, given.list.as_deref(), output);
+    let merged = Merged::of(&header, &groups, given.list.as_deref(), output);
     if let (Err(_), Some(path)) = (&merged, &given.report) {
         // Half of a merged report is of no use.
         let _ = std::fs::remove_file(path);
     }
     let totals = merged?.totals;
     if let Some(path) = &given.summary {
-        Summary::new(None, &totals, None).write(path)?;
+        Summary::new(&header, &totals, None).write(path)?;
     }
     eprintln!("{}", words(&totals));
     let (attack, refused) = (totals.attack > 0, totals.refused > 0);
     Ok(FailOn::code(&given.fail_on, attack, refused))
+}
+
+/// The version of the tool that all reports are by: none is to hold rulings of two.
+fn tool(reports: &[PathBuf]) -> Result<String, Failure> {
+    let mut first: Option<(&Path, String)> = None;
+    for path in reports {
+        let (reader, Header { tool, .. }) = Reader::open(path)?;
+        match &first {
+            None => first = Some((path, tool)),
+            Some((_, before)) if *before == tool => {}
+            Some((other, before)) => {
+                let other = other.display();
+                let message = format!("this report is by {tool}, and {other} is by {before}; a report has rulings of one version");
+                return Err(reader.failure(&message));
+            }
+        }
+    }
+    Ok(first.map_or(TOOL.into(), |(_, tool)| tool))
 }
 
 /// The reports whose lines stand in turn, in the order of their shards. Most groups have one.
@@ -86,10 +105,15 @@ const UNFINISHED: &str = "the report is unfinished; `levtosziv batch --resume` g
 const OTHER_SHARDS: &str = "the shards are not of one input: another one ended before";
 
 impl Merged {
-    fn of(groups: &[Group], list: Option<&Path>, output: Output) -> Result<Self, Failure> {
+    fn of(
+        header: &Header,
+        groups: &[Group],
+        list: Option<&Path>,
+        output: Output,
+    ) -> Result<Self, Failure> {
         let mut merged = Merged {
             output,
-            lines: line(&Header::new(None)),
+            lines: line(header),
             totals: Totals::default(),
             inputs: HashSet::new(),
             input: None,

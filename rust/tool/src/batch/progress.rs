@@ -1,7 +1,8 @@
 //! How far a batch is, on a terminal.
 
 use super::input::Size;
-use super::report::{grouped, Totals};
+use super::report::Totals;
+use crate::print::grouped;
 use indicatif::{ProgressBar, ProgressDrawTarget, ProgressStyle};
 use std::io::IsTerminal;
 use std::time::Instant;

@@ -5,6 +5,7 @@ use super::arguments::Shard;
 use crate::answer::Figures;
 use crate::failure::Failure;
 use crate::kernel::Ruled;
+use crate::print::grouped;
 use serde::{Deserialize, Serialize};
 use std::borrow::Cow;
 use std::collections::BTreeMap;
@@ -28,9 +29,17 @@ pub struct Header {
 impl Header {
     pub fn new(shard: Option<Shard>) -> Self {
         Header {
-            report: VERSION,
-            tool: TOOL.into(),
             shard: shard.map(|shard| shard.to_string()),
+            ..Header::by(TOOL)
+        }
+    }
+
+    /// Of a report that is no shard's, by this version of the tool.
+    pub fn by(tool: &str) -> Self {
+        Header {
+            report: VERSION,
+            tool: tool.into(),
+            shard: None,
         }
     }
 
@@ -295,9 +304,9 @@ pub fn open_alone(path: &Path, options: &OpenOptions) -> Result<File, Failure> {
 #[derive(Serialize)]
 pub struct Summary<'a> {
     pub summary: u32,
-    pub tool: &'static str,
+    pub tool: &'a str,
     #[serde(skip_serializing_if = "Option::is_none")]
-    pub shard: Option<String>,
+    pub shard: Option<&'a str>,
     #[serde(flatten)]
     pub totals: &'a Totals,
     pub refused_by_number: &'a BTreeMap<u32, u64>,
@@ -315,11 +324,11 @@ pub struct ThisRun {
 }
 
 impl<'a> Summary<'a> {
-    pub fn new(shard: Option<Shard>, totals: &'a Totals, this_run: Option<ThisRun>) -> Self {
+    pub fn new(header: &'a Header, totals: &'a Totals, this_run: Option<ThisRun>) -> Self {
         Summary {
             summary: VERSION,
-            tool: TOOL,
-            shard: shard.map(|shard| shard.to_string()),
+            tool: &header.tool,
+            shard: header.shard.as_deref(),
             totals,
             refused_by_number: &totals.by_number,
             this_run,
@@ -352,17 +361,4 @@ pub fn words(totals: &Totals) -> String {
         words += &format!(" ({})", numbers.join(", "));
     }
     words
-}
-
-/// A number with commas: 1,234,567.
-pub fn grouped(number: u64) -> String {
-    let digits = number.to_string();
-    let mut grouped = String::new();
-    for (i, digit) in digits.chars().enumerate() {
-        if i > 0 && (digits.len() - i) % 3 == 0 {
-            grouped.push(',');
-        }
-        grouped.push(digit);
-    }
-    grouped
 }

@@ -63,6 +63,10 @@ impl Old {
             return Ok(None);
         }
         let (reader, found) = Reader::open(path)?;
+        if found.tool != header.tool {
+            let (by, this) = (found.tool, &header.tool);
+            return Err(reader.failure(&format!("this report is by {by}, and this is {this}; a report has rulings of one version, so a new one is to be begun")));
+        }
         if found != *header {
             let text = |line: Vec<u8>| String::from_utf8_lossy(&line).trim_end().to_string();
             let (found, wanted) = (text(report::line(&found)), text(first));

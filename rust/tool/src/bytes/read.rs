@@ -21,7 +21,10 @@ pub struct Fault {
 
 type Read<T> = Result<T, Fault>;
 
-const MOST_GROUPS: u32 = 3;
+/// The bits of a group.
+const GROUP_BITS: u32 = 7;
+/// The groups of the largest number.
+const MOST_GROUPS: u32 = limits::LARGEST_NUMBER.ilog2() / GROUP_BITS + 1;
 
 struct Reader<'a> {
     bytes: &'a [u8],
@@ -54,7 +57,7 @@ impl<'a> Reader<'a> {
                 return self.fault(start, "the file ends where a number should be");
             };
             self.at += 1;
-            value |= u32::from(byte & 0x7F) << (7 * group);
+            value |= u32::from(byte & 0x7F) << (GROUP_BITS * group);
             if byte & 0x80 == 0 {
                 if group > 0 && byte == 0 {
                     return self.fault(start, "a number that is not in its shortest form");
@@ -62,7 +65,7 @@ impl<'a> Reader<'a> {
                 return Ok(value);
             }
         }
-        self.fault(start, "a number of more than three groups")
+        self.fault(start, format!("a number of more than {MOST_GROUPS} groups"))
     }
 
     fn at_most(&mut self, most: u32, what: &str) -> Read<u32> {
@@ -192,7 +195,10 @@ impl<'a> Reader<'a> {
             let symbols = term.symbols();
             return self.fault(
                 start,
-                format!("a rule's term of {symbols} symbols; the most is 64"),
+                format!(
+                    "a rule's term of {symbols} symbols; the most is {}",
+                    limits::RULE_TERM_SYMBOLS
+                ),
             );
         }
         if term.any(|t| matches!(t, Term::Variable(n) if *n as usize >= variables)) {
@@ -204,7 +210,8 @@ impl<'a> Reader<'a> {
     fn formula(&mut self, protocol: &Protocol, level: u32, scope: usize) -> Read<Formula> {
         let start = self.at;
         if level > limits::NESTING {
-            return self.fault(start, "formulas nested more than 16 deep");
+            let most = limits::NESTING;
+            return self.fault(start, format!("formulas nested more than {most} deep"));
         }
         let tag = self.number()?;
         Ok(match tag {
@@ -245,7 +252,8 @@ impl<'a> Reader<'a> {
         })?;
         let scope = scope + sorts.len();
         if scope > limits::VARIABLES_IN_SCOPE {
-            return self.fault(start, "more than 16 variables in scope");
+            let most = limits::VARIABLES_IN_SCOPE;
+            return self.fault(start, format!("more than {most} variables in scope"));
         }
         Ok(Quantifier {
             sorts,

@@ -341,7 +341,7 @@ impl Section<'_> {
         }
         let row = self.answer.refusal().and_then(|r| table::row(r.number));
         if let Some(row) = row {
-            out += &format!("<p>{}</p>\n", escape(row.advice));
+            out += &format!("<p>{}</p>\n", escape(&(row.advice)()));
         }
         out
     }

@@ -131,14 +131,7 @@ impl Parser<'_> {
                 _ => return error(span, "a name here is 'g' or ~k", ""),
             };
             self.expect("=", "and a number after the name")?;
-            let number = self.number("a number")?;
-            if number > limits::NUMBER {
-                return error(
-                    span,
-                    format!("a name's number is at most {}", limits::NUMBER),
-                    "",
-                );
-            }
+            let number = self.file_number("a number")?;
             all.push(NamedNumber {
                 name,
                 span,
@@ -359,21 +352,14 @@ impl Parser<'_> {
         self.expect("->", "in an edge")?;
         let [target, premise] = self.edge_end()?;
         let edge = [source, conclusion, target, premise];
-        let span = self.since(start);
-        if edge.iter().any(|n| *n > limits::NUMBER) {
-            return error(
-                span,
-                format!("a number here is at most {}", limits::NUMBER),
-                "",
-            );
-        }
-        Ok((edge, span))
+        Ok((edge, self.since(start)))
     }
 
     fn edge_end(&mut self) -> Parse<[u32; 2]> {
-        let node = self.number("a node")?;
+        let node = self.file_number("a node")?;
         self.expect(".", "between node and place")?;
-        Ok([node, self.number("the place of a conclusion or premise")?])
+        let place = self.file_number("the place of a conclusion or premise")?;
+        Ok([node, place])
     }
 }
 

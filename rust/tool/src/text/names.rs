@@ -1,5 +1,6 @@
 //! Numbers for names, and names that are near a mistyped one.
 
+use super::parser::number_too_large;
 use super::{error, Parse};
 use crate::model::{limits, Span};
 use std::collections::{BTreeMap, HashMap};
@@ -12,11 +13,18 @@ pub struct Numbering {
     next: u32,
 }
 
-/// The number that a name has by its form.
-pub fn by_form(name: &str, letter: char) -> Option<u32> {
+/// The digits of a name that has its number by its form.
+fn digits(name: &str, letter: char) -> Option<&str> {
     let digits = name.strip_prefix(letter)?;
-    let number: u32 = digits.parse().ok()?;
-    (number.to_string() == digits && number <= limits::NUMBER).then_some(number)
+    let zeros = digits.len() > 1 && digits.starts_with('0');
+    let plain = !digits.is_empty() && digits.bytes().all(|digit| digit.is_ascii_digit());
+    (plain && !zeros).then_some(digits)
+}
+
+/// The number that a name has by its form, if a file can hold it.
+pub fn by_form(name: &str, letter: char) -> Option<u32> {
+    let number = digits(name, letter)?.parse().ok()?;
+    (number <= limits::LARGEST_NUMBER).then_some(number)
 }
 
 impl Numbering {
@@ -45,16 +53,22 @@ impl Numbering {
         Ok(())
     }
 
-    pub fn number(&mut self, name: &str) -> u32 {
+    /// The number of a name, a free one where it has none. By its form, with this letter, it may have one that no file can hold.
+    pub fn number(&mut self, name: &str, letter: char, span: &Span) -> Parse<u32> {
         if let Some(number) = self.numbers.get(name) {
-            return *number;
+            return Ok(*number);
+        }
+        if digits(name, letter).is_some() {
+            let label =
+                format!("`{letter}` with digits is of that number; any other name gets a free one");
+            return number_too_large(span.clone(), &label);
         }
         while self.names.contains_key(&self.next) {
             self.next += 1;
         }
         self.names.insert(self.next, name.to_string());
         self.numbers.insert(name.to_string(), self.next);
-        self.next
+        Ok(self.next)
     }
 }
 

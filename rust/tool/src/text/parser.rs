@@ -113,6 +113,15 @@ impl<'a> Parser<'a> {
         Ok(number)
     }
 
+    /// A number that a file is to hold.
+    pub fn file_number(&mut self, what: &str) -> Parse<u32> {
+        let span = self.span();
+        match self.number(what)? {
+            number if number > limits::LARGEST_NUMBER => number_too_large(span, ""),
+            number => Ok(number),
+        }
+    }
+
     /// Something and commas up to a closing sign.
     pub fn listed<T>(
         &mut self,
@@ -189,9 +198,9 @@ impl<'a> Parser<'a> {
     fn signed(&mut self, start: usize) -> Parse<Raw> {
         let term = match self.next() {
             Token::Sign("$") => RawTerm::PublicVariable(self.word("a name after `$`")?),
-            Token::Sign("#") if self.eat("?") => RawTerm::Numbered(self.variable_number()?, true),
+            Token::Sign("#") if self.eat("?") => RawTerm::Numbered(self.variable()?, true),
             Token::Sign("#") => RawTerm::Time(self.word("a time variable after `#`")?),
-            Token::Sign("?") => RawTerm::Numbered(self.variable_number()?, false),
+            Token::Sign("?") => RawTerm::Numbered(self.variable()?, false),
             _ => match self.peek().clone() {
                 Token::Quoted(name) => {
                     self.next();
@@ -203,16 +212,8 @@ impl<'a> Parser<'a> {
         Ok(leaf(term, self.since(start)))
     }
 
-    fn variable_number(&mut self) -> Parse<u32> {
-        let span = self.span();
-        match self.number("a variable's number after `?`")? {
-            number if number > limits::NUMBER => error(
-                span,
-                format!("a variable's number is at most {}", limits::NUMBER),
-                "",
-            ),
-            number => Ok(number),
-        }
+    fn variable(&mut self) -> Parse<u32> {
+        self.file_number("a variable's number after `?`")
     }
 
     fn bracketed(&mut self, start: usize) -> Parse<Raw> {
@@ -264,6 +265,12 @@ impl<'a> Parser<'a> {
             span: self.since(start),
         })
     }
+}
+
+/// The error of a number that no file can hold.
+pub fn number_too_large<T>(span: Span, label: &str) -> Parse<T> {
+    let most = limits::LARGEST_NUMBER;
+    error(span, format!("a number is at most {most}"), label)
 }
 
 fn too_deep<T>(span: Span) -> Parse<T> {

@@ -158,8 +158,8 @@ impl Resolver {
     pub fn term(&mut self, raw: &Raw, leaf: &mut Leaf) -> Parse<Term> {
         match &raw.term {
             RawTerm::Apply(name, arguments) => self.apply(name, arguments, &raw.span, leaf),
-            RawTerm::Public(name) => Ok(Term::Public(self.public.number(name))),
-            RawTerm::Fresh(name) => Ok(Term::Fresh(self.fresh.number(name))),
+            RawTerm::Public(name) => self.public.number(name, 'p', &raw.span).map(Term::Public),
+            RawTerm::Fresh(name) => self.fresh.number(name, 'n', &raw.span).map(Term::Fresh),
             RawTerm::Word(name) => match self.constant(name) {
                 Some(tag) => Ok(Term::Apply(tag, Vec::new())),
                 None => leaf(self, raw),

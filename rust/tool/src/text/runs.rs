@@ -159,7 +159,7 @@ impl Resolver {
     fn value_leaf(&mut self, raw: &Raw, scope: &Scope) -> Parse<Term> {
         let span = raw.span.clone();
         match &raw.term {
-            RawTerm::FreshVariable(name) => Ok(Term::Fresh(self.fresh.number(name))),
+            RawTerm::FreshVariable(name) => self.fresh.number(name, 'n', &span).map(Term::Fresh),
             RawTerm::Numbered(number, false) => Ok(Term::Variable(*number)),
             RawTerm::Bytes(_) if !scope.exact => {
                 error(span, "bytes stand only in a run that is [exact]", "")

@@ -10,6 +10,9 @@ use tool::bytes;
 use tool::case::{cases, Case, Choice};
 use tool::text;
 
+/// The tool's version, which reports name.
+pub const VERSION: &str = env!("CARGO_PKG_VERSION");
+
 /// The repository's folder.
 pub fn root() -> PathBuf {
     Path::new(env!("CARGO_MANIFEST_DIR")).join("../..")
