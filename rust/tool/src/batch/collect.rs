@@ -172,7 +172,7 @@ fn keep_case(setup: &Setup, done: &Done, place: usize, folder: usize) -> Result<
     keep(
         &setup.keep[folder].folder,
         input,
-        &case.name,
+        chunk.name(case),
         &setup.files(chunk, case),
     )
 }
