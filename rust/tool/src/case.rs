@@ -1,7 +1,7 @@
 //! What is ruled on: the cases of a text, or the one of a folder.
 
 use crate::bytes;
-use crate::failure::{Failure, Source};
+use crate::failure::{tell, Failure, Source};
 use crate::fill;
 use crate::kernel::{Kernel, Refusal, Ruled, Ruling};
 use crate::model::*;
@@ -382,7 +382,7 @@ pub fn folder_names(
     if names.is_some() {
         return Err(Failure::File(message));
     }
-    eprintln!("note: {message}");
+    tell(&format!("note: {message}"));
     Ok(Names::generated(protocol))
 }
 

@@ -22,7 +22,8 @@ use crate::watch::Watch;
 use clap::{CommandFactory, Parser};
 use signal_hook::consts::SIGINT;
 use signal_hook::flag;
-use std::io::Write;
+use std::borrow::Cow;
+use std::io::{IsTerminal, Write};
 use std::path::Path;
 use std::sync::atomic::{AtomicBool, Ordering};
 use std::sync::Arc;
@@ -79,9 +80,14 @@ fn run(arguments: Arguments) -> Result<i32, Failure> {
 /// Whether the reader of standard output has gone away.
 static GONE: AtomicBool = AtomicBool::new(false);
 
-/// To standard output. A reader that has gone away is no failure; any other reason ends the program.
+/// To standard output; what goes to a terminal is made visible, for all else it stays as it is. A reader that has gone away is no
+/// failure; any other reason ends the program.
 fn say(text: &str) {
     let mut out = std::io::stdout();
+    let text = match out.is_terminal() {
+        true => Cow::Owned(print::visible(text)),
+        false => Cow::Borrowed(text),
+    };
     let written = out.write_all(text.as_bytes()).and_then(|()| out.flush());
     if let Err(error) = written.or_else(ignore_closed) {
         std::process::exit(Failure::File(format!("standard output: {error}")).report());
@@ -150,9 +156,9 @@ fn check_again(given: &Check) -> Result<i32, Failure> {
             };
             return Ok(code);
         }
-        eprintln!("watching {name}; Ctrl-C ends it");
+        tell(&format!("watching {name}; Ctrl-C ends it"));
         watch.saved()?;
-        eprintln!();
+        tell("");
     }
 }
 
@@ -356,11 +362,11 @@ fn write_page(given: &Page) -> Result<i32, Failure> {
     let answers: Vec<Answer> = cases.iter().map(answer).collect();
     let (html, missing) = page::html(&answers);
     if let Some(why) = missing.first() {
-        eprintln!(
+        tell(&format!(
             "note: {} of {} pictures are missing: {why}",
             missing.len(),
             cases.len()
-        );
+        ));
     }
     write(output, html.as_bytes())?;
     let disagreements: Vec<String> = answers.iter().filter_map(Answer::disagreement).collect();

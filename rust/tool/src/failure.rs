@@ -1,8 +1,10 @@
 //! Why the tool ends without doing what it was asked, and with which exit code.
 
+use crate::model::Span;
+use crate::print::{visible, visible_with};
 use crate::text;
 use codespan_reporting::diagnostic::{Diagnostic, Label};
-use codespan_reporting::files::SimpleFile;
+use codespan_reporting::files::{self, Files, SimpleFile};
 use codespan_reporting::term::termcolor::{Buffer, ColorChoice, StandardStream, WriteColor};
 use codespan_reporting::term::{self, Chars, Config};
 use std::fmt::Display;
@@ -50,18 +52,55 @@ impl Source {
     }
 
     fn emit(&self, error: &text::Error, writer: &mut dyn WriteColor) {
-        let file = SimpleFile::new(&self.name, &self.text);
-        let label = Label::primary((), error.span.clone()).with_message(&error.label);
+        let (text, span) = visible_with(&self.text, &error.span);
+        let file = Shown {
+            file: SimpleFile::new(visible(&self.name), text),
+            column: self.line_and_column(error.span.start).1,
+        };
+        let label = Label::primary((), span).with_message(visible(&error.label));
+        let notes = error.notes.iter().map(|note| visible(note)).collect();
         let diagnostic = Diagnostic::error()
-            .with_message(&error.message)
+            .with_message(visible(&error.message))
             .with_labels(vec![label])
-            .with_notes(error.notes.clone());
+            .with_notes(notes);
         let config = Config {
             chars: Chars::ascii(),
             ..Config::default()
         };
         // Where standard error is closed there is no one to tell.
         let _ = term::emit(writer, &config, &file, &diagnostic);
+    }
+}
+
+/// A text made visible, with the column that the place of an error has in the text itself.
+struct Shown {
+    file: SimpleFile<String, String>,
+    column: usize,
+}
+
+impl<'a> Files<'a> for Shown {
+    type FileId = ();
+    type Name = &'a str;
+    type Source = &'a str;
+
+    fn name(&'a self, (): ()) -> Result<&'a str, files::Error> {
+        Ok(self.file.name())
+    }
+
+    fn source(&'a self, (): ()) -> Result<&'a str, files::Error> {
+        Ok(self.file.source())
+    }
+
+    fn line_index(&'a self, (): (), at: usize) -> Result<usize, files::Error> {
+        self.file.line_index((), at)
+    }
+
+    fn line_range(&'a self, (): (), line: usize) -> Result<Span, files::Error> {
+        self.file.line_range((), line)
+    }
+
+    fn column_number(&'a self, (): (), _: usize, _: usize) -> Result<usize, files::Error> {
+        Ok(self.column)
     }
 }
 
@@ -95,6 +134,11 @@ impl Failure {
 }
 
 fn said(message: &str, code: i32) -> i32 {
-    eprintln!("error: {message}");
+    tell(&format!("error: {message}"));
     code
+}
+
+/// To standard error.
+pub fn tell(text: &str) {
+    eprintln!("{}", visible(text));
 }

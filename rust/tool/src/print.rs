@@ -127,22 +127,41 @@ fn is_right_to_left(c: char) -> bool {
     matches!(c, '\u{590}'..='\u{8FF}' | '\u{FB1D}'..='\u{FDFF}' | '\u{FE70}'..='\u{FEFC}' | '\u{10800}'..='\u{10FFF}' | '\u{1E800}'..='\u{1EFFF}')
 }
 
-/// A text as pictures and pages show it: characters that are not seen by their numbers, and behind letters that are written from right
-/// to left the mark that keeps them from turning what follows.
+/// Keeps letters that are written from right to left from turning what follows.
+const MARK: char = '\u{200E}';
+
+/// A text as terminals, pictures and pages show it: characters that are not seen by their numbers, and a mark behind letters that are
+/// written from right to left. A text that is so already stays as it is.
 pub fn visible(text: &str) -> String {
+    visible_with(text, &(0..0)).0
+}
+
+/// The same, and where a part of the text is then.
+pub fn visible_with(text: &str, part: &Span) -> (String, Span) {
     let mut out = String::with_capacity(text.len());
-    let mut letters = text.chars().peekable();
-    while let Some(c) = letters.next() {
-        match is_unseen(c) {
-            true => out.extend(c.escape_unicode()),
-            false => out.push(c),
+    let (mut start, mut end) = (None, None);
+    let mut turned = false;
+    let mut letters = text.char_indices().peekable();
+    while let Some((at, c)) = letters.next() {
+        for (place, moved) in [(part.start, &mut start), (part.end, &mut end)] {
+            if at >= place {
+                moved.get_or_insert(out.len());
+            }
         }
-        let turns = letters.peek().copied().is_some_and(is_right_to_left);
-        if is_right_to_left(c) && !turns {
-            out.push('\u{200E}');
+        let next = letters.peek().map(|(_, next)| *next);
+        match c {
+            MARK if turned => {}
+            '\r' if next == Some('\n') => out.push(c),
+            c if is_unseen(c) => out.extend(c.escape_unicode()),
+            c => out.push(c),
+        }
+        turned = is_right_to_left(c);
+        if turned && !next.is_some_and(is_right_to_left) {
+            out.push(MARK);
         }
     }
-    out
+    let part = start.unwrap_or(out.len())..end.unwrap_or(out.len());
+    (out, part)
 }
 
 /// A number with commas: 1,234,567.

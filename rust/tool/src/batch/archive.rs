@@ -1,14 +1,13 @@
 //! The cases of a tar archive. Members NAME/protocol.bin, NAME/property.bin and NAME/graph.bin (or steps.bin) in a row are a case; all else is
 //! passed over. An archive that is cut off or damaged is a fault at its byte, never an end.
 
-use super::chunk::{At, Case, Feed, FILES, GRAPH};
+use super::chunk::{At, Feed, Ranges, FILES, GRAPH};
 use super::input::is_graph;
 use crate::failure::Failure;
 use std::cell::{Cell, RefCell};
 use std::collections::hash_map::DefaultHasher;
 use std::hash::{Hash, Hasher};
-use std::io::{self, Read};
-use std::ops::Range;
+use std::io::{self, BufRead, ErrorKind, Read, Seek, SeekFrom};
 use std::rc::Rc;
 
 pub enum Fault {
@@ -34,25 +33,54 @@ struct Place {
 }
 
 struct Counted {
-    inner: Box<dyn Read>,
+    inner: Box<dyn BufRead>,
     place: Rc<Place>,
 }
 
 impl Read for Counted {
     fn read(&mut self, buffer: &mut [u8]) -> io::Result<usize> {
         let read = self.inner.read(buffer);
-        match &read {
-            Ok(0) => self.place.ended.set(!buffer.is_empty()),
-            Ok(count) => self.place.read.set(self.place.read.get() + *count as u64),
-            Err(error) => {
-                self.place.error.replace(Some(error.to_string()));
-            }
+        if !buffer.is_empty() {
+            self.place.note(&read);
         }
         read
     }
 }
 
+/// What the archive skips is passed over where it is buffered, and not copied. Of a stream that can be done ahead only.
+impl Seek for Counted {
+    fn seek(&mut self, to: SeekFrom) -> io::Result<u64> {
+        let SeekFrom::Current(ahead @ 0..) = to else {
+            return Err(ErrorKind::Unsupported.into());
+        };
+        let mut left = ahead as usize;
+        while left > 0 {
+            let there = self.inner.fill_buf().map(|bytes| left.min(bytes.len()));
+            self.place.note(&there);
+            match there? {
+                0 => return Err(ErrorKind::UnexpectedEof.into()),
+                count => {
+                    self.inner.consume(count);
+                    left -= count;
+                }
+            }
+        }
+        Ok(self.place.read.get())
+    }
+}
+
 impl Place {
+    /// What reading has answered.
+    fn note(&self, read: &io::Result<usize>) {
+        match read {
+            Ok(0) => self.ended.set(true),
+            Ok(count) => self.read.set(self.read.get() + *count as u64),
+            Err(error) => {
+                self.error.replace(Some(error.to_string()));
+            }
+        }
+    }
+
     /// The fault that made reading the archive fail.
     fn fault(&self, error: io::Error) -> Fault {
         let read = self.read.get();
@@ -70,7 +98,7 @@ impl Place {
 
 /// Feeds the cases of an archive, the input of this place.
 pub fn cases(
-    stream: Box<dyn Read>,
+    stream: Box<dyn BufRead>,
     input: usize,
     bare: bool,
     feed: &mut Feed,
@@ -82,7 +110,7 @@ pub fn cases(
     };
     let mut archive = tar::Archive::new(inner);
     let mut members = Members::new(input, bare, feed);
-    let entries = archive.entries().map_err(|e| place.fault(e))?;
+    let entries = archive.entries_with_seek().map_err(|e| place.fault(e))?;
     for entry in entries {
         let mut entry = entry.map_err(|e| place.fault(e))?;
         members.member(&mut entry, &place)?;
@@ -126,7 +154,7 @@ struct Members<'a> {
     /// The case that is under way: its name, the byte where it begins, its files, and where these begin in the chunk.
     name: Vec<u8>,
     at: u64,
-    files: [Option<Range<usize>>; 4],
+    files: Ranges,
     start: usize,
 }
 
@@ -199,19 +227,15 @@ impl<'a> Members<'a> {
         self.cases_seen = true;
         let name = match self.name.is_empty() {
             true => ".".into(),
-            false => String::from_utf8_lossy(&self.name).into_owned(),
+            false => String::from_utf8_lossy(&self.name),
         };
         if !self.names.is_new(&name) {
             let message = format!("the case {name} was there before; each name stands once, and a case's files in a row");
             return Err(Fault::At(self.at, message));
         }
-        let case = Case {
-            input: self.input,
-            name,
-            files,
-            at: At::Here,
-        };
-        let fed = self.feed.case(case, self.start);
+        let fed = self
+            .feed
+            .case(self.input, &name, files, self.start, At::Here);
         self.start = self.feed.chunk.bytes.len();
         fed.map_err(Fault::Stopped)
     }

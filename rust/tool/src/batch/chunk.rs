@@ -36,13 +36,15 @@ pub enum At {
     Graph(PathBuf),
 }
 
+/// Where a case's files are in the chunk's bytes.
+pub type Ranges = [Option<Range<usize>>; 4];
+
 pub struct Case {
     /// The place of its input among all.
     pub input: usize,
-    /// Its name within the input.
-    pub name: String,
-    /// Where its files are in the chunk's bytes.
-    pub files: [Option<Range<usize>>; 4],
+    /// Where its name is in the chunk's names.
+    name: Range<usize>,
+    pub files: Ranges,
     pub at: At,
 }
 
@@ -52,10 +54,17 @@ pub struct Chunk {
     /// Its cases are in the report that is resumed.
     pub old: bool,
     pub bytes: Vec<u8>,
+    /// In one piece of memory: pieces of their own would be taken on one thread and given back on another, and the two wait for each other.
+    names: String,
     pub cases: Vec<Case>,
 }
 
 impl Chunk {
+    /// A case's name within its input.
+    pub fn name(&self, case: &Case) -> &str {
+        &self.names[case.name.clone()]
+    }
+
     pub fn file(&self, case: &Case, which: usize) -> Option<&[u8]> {
         case.files[which].clone().map(|range| &self.bytes[range])
     }
@@ -100,8 +109,15 @@ impl Feed {
         }
     }
 
-    /// A case whose bytes, if they are here, begin at this place of the chunk.
-    pub fn case(&mut self, case: Case, start: usize) -> Result<(), Failure> {
+    /// A case whose bytes, if they are here, begin at the `start` of the chunk's.
+    pub fn case(
+        &mut self,
+        input: usize,
+        name: &str,
+        files: Ranges,
+        start: usize,
+        at: At,
+    ) -> Result<(), Failure> {
         let place = self.seen;
         self.seen += 1;
         if !self.shard.has(place) {
@@ -109,7 +125,15 @@ impl Feed {
             return Ok(());
         }
         self.taken += 1;
-        self.chunk.cases.push(case);
+        let Chunk { names, cases, .. } = &mut self.chunk;
+        let from = names.len();
+        names.push_str(name);
+        cases.push(Case {
+            input,
+            name: from..names.len(),
+            files,
+            at,
+        });
         // A chunk's cases are all old or all new.
         match self.chunk.is_full() || self.taken == self.old {
             true => self.flush(),

@@ -8,7 +8,7 @@ use super::report::*;
 use super::resume::Old;
 use super::rule::{kept, Done, Setup};
 use crate::arguments::FailOn;
-use crate::failure::Failure;
+use crate::failure::{tell, Failure};
 use crate::print::grouped;
 use std::collections::BTreeMap;
 use std::sync::atomic::{AtomicUsize, Ordering};
@@ -137,12 +137,15 @@ impl Collector {
         if ended.is_ok() || totals.cases > 0 {
             let new = totals.cases.saturating_sub(self.resumed);
             let rate = grouped(rate(new, seconds));
-            eprintln!("{}; {seconds:.1} s, {rate} a second", words(totals));
+            let words = words(totals);
+            tell(&format!("{words}; {seconds:.1} s, {rate} a second"));
         }
         if let Ended::Signal(signal) = ended? {
             if let Some(report) = &given.report {
                 let report = report.display();
-                eprintln!("interrupted: --resume goes on behind the cases that {report} has");
+                tell(&format!(
+                    "interrupted: --resume goes on behind the cases that {report} has"
+                ));
             }
             return Ok(128 + signal as i32);
         }
@@ -172,7 +175,7 @@ fn keep_case(setup: &Setup, done: &Done, place: usize, folder: usize) -> Result<
     keep(
         &setup.keep[folder].folder,
         input,
-        &case.name,
+        chunk.name(case),
         &setup.files(chunk, case),
     )
 }

@@ -1,7 +1,7 @@
 //! Folders, lists, tar files and streams: what is given, and its cases one after another.
 
 use super::archive;
-use super::chunk::{At, Case, Feed, FILES};
+use super::chunk::{At, Feed, Ranges, FILES};
 use crate::case::{GRAPH_FILE, PROPERTY_FILE, PROTOCOL_FILE, STEPS_FILE};
 use crate::failure::Failure;
 use flate2::read::MultiGzDecoder;
@@ -15,7 +15,7 @@ use std::sync::atomic::{AtomicU64, Ordering};
 use std::sync::Arc;
 
 /// Reads of a file or stream at once.
-const BUFFER: usize = 256 << 10;
+const BUFFER: usize = 128 << 10;
 
 pub enum Kind {
     /// Standard input.
@@ -181,7 +181,7 @@ pub fn feed(
                 let file = File::open(&input.path).map_err(|e| Failure::file(&input.path, e))?;
                 archive_cases(file, &input.name, place, bare, read, feed)
             }
-            Kind::Case => folder_case(&input.path, ".".into(), place, feed),
+            Kind::Case => folder_case(&input.path, ".", place, feed),
             Kind::Cases(names) => folder_cases(&input.path, names, place, feed),
         };
         // What was read before a fault is ruled on.
@@ -193,19 +193,12 @@ pub fn feed(
     feed.flush()
 }
 
-fn folder_case(path: &Path, name: String, input: usize, feed: &mut Feed) -> Result<(), Failure> {
+fn folder_case(path: &Path, name: &str, input: usize, feed: &mut Feed) -> Result<(), Failure> {
     let at = match is_graph(name.as_bytes()) && !path.is_dir() {
         true => At::Graph(path.into()),
         false => At::Folder(path.into()),
     };
-    let files = Default::default();
-    let case = Case {
-        input,
-        name,
-        files,
-        at,
-    };
-    feed.case(case, 0)
+    feed.case(input, name, Ranges::default(), 0, at)
 }
 
 fn folder_cases(
@@ -216,7 +209,7 @@ fn folder_cases(
 ) -> Result<(), Failure> {
     for name in names {
         let path = folder.join(name);
-        folder_case(&path, name.to_string_lossy().into_owned(), input, feed)?;
+        folder_case(&path, &name.to_string_lossy(), input, feed)?;
     }
     Ok(())
 }
@@ -247,7 +240,7 @@ fn archive_cases(
     }
     let packed = start.starts_with(&[0x1F, 0x8B]);
     let raw = Cursor::new(start).chain(raw);
-    let stream: Box<dyn Read> = match packed {
+    let stream: Box<dyn BufRead> = match packed {
         true => Box::new(BufReader::with_capacity(BUFFER, MultiGzDecoder::new(raw))),
         false => Box::new(BufReader::with_capacity(BUFFER, raw)),
     };

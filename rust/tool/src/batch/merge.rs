@@ -4,7 +4,7 @@ use super::arguments::Merge;
 use super::input::listed;
 use super::report::*;
 use crate::arguments::FailOn;
-use crate::failure::Failure;
+use crate::failure::{tell, Failure};
 use std::collections::HashSet;
 use std::path::{Path, PathBuf};
 
@@ -21,7 +21,7 @@ pub fn merge(given: &Merge) -> Result<i32, Failure> {
     if let Some(path) = &given.summary {
         Summary::new(&header, &totals, None).write(path)?;
     }
-    eprintln!("{}", words(&totals));
+    tell(&words(&totals));
     let (attack, refused) = (totals.attack > 0, totals.refused > 0);
     Ok(FailOn::code(&given.fail_on, attack, refused))
 }

@@ -68,7 +68,7 @@ pub fn rule(mut chunk: Chunk, setup: &Setup, kernel: &mut Kernel) -> Done {
         say_head(
             &mut done.lines,
             &setup.inputs[case.input].name,
-            &case.name,
+            chunk.name(case),
             &files,
         );
         if chunk.old {
