@@ -137,9 +137,9 @@ fn a_number_is_judged_by_its_place() {
         *counts.entry((*file as u32, place, form)).or_insert(0) += 1;
     }
     println!("{counts:#?}");
-    // Of a protocol 8 places, of a property 7, of a graph 6, of steps 5, of a term 3; a fit one has no fresh name in a rule and no
+    // Of a protocol 8 places, of a property 8, of a graph 6, of steps 5, of a term 3; a fit one has no fresh name in a rule and no
     // variable in a value.
-    assert_eq!(counts.len(), FORMS.len() * (8 + 7 + 6 + 5 + 3));
+    assert_eq!(counts.len(), FORMS.len() * (8 + 8 + 6 + 5 + 3));
     assert!(counts.values().all(|count| *count >= 10));
 }
 

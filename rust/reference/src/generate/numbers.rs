@@ -19,7 +19,9 @@ pub enum Place {
     Persistence,
     Sort,
     Symbol,
+    /// Of a term.
     Tag,
+    FormulaTag,
     Variable,
     PublicName,
     FreshName,
@@ -125,7 +127,7 @@ fn rule(numbers: &mut Numbers, rule: &Rule) {
 }
 
 fn formula(numbers: &mut Numbers, whole: &Formula) {
-    numbers.push((Place::Tag, whole.tag()));
+    numbers.push((Place::FormulaTag, whole.tag()));
     match whole {
         Formula::False => {}
         Formula::Equal(left, right) | Formula::Unequal(left, right) => {
