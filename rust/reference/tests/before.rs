@@ -202,6 +202,9 @@ fn real_protocols() {
     let mut rulings = 0;
     for entry in std::fs::read_dir(real).unwrap() {
         let folder = entry.unwrap().path();
+        if !folder.is_dir() {
+            continue;
+        }
         let file = |name: &str| std::fs::read(folder.join(name)).unwrap_or_default();
         let (protocol, property, graph) = (
             file("protocol.bin"),

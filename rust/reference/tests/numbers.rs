@@ -137,10 +137,10 @@ fn a_number_is_judged_by_its_place() {
         *counts.entry((*file as u32, place, form)).or_insert(0) += 1;
     }
     println!("{counts:#?}");
-    // Of a protocol 8 places, of a property 7, of a graph 6, of steps 5, of a term 3; a fit one has no fresh name in a rule and no
+    // Of a protocol 8 places, of a property 8, of a graph 6, of steps 5, of a term 3; a fit one has no fresh name in a rule and no
     // variable in a value.
-    assert_eq!(counts.len(), FORMS.len() * (8 + 7 + 6 + 5 + 3));
-    assert!(counts.values().all(|count| *count >= 20));
+    assert_eq!(counts.len(), FORMS.len() * (8 + 8 + 6 + 5 + 3));
+    assert!(counts.values().all(|count| *count >= 10));
 }
 
 /// The names of a term, public and fresh.
@@ -284,30 +284,38 @@ fn has_name(steps: &[Step], rules: impl Fn(u32) -> bool, name: impl Fn(u32) -> b
     })
 }
 
+/// Checks a graph or draws steps; the protocol, the nodes and the outcome.
+fn ruled(random: &mut Random, checking: bool) -> ([Vec<u8>; 2], Outcome) {
+    if checking {
+        let input = check_input(random);
+        let mut work = vec![0; input.work];
+        let outcome = check(&input.protocol, &input.property, &input.graph, &mut work);
+        return ([input.protocol, input.graph], outcome);
+    }
+    let input = draw_input(random);
+    let (mut output, mut work) = (vec![0; input.output], vec![0; input.work]);
+    let outcome = draw(&input.protocol, &input.steps, &mut output, &mut work);
+    ([input.protocol, input.steps], outcome)
+}
+
 /// Accepted graphs and drawn steps make wide names, know them and take them into protocol rules, and a wide name is made twice: so many of
 /// 1,000 inputs at least.
 #[test]
 fn runs_have_wide_names() {
     const INPUTS: usize = 4_000;
+    let least = [
+        ("made", 50),
+        ("in a protocol rule", 10),
+        ("the largest", 10),
+        ("known", 5),
+        ("made twice", 2),
+    ];
     let mut random = Random::new(44);
     let mut counts: BTreeMap<&str, usize> = BTreeMap::new();
+    let wide = |number| number >= LEAST_WIDE;
     for number in 0..INPUTS {
-        let ([protocol, bytes], outcome) = match number % 2 {
-            0 => {
-                let input = check_input(&mut random);
-                let mut work = vec![0; input.work];
-                let outcome = check(&input.protocol, &input.property, &input.graph, &mut work);
-                ([input.protocol, input.graph], outcome)
-            }
-            _ => {
-                let input = draw_input(&mut random);
-                let (mut output, mut work) = (vec![0; input.output], vec![0; input.work]);
-                let outcome = draw(&input.protocol, &input.steps, &mut output, &mut work);
-                ([input.protocol, input.steps], outcome)
-            }
-        };
+        let ([protocol, bytes], outcome) = ruled(&mut random, number % 2 == 0);
         let mut count = |what, holds: bool| *counts.entry(what).or_default() += usize::from(holds);
-        let wide = |number| number >= LEAST_WIDE;
         match outcome {
             Outcome::Refused(Refusal { number: 9, item }) => {
                 let steps = steps_of(&protocol, &bytes);
@@ -317,25 +325,18 @@ fn runs_have_wide_names() {
             Outcome::Refused(_) => {}
             _ => {
                 let steps = steps_of(&protocol, &bytes);
+                let largest = |number| number == LARGEST;
                 count("made", has_name(&steps, |rule| rule == 0, wide));
                 count("known", has_name(&steps, |rule| rule == 3, wide));
                 count(
                     "in a protocol rule",
                     has_name(&steps, |rule| rule > 30, wide),
                 );
-                let largest = |number| number == LARGEST;
                 count("the largest", has_name(&steps, |_| true, largest));
             }
         }
     }
     println!("{counts:#?}");
-    let least = [
-        ("made", 50),
-        ("in a protocol rule", 10),
-        ("the largest", 10),
-        ("known", 5),
-        ("made twice", 2),
-    ];
     for (what, least) in least {
         assert!(1_000 * counts[what] >= least * INPUTS, "{what}");
     }

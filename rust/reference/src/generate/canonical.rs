@@ -1,8 +1,7 @@
 //! Inputs of the call canonical form.
 
 use super::damage::{damage_file, overfill};
-use super::faults::wide;
-use super::numbers;
+use super::numbers::{self, wide};
 use super::protocols::{break_condition, fit, stretch};
 use super::terms::Material;
 use crate::calls::WORK_AREA;

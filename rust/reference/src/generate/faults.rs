@@ -1,27 +1,16 @@
 //! Faults in the nodes, the edges or the property, each meant for one cause of refusal.
 
+use super::numbers::wide;
 use super::properties::wrap;
 use super::protocols::{fact_of, nested};
 use super::runs::Step;
 use crate::graph::{Edge, MOST_EDGES};
-use crate::number::{LARGEST, LEAST_WIDE};
+use crate::number::LARGEST;
 use crate::property::{Formula, Quantifier, Sort, MOST_NESTING, MOST_NEW};
 use crate::protocol::{Protocol, K};
 use crate::random::Random;
 use crate::steps::{MOST_NODES, MOST_VALUE_SYMBOLS};
 use crate::term::*;
-
-/// A number of as many groups as there may be; without its last group it may be the given one.
-pub fn wide(random: &mut Random, number: u32) -> u32 {
-    let without = number % LEAST_WIDE;
-    let last = 1 + random.below(127) as u32;
-    *random.choose(&[
-        LEAST_WIDE,
-        without + LEAST_WIDE,
-        without + last * LEAST_WIDE,
-        LARGEST,
-    ])
-}
 
 /// A rule number that no rule has: cause 6.
 pub fn rule_number(random: &mut Random, protocol: &Protocol, steps: &mut [Step]) {

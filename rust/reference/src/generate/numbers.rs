@@ -1,11 +1,10 @@
 //! The numbers of a file, each with what it is, and one of them written in as many groups as there may be, in one more, or not in its
 //! shortest form.
 
-use super::faults::wide;
 use super::runs::Step;
 use crate::figures::MOST_GROUPS;
 use crate::graph::Edge;
-use crate::number::{self, LEAST_WIDE};
+use crate::number::{self, LARGEST, LEAST_WIDE};
 use crate::property::Formula;
 use crate::protocol::{Fact, Protocol, Rule};
 use crate::random::Random;
@@ -20,7 +19,9 @@ pub enum Place {
     Persistence,
     Sort,
     Symbol,
+    /// Of a term.
     Tag,
+    FormulaTag,
     Variable,
     PublicName,
     FreshName,
@@ -126,7 +127,7 @@ fn rule(numbers: &mut Numbers, rule: &Rule) {
 }
 
 fn formula(numbers: &mut Numbers, whole: &Formula) {
-    numbers.push((Place::Tag, whole.tag()));
+    numbers.push((Place::FormulaTag, whole.tag()));
     match whole {
         Formula::False => {}
         Formula::Equal(left, right) | Formula::Unequal(left, right) => {
@@ -165,6 +166,18 @@ pub fn encoded(numbers: &[(Place, u32)]) -> Vec<u8> {
         number::write(*each, &mut bytes);
     }
     bytes
+}
+
+/// A number of as many groups as there may be; without its last group it may be the given one.
+pub fn wide(random: &mut Random, number: u32) -> u32 {
+    let without = number % LEAST_WIDE;
+    let last = 1 + random.below(127) as u32;
+    *random.choose(&[
+        LEAST_WIDE,
+        without + LEAST_WIDE,
+        without + last * LEAST_WIDE,
+        LARGEST,
+    ])
 }
 
 /// The file with one of its numbers written otherwise, and which: any of the places that the file has, a number there, any form.

@@ -41,7 +41,7 @@ pub fn run<'a>(random: &mut Random, protocol: &'a Protocol, length: usize) -> Ru
     run_from(random, protocol, first_name, length)
 }
 
-/// Few, or a little below the ends of each number of groups.
+/// Where the numbers of new names begin: low, or a little below the end of a number of groups.
 fn first_name(random: &mut Random) -> u32 {
     let end = least_of(2 + random.below(MOST_GROUPS - 1));
     *random.choose(&[0, 0, 64, end - 5, LARGEST - 5])
