@@ -3,7 +3,7 @@
 use Prim.Native.Nat.{ℕ, _*_, _≤_, _<_}
 use mathlib.Core.List.{List}
 use mathlib.Core.Logic.{_⊎_, inl, inr}
-use mathlib.Core.Path.{_≡_, refl, ap, _∙_}
+use mathlib.Core.Path.{_≡_, ap, _∙_}
 use native.Mathlib.Omega.{arith}
 use lib.ListN.{length}
 use Rattle.lists.specs.All.Laws.{all-map}
@@ -23,7 +23,7 @@ use Rattle.checker.specs.Answer.{workNeed}
 use Rattle.checker.specs.Files.{termLimit, termItem, termRuling}
 use Rattle.checker.specs.Files.Fit.{FitFile, fit-within, fit-passed, is-fit-file}
 use Rattle.checker.specs.Files.Terms.{IsTerm}
-use Rattle.checker.specs.Canonical.{need, termOf, canonicalOutcome}
+use Rattle.checker.specs.Canonical.{need, canonicalOutcome}
 use Rattle.checker.specs.Canonical.Back.{canonical-back}
 use Rattle.checker.specs.Canonical.Cases.{no-term}
 use Rattle.checker.specs.Canonical.Files.{taken}

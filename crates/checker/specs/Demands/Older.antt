@@ -17,7 +17,7 @@ use Rattle.term.specs.Arity.{arity, tagArities}
 use Rattle.term.specs.Sizes.{mostSymbols}
 use Rattle.message.specs.Substitution.{Ground}
 use Rattle.message.specs.Canon.{canon}
-use Rattle.rewriting.specs.Table.{Ruling, passed, Ruled}
+use Rattle.rewriting.specs.Table.{passed, Ruled}
 use Rattle.rewriting.specs.Table.Laws.{refused-passed, passed-absent, passed-good}
 use Rattle.protocol.specs.Protocol.{Protocol, factArities, encodeProtocol}
 use Rattle.protocol.specs.Protocol.Limits.{ProtocolBelow}
@@ -41,7 +41,7 @@ use Rattle.property.specs.Layout.Exact.{property-exact}
 use Rattle.property.specs.Fit.{IsFit}
 use Rattle.checker.specs.Answer.{workNeed}
 use Rattle.checker.specs.Files.{protocolLimit, termLimit}
-use Rattle.checker.specs.Files.Fit.{FitFile, fit-within, fit-passed, is-fit-file}
+use Rattle.checker.specs.Files.Fit.{FitFile, fit-within, is-fit-file}
 use Rattle.checker.specs.Check.{propertyLimit, graphLimit, Checked, checked, checkOutcome}
 use Rattle.checker.specs.Check.Fit.{FitProperty}
 use Rattle.checker.specs.Check.Cases.{sized}

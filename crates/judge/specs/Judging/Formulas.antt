@@ -104,7 +104,9 @@ paired-fits : (q : Bool) (x y : Formula) (scope : List Sort) → fit scope (pair
 paired-fits true x y scope = refl
 paired-fits false x y scope = refl
 
-paired-within : (q : Bool) (x y : Formula) (ars : List ℕ) (n : ℕ) → ScopesBelow numberLimit ars n (paired q x y) → ScopesBelow numberLimit ars n x × ScopesBelow numberLimit ars n y
+paired-within :
+    (q : Bool) (x y : Formula) (ars : List ℕ) (n : ℕ) → ScopesBelow numberLimit ars n (paired q x y)
+    → ScopesBelow numberLimit ars n x × ScopesBelow numberLimit ars n y
 paired-within true x y ars n w = w
 paired-within false x y ars n w = w
 

@@ -11,6 +11,7 @@ use Rattle.octets.specs.Splice.{splice}
 use Rattle.octets.specs.Splice.Laws.{length-splice, part-splice, splice-before}
 use Rattle.lists.specs.All.{All}
 use Rattle.term.specs.Arity.{tagArities, padded}
+use Rattle.term.specs.Arity.Laws.{length-padded, tag-arities-length}
 use Rattle.protocol.specs.Protocol.{Fact, Rule, Own, Protocol, factArities, encodeRule}
 use Rattle.protocol.specs.Protocol.Limits.{RuleWithin, Within}
 use Rattle.protocol.specs.Protocol.Limits.Parts.{FactWithin, FactsWithin}
@@ -24,7 +25,7 @@ use Rattle.rules.specs.Numbered.Limits.{rule-within}
 use Rattle.protocol.specs.Figures.{symbolCount}
 use Rattle.prepared.specs.Sections.{slotCount, ruleCount, aritiesAt, linearsAt, placesAt, fileAt, fileLimit, cellAt, builtinAt, bodyLength}
 use Rattle.prepared.specs.Prepared.{slotsOf, aritiesOf, linearsOf, linears, linear, placeAt, RuleAt, Some, Entry, Body}
-use Rattle.prepared.specs.Prepared.Laws.{length-padded, tag-arities-length, padded-in, arities-length}
+use Rattle.prepared.specs.Prepared.Laws.{padded-in, arities-length}
 use Rattle.prepared.specs.Filling.{Laid, Lies, Row, written, in-file, missing, Rows, BodyAs}
 use Rattle.prepared.specs.Filling.Lists.{splice-lies, lies-kept, lies-section, lies-there}
 use Rattle.prepared.specs.Filling.Numbers.{row-kept}

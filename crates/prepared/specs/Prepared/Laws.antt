@@ -3,10 +3,9 @@ use Prim.Native.Nat.{ℕ, zero, suc, _+_, _≤_, _<_}
 use mathlib.Core.List.{List, [], _∷_}
 use mathlib.Core.Path.{_≡_, refl, ap, sym, _∙_}
 use native.Mathlib.Omega.{arith}
-use lib.ListN.{length, getD, take, drop, length-drop, length-map, length-append}
+use lib.ListN.{length, getD, take, drop, length-drop, length-map}
 use lib.Seq.{getD-drop, getD-take, length-take-le}
-use Rattle.term.specs.Tags.{tagCount, mostFunctions}
-use Rattle.term.specs.Arity.{padded, tagArities, builtin}
+use Rattle.term.specs.Arity.{padded}
 use Rattle.octets.specs.Head.{Bytes}
 use Rattle.protocol.specs.Protocol.{Fact, Own, Protocol, factArities, factFlags}
 use Rattle.protocol.specs.Protocol.Exact.{facts-exact}
@@ -16,15 +15,6 @@ use Rattle.prepared.specs.Sections.{slotCount, aritiesAt, linearsAt, bod
 use Rattle.prepared.specs.Prepared.{slotsOf, aritiesOf, linears, Body, preparedFacts}
 
 -- ── a list with 255 behind it ──
-pub length-padded : (n : ℕ) (l : List ℕ) → length (padded n l) ≡ n
-length-padded zero l = refl
-length-padded (suc n) [] = ap suc (length-padded n [])
-length-padded (suc n) (a ∷ l) = ap suc (length-padded n l)
-
-pub tag-arities-length : (free : List ℕ) → length (tagArities free) ≡ tagCount
-unfolding tagArities
-tag-arities-length free = length-append builtin (padded mostFunctions free) ∙ omega (arith, length-padded mostFunctions free)
-
 pub padded-in : (n : ℕ) (l : List ℕ) (j : ℕ) → length l ≤ n → j < length l → getD (padded n l) j 0 ≡ getD l j 0
 padded-in zero l j h k = absurd (omega arith)
 padded-in (suc n) [] j h k = absurd (omega arith)

@@ -11,7 +11,8 @@ use Rattle.number.specs.Reading.{got, andThen, readNumber, below, many, counted
 use Rattle.number.specs.Reading.Laws.{cut-got, then-got}
 use Rattle.number.specs.Reading.Numbers.{below-yes}
 use Rattle.term.specs.Arity.{padded}
-use Rattle.prepared.specs.Prepared.Laws.{padded-in, length-padded}
+use Rattle.term.specs.Arity.Laws.{length-padded}
+use Rattle.prepared.specs.Prepared.Laws.{padded-in}
 use Rattle.property.specs.Figures.{andTag, existsTag, formulaTags, mostNew, mostScope, mostNesting}
 use Rattle.property.specs.Formula.{Atom, Formula, Pattern, pattern-of, absurdity}
 use Rattle.property.specs.Layout.{Timed, Head, termAt, sortAt, equalAt, timesAt}

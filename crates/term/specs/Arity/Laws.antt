@@ -11,6 +11,7 @@ use borrow.Author.Tests.{le-ltb, eq-eqb, ne-eqb}
 use Rattle.lists.specs.Choice.{cut-lt, cut-eq, by-size, pick-same, clash}
 use Rattle.lists.specs.All.{All}
 use Rattle.lists.specs.All.Laws.{all-at, all-append}
+use Rattle.term.specs.Tags.{mostFunctions, tagCount}
 use Rattle.term.specs.Arity.{undeclared, arity, builtin, padded, tagArities}
 
 -- a slot in the table, and past its end
@@ -55,10 +56,14 @@ unfolding tagArities
 slot-builtin free f h = List·getD-append builtin (padded 16 free) undeclared f h
 
 -- ── the tags of functions, and the most arguments that one takes ──
-padded-length : (n : ℕ) (l : List ℕ) → length (padded n l) ≡ n
-padded-length zero l = refl
-padded-length (suc n) [] = ap suc (padded-length n [])
-padded-length (suc n) (a ∷ l) = ap suc (padded-length n l)
+pub length-padded : (n : ℕ) (l : List ℕ) → length (padded n l) ≡ n
+length-padded zero l = refl
+length-padded (suc n) [] = ap suc (length-padded n [])
+length-padded (suc n) (a ∷ l) = ap suc (length-padded n l)
+
+pub tag-arities-length : (free : List ℕ) → length (tagArities free) ≡ tagCount
+unfolding tagArities
+tag-arities-length free = length-append builtin (padded mostFunctions free) ∙ omega (arith, length-padded mostFunctions free)
 
 -- what a slot says where a function has an arity
 arity-slot : (l : List ℕ) (f n : ℕ) → arity l f ≡ some n → (getD l f undeclared ≡ undeclared → ⊥) × (getD l f undeclared ≡ n)
@@ -66,21 +71,22 @@ unfolding arity
 arity-slot l f n e =
     cut-lt _ _ _ f 3 e (λ h e. clash (cc)) (λ h e. cut-eq _ _ _ (getD l f undeclared) undeclared e (λ u e. clash (cc)) (λ u e. (u, (cc))))
 
-pub tag-few : (free : List ℕ) (f n : ℕ) → arity (tagArities free) f ≡ some n → f < 29
-unfolding tagArities
+pub tag-few : (free : List ℕ) (f n : ℕ) → arity (tagArities free) f ≡ some n → f < tagCount
 tag-few free f n e =
-    let l = builtin ++ padded 16 free in
-    by-size f 29 (λ h. h) (λ h.
-    absurd (arity-slot l f n e .0 (sym (slot-outside l f (omega (arith, length-append builtin (padded 16 free), padded-length 16 free))))))
+    by-size f tagCount (λ h. h) (λ h.
+    absurd (arity-slot (tagArities free) f n e .0 (sym (slot-outside (tagArities free) f (omega (arith, tag-arities-length free))))))
 
 module _ (most : ℕ) where
   -- no function, or a small arity
   abbrev Small : ℕ → Type 0
   Small a = (a ≡ undeclared → ⊥) → a ≤ most
 
+  none-small : Small undeclared
+  none-small u = absurd (u refl)
+
   padded-small : (n : ℕ) (l : List ℕ) → All (λ a. a ≤ most) l → All Small (padded n l)
   padded-small zero l h = tt
-  padded-small (suc n) [] h = ((λ u. absurd (u refl)), padded-small n [] h)
+  padded-small (suc n) [] h = (none-small, padded-small n [] h)
   padded-small (suc n) (a ∷ l) h = ((λ u. h .0), padded-small n l (h .1))
 
   -- two built-in arguments at most, and as many as are declared
@@ -89,15 +95,21 @@ module _ (most : ℕ) where
   arity-most two free h f n e =
       let l = builtin ++ padded 16 free in
       let (u, q) = arity-slot l f n e in
-      let s = all-at Small undeclared (λ u. absurd (u refl)) l (all-append Small builtin (padded 16 free) builtin-small (padded-small 16 free h)) f u in
+      let s = all-at Small undeclared none-small l (all-append Small builtin (padded 16 free) builtin-small (padded-small 16 free h)) f u in
       omega (arith, q, s)
     where
       none : Small undeclared
-      none u = absurd (u refl)
+      none = none-small
 
-      small : (a : ℕ) → a ≤ 2 → Small a
-      small a h u = omega arith
+      nullary : Small 0
+      nullary u = omega arith
+
+      unary : Small 1
+      unary u = omega arith
+
+      binary : Small 2
+      binary u = two
 
       builtin-small : All Small builtin
       builtin-small =
-          (none, (none, (none, (small 0 (omega arith), (small 2 (omega arith), (small 2 (omega arith), (small 1 (omega arith), (small 2 (omega arith), (small 1 (omega arith), (small 1 (omega arith), (small 2 (omega arith), (small 1 (omega arith), (small 2 (omega arith), tt)))))))))))))
+          (none, (none, (none, (nullary, (binary, (binary, (unary, (binary, (unary, (unary, (binary, (unary, (binary, tt)))))))))))))
