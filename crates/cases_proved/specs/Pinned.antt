@@ -22,7 +22,7 @@ pub mod Rules
 -- the figures of the files, each at its most and one past it; the numbers of tags, symbols, sorts and flags
 pub mod Limits
 pub mod Edges
--- numbers of four groups and of five, wherever a number stands
+-- numbers of four groups at each kind of place, and of five at some
 pub mod Groups
 -- which sources the writer takes
 pub mod Sources
