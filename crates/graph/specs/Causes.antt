@@ -3,6 +3,7 @@ use Prim.Native.Nat.{ℕ}
 use mathlib.Core.List.{List, _++_}
 use mathlib.Core.Path.{_≡_}
 use Rattle.lists.specs.All.{All}
+use Rattle.number.specs.Groups.{numberLimit}
 use Rattle.rewriting.specs.Table.{Ruling, Row, andThen, rowsAfter}
 use Rattle.rewriting.specs.Checker.{checkGraph}
 use Rattle.protocol.specs.Protocol.{Protocol}
@@ -10,7 +11,7 @@ use Rattle.steps.specs.Values.{NodeRight, valueRows}
 use Rattle.steps.specs.Runs.{protocolFacts, rewrittens}
 use Rattle.steps.specs.Runs.Equations.{AcceptedSame, graphRowsSame}
 use Rattle.steps.specs.Causes.{graphItem, readRows, readRuling, valueRuling}
-use Rattle.graph.specs.Graph.{Graph, GraphWithin, encodeGraph, graph}
+use Rattle.graph.specs.Graph.{Graph, GraphBelow, encodeGraph, graph}
 -- the ruling is what the rows say, and passes just the dependency graphs
 pub mod Laws
 
@@ -31,8 +32,12 @@ module _ (p : Protocol) where
 
   -- "a graph is accepted exactly when it is a dependency graph of its protocol in document 01's forms and sizes": the file is the
   -- encoding of nodes and edges within the sizes, the values are right and the filled-in terms fit, and it is accepted by the equations
-  pub record DependencyGraph (file : List ℕ) (g : Graph) : Type 0 where
-    pub within : GraphWithin p g
+  pub record DependencyBelow (limit : ℕ) (file : List ℕ) (g : Graph) : Type 0 where
+    pub within : GraphBelow limit p g
     pub bytes : file ≡ encodeGraph g
     pub right : All (NodeRight p) (g .nodes)
     pub accepted : AcceptedSame p (g .nodes) (g .edges)
+
+  -- with the numbers that a file can hold
+  abbrev pub DependencyGraph : List ℕ → Graph → Type 0
+  DependencyGraph = DependencyBelow numberLimit

@@ -11,11 +11,10 @@ use Rattle.lists.specs.All.{All}
 use Rattle.octets.specs.Head.{Bytes}
 use Rattle.octets.specs.Splice.{splice}
 use Rattle.number.specs.Groups.{base, numberLimit}
-use Rattle.term.specs.Term.{Term, encode, symbols, Formed, Below}
+use Rattle.term.specs.Term.{Term, encode, symbols}
 use Rattle.term.specs.Term.Laws.{below-wider}
-use Rattle.term.specs.Arity.{arity, tagArities}
+use Rattle.term.specs.Arity.{tagArities}
 use Rattle.term.specs.Sizes.{mostSymbols}
-use Rattle.message.specs.Substitution.{Ground}
 use Rattle.message.specs.Canon.{canon}
 use Rattle.rewriting.specs.Table.{passed, Ruled}
 use Rattle.rewriting.specs.Table.Laws.{refused-passed, passed-absent, passed-good}
@@ -30,9 +29,10 @@ use Rattle.steps.specs.Nodes.Exact.{steps-back}
 use Rattle.steps.specs.Values.{NodeRight}
 use Rattle.steps.specs.WellFormed.{stepsLimit}
 use Rattle.steps.specs.Runs.{NamesOnce}
-use Rattle.steps.specs.Runs.Equations.{AcceptedSame, EarliestSame, draws-earliest-same}
-use Rattle.graph.specs.Graph.{Graph, encodeGraph, GraphBelow}
+use Rattle.steps.specs.Runs.Equations.{EarliestSame, draws-earliest-same}
+use Rattle.graph.specs.Graph.{Graph, encodeGraph}
 use Rattle.graph.specs.Graph.Wider.{graph-wider}
+use Rattle.graph.specs.Causes.{DependencyBelow}
 use Rattle.property.specs.Formula.{Formula}
 use Rattle.property.specs.Formula.Limits.{FormulaBelow}
 use Rattle.property.specs.Formula.Limits.Wider.{formula-wider}
@@ -54,7 +54,7 @@ use Rattle.checker.specs.Canonical.Cases as forms
 use Rattle.checker.specs.Canonical.Back.{canonical-back, canonical-short, term-taken}
 use Rattle.checker.specs.Canonical.Files.{encodes}
 use Rattle.checker.specs.Canonical.Laws.{Length, canonical-ruled}
-use Rattle.checker.specs.Files.Terms.{IsTerm}
+use Rattle.checker.specs.Files.Terms.{IsTermBelow, IsTerm}
 use Rattle.checker.specs.Demands.Earliest.{length-exactly}
 
 -- ── the files, by their bytes, with numbers below `limit` ──
@@ -77,10 +77,7 @@ module _ (limit : ℕ) where
     -- an accepted graph
     pub record GraphFile (file : List ℕ) (g : Graph) : Type 0 where
       pub short : length file ≤ graphLimit
-      pub bytes : file ≡ encodeGraph g
-      pub within : GraphBelow limit p g
-      pub right : All (NodeRight p) (g .nodes)
-      pub accepted : AcceptedSame p (g .nodes) (g .edges)
+      pub is : DependencyBelow p limit file g
 
     -- steps, and the graph that is drawn of them
     pub record StepsFile (file : List ℕ) (g : Graph) : Type 0 where
@@ -94,10 +91,7 @@ module _ (limit : ℕ) where
     -- a term, in a file of so many bytes at most
     pub record TermFile (most : ℕ) (file : List ℕ) (t : Term) : Type 0 where
       pub short : length file ≤ most
-      pub bytes : file ≡ encode t
-      pub within : Below limit t
-      pub formed : Formed (arity (tagArities (p .functions))) t
-      pub ground : Ground t
+      pub is : IsTermBelow limit (tagArities (p .functions)) file t
       pub few : symbols t ≤ mostSymbols
 
 -- what document 01 had: "three groups at most (2,097,151)", "Term (1,024 bytes)"
@@ -113,6 +107,12 @@ old-largest = refl
 old-smaller : oldLimit ≤ numberLimit
 unfolding numberLimit
 old-smaller = omega arith
+
+-- a fit protocol's file, with the limit of today
+protocol-file : (file : List ℕ) → Bytes file → (p : Protocol) → FitFile file p → ProtocolFile numberLimit file p
+protocol-file file is-bytes p h =
+    let r = protocol-exact file is-bytes p .0 (h .reads) in
+    record { short = h .short; bytes = r .1; within = r .0; fit = h .each }
 
 -- ── with a smaller limit they are what they are with that of today ──
 module _ (limit : ℕ) (smaller : limit ≤ numberLimit) (p : Protocol) where
@@ -146,7 +146,8 @@ module _ (limit : ℕ) (smaller : limit ≤ numberLimit) (p : Protocol) where
 
   term-now : (most : ℕ) (file : List ℕ) (t : Term) → TermFile limit p most file t → IsTerm (tagArities (p .functions)) file t
   term-now most file t h =
-      record { bytes = h .bytes; formed = h .formed; range = below-wider limit numberLimit smaller t (h .within); ground = h .ground }
+      let i = h .is in
+      record { bytes = i .bytes; formed = i .formed; range = below-wider limit numberLimit smaller t (i .range); ground = i .ground }
 
 -- ── checking ──
 module _ (protocol property graph : List ℕ) where
@@ -168,7 +169,12 @@ module _ (protocol property graph : List ℕ) where
           fit = protocol-now limit smaller p protocol bytes r;
           fit-property = property-now limit smaller p property protocol bytes property-bytes r f q;
           short = d .short;
-          is-graph = record { within = graph-wider limit numberLimit smaller p g (d .within); bytes = d .bytes; right = d .right; accepted = d .accepted };
+          is-graph = record {
+            within = graph-wider limit numberLimit smaller p g (d .is .within);
+            bytes = d .is .bytes;
+            right = d .is .right;
+            accepted = d .is .accepted;
+          };
         }
 
     -- a ruling is given just on these files
@@ -181,17 +187,17 @@ module _ (protocol property graph : List ℕ) where
           let a = passed-answers protocol property graph bytes property-bytes graph-bytes work c e in
           let p = a .is-protocol in
           let h = a .files in
-          let r = protocol-exact protocol bytes p .0 (h .fit .reads) in
-          let few = few-arities (p .symbols) (r .0 .few-symbols) in
+          let r = protocol-file protocol bytes p (h .fit) in
+          let few = few-arities (p .symbols) (r .within .few-symbols) in
           let q = property-exact property property-bytes (factArities (p .symbols)) (omega (arith, few)) (a .is-property) .0 (h .fit-property .reads) in
           let d = h .is-graph in (
             p,
             a .is-property,
             a .is-graph,
             record {
-              its-protocol = record { short = h .fit .short; bytes = r .1; within = r .0; fit = h .fit .each };
+              its-protocol = r;
               its-property = record { short = h .fit-property .short; bytes = q .1; within = q .0; fit = h .fit-property .fits };
-              its-graph = record { short = h .short; bytes = d .bytes; within = d .within; right = d .right; accepted = d .accepted };
+              its-graph = record { short = h .short; is = h .is-graph };
             },
             a .answer,
           )),
@@ -217,9 +223,8 @@ module _ (protocol steps : List ℕ) where
     pub drawn-exactly : (p : Protocol) (g : Graph) → Draws protocol steps p g ↔ FilesDrawn numberLimit p g
     drawn-exactly p g = (
       (λ d.
-          let r = protocol-exact protocol bytes p .0 (d .fit .reads) in
           record {
-            its-protocol = record { short = d .fit .short; bytes = r .1; within = r .0; fit = d .fit .each };
+            its-protocol = protocol-file protocol bytes p (d .fit);
             its-steps = record {
               short = d .short;
               bytes = d .its-steps;
@@ -283,20 +288,12 @@ module _ (protocol term : List ℕ) where
               let c = encodes protocol term bytes term-bytes t (l .holds) in
               let p = c .is in
               let k = is-fit-file protocol bytes p (at-most protocolLimit (length protocol) (λ m. a .1 .0 1 (refl, m))) (c .fit) in
-              let r = protocol-exact protocol bytes p .0 (k .reads) in
               let few = at-most termLimit (length term) (λ m. a .1 .1 .0 4 (refl, m)) in (
                 p,
                 t,
                 record {
-                  its-protocol = record { short = k .short; bytes = r .1; within = r .0; fit = k .each };
-                  its-term = record {
-                    short = few;
-                    bytes = c .file .bytes;
-                    within = c .file .range;
-                    formed = c .file .formed;
-                    ground = c .file .ground;
-                    few = c .small;
-                  };
+                  its-protocol = protocol-file protocol bytes p k;
+                  its-term = record { short = few; is = c .file; few = c .small };
                 },
                 l .needs,
                 by-size output (need t)

@@ -13,7 +13,7 @@ use Rattle.octets.specs.Head.{Bytes}
 use Rattle.number.specs.Groups.{numberLimit}
 use Rattle.number.specs.Reading.{got, fault}
 use Rattle.number.specs.Reading.Laws.{cut-got, then-got}
-use Rattle.term.specs.Term.{Term, encode, Formed, InRange}
+use Rattle.term.specs.Term.{Term, encode, Formed, Below}
 use Rattle.term.specs.Arity.{arity}
 use Rattle.term.specs.Reader.{term}
 use Rattle.term.specs.Reader.Exact.{term-back, term-form}
@@ -23,12 +23,16 @@ use Rattle.message.specs.Substitution.{Ground}
 use Rattle.message.specs.Substitution.Laws.{none-ground, ground-none}
 use Rattle.checker.specs.Files.{termFile}
 
--- file is the encoding of t, a formed term in range without variables
-pub record IsTerm (arities file : List ℕ) (t : Term) : Type 0 where
+-- file is the encoding of t, a formed term without variables, its numbers below a limit
+pub record IsTermBelow (limit : ℕ) (arities file : List ℕ) (t : Term) : Type 0 where
   pub bytes : file ≡ encode t
   pub formed : Formed (arity arities) t
-  pub range : InRange t
+  pub range : Below limit t
   pub ground : Ground t
+
+-- with the numbers that a file can hold
+abbrev pub IsTerm : List ℕ → List ℕ → Term → Type 0
+IsTerm = IsTermBelow numberLimit
 
 module _ (arities file : List ℕ) (bytes : Bytes file) where
   pub file-form : (t : Term) (e : ℕ) → termFile arities file ≡ got t e → IsTerm arities file t

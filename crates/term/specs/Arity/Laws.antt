@@ -98,9 +98,6 @@ module _ (most : ℕ) where
       let s = all-at Small undeclared none-small l (all-append Small builtin (padded 16 free) builtin-small (padded-small 16 free h)) f u in
       omega (arith, q, s)
     where
-      none : Small undeclared
-      none = none-small
-
       nullary : Small 0
       nullary u = omega arith
 
@@ -112,4 +109,4 @@ module _ (most : ℕ) where
 
       builtin-small : All Small builtin
       builtin-small =
-          (none, (none, (none, (nullary, (binary, (binary, (unary, (binary, (unary, (unary, (binary, (unary, (binary, tt)))))))))))))
+          (none-small, (none-small, (none-small, (nullary, (binary, (binary, (unary, (binary, (unary, (unary, (binary, (unary, (binary, tt)))))))))))))
