@@ -7,13 +7,14 @@ use mathlib.Core.Bool.{true, false}
 use mathlib.Core.Option.{some}
 use native.Mathlib.Omega.{arith}
 use Rattle.term.specs.Sizes.{termRoom}
-use Rattle.term.specs.Tags.{decTag, fstTag, sndTag, expTag, oneTag, invTag, mulTag}
+use Rattle.term.specs.Tags.{expTag, oneTag, invTag, mulTag}
 use Rattle.lists.specs.Asks.{Asks, Asks₂, Promises, Promises₂}
 use Rattle.lists.specs.Choice.{clash}
 use Rattle.octets.specs.Splice.Prefix.{Wrote, widen}
 use Rattle.term.specs.Term.{Term, app, Terms, nil, _&_, count, encode}
 use Rattle.term.specs.Arity.{arity}
 use Rattle.message.specs.Table.{rules}
+use Rattle.message.specs.Table.Laws.{Ruleless}
 use Rattle.message.specs.Functions.{exp}
 use Rattle.message.specs.Canon.{apply}
 use Rattle.message.specs.Gather.{multiplied}
@@ -72,13 +73,13 @@ module _ (arities out : List ℕ) (o e : ℕ) where
 
   -- ── a function without a rule ──
   pub free-done :
-      (tag : ℕ) → isProduct tag ≡ false → tag ≢ expTag → tag ≢ decTag → tag ≢ fstTag → tag ≢ sndTag → Promises (Built arities out o e tag)
+      (tag : ℕ) → (isProduct tag ≡ false) × (tag ≢ expTag) × Asks (Built arities out o e tag) → Ruleless tag → Promises (Built arities out o e tag)
       (λ (us : Terms). Wrote e out o out e (encode (apply rules tag us)))
-  free-done tag p d a b c us h =
+  free-done tag (p, d, asked) n us h =
       let other : (g : ℕ) → isProduct g ≡ true → tag ≢ g =
       λ g t q. let z : true ≡ false = sym t ∙ ap isProduct (sym q) ∙ p in clash (cc) in
       let q : apply rules tag us ≡ app tag us = made-free (arity arities) (group arities (h .table)) tag us
-      (record { no-one = other oneTag refl; no-exp = d; no-inv = other invTag refl; no-mul = other mulTag refl }) a b c in
+      (record { no-one = other oneTag refl; no-exp = d; no-inv = other invTag refl; no-mul = other mulTag refl }) n in
       subst (λ (t : Term). Wrote e out o out e (encode t)) (sym q) (as-written out o e (encode (app tag us)) (h .here .stands))
 
   -- ── inside the function around ──

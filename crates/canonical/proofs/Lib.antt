@@ -6,7 +6,9 @@ pub mod Writes
 pub mod Parts
 -- a leaf
 pub mod Leaves
--- dec, fst and snd
+-- a rule's patterns against arguments
+pub mod Matching
+-- the subterm rules
 pub mod Rules
 -- a run of terms, one by one; a leaf in it
 pub mod Making

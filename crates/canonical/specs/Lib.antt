@@ -12,3 +12,5 @@ pub mod Contract
 pub mod First
 -- what the inner functions are asked, and what they promise
 pub mod Inner
+-- a rule's patterns against arguments
+pub mod Matching

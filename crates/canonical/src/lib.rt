@@ -11,10 +11,11 @@ ghost use Rattle.octets.specs.Head.{Stands};
 ghost use Rattle.canonical.specs.First.{FirstAt};
 ghost use Rattle.message.specs.Filled.{filleds};
 ghost use Rattle.message.specs.Substitution.{sub, subs};
-ghost use Rattle.term.specs.Tags.{decTag, fstTag, sndTag, expTag};
+ghost use Rattle.term.specs.Tags.{decTag, fstTag, sndTag, expTag, adecTag, verifyTag};
+ghost use Rattle.term.specs.Arity.{arity};
 ghost use Rattle.term.specs.Sizes.{termRoom};
 ghost use Rattle.term.specs.Term.{Kind, Term, Terms, leaf, encode, encodes};
-ghost use Rattle.lists.specs.Asks.{Asks, Asks₂, Promises, Promises₂};
+ghost use Rattle.lists.specs.Asks.{Asks, Asks₂, Asks₃, Promises, Promises₂, Promises₃};
 ghost use Rattle.octets.specs.Splice.Prefix.{Wrote};
 ghost use Rattle.number.specs.Groups.{groups, numberLimit};
 ghost use Rattle.message.specs.Table.{rules};
@@ -22,6 +23,7 @@ ghost use Rattle.message.specs.Canon.{apply, canon};
 ghost use Rattle.canonical.specs.Loose.{isProduct, beside, closed, mades};
 ghost use Rattle.canonical.specs.Contract.{Job, Out, MessageAt, MessageIs, formRoom};
 ghost use Rattle.canonical.specs.Inner.{LeafJob, Here, Built, Going};
+ghost use Rattle.canonical.specs.Matching.{Left, Stepped, Fits, Given, Ruled};
 use term::Part;
 use term::Symbol;
 
@@ -50,6 +52,23 @@ struct Head {
     tag: usize,
     number: usize,
     next: usize,
+}
+
+// As many variables as a rule has at most, and the tag of one.
+const VARIABLES: usize = 2;
+
+const A_VARIABLE: u8 = term::VARIABLE as u8;
+
+// Where patterns and arguments go on behind a symbol; or the arguments are no instance.
+enum Match {
+    On(usize, usize),
+    Nothing,
+}
+
+fn wide(x: u8) -> usize
+    ensures { λ r. ⌜ r ≡ x ⌝ }
+{
+    x as usize
 }
 
 // The first symbol of the term at a place.
@@ -89,15 +108,12 @@ fn end_of(src: &[u8], arities: &[u8], at: usize) -> usize
     }
 }
 
-// Whether the terms at two places are the same.
-fn same_terms(src: &[u8], arities: &[u8], i: usize, j: usize) -> bool
-    requires { ⌜ length (now src) ≤ longest ⌝ }
-    ensures { λ r. ⌜ Promises₂ (Here (now (arities .entry)) (now (src .entry)) i) (λ (d : ℕ) (x : Term). Promises₂ (Here (now (arities .entry)) (now (src .entry)) j) (λ (e : ℕ) (y : Term). r ≡ isEqual (compareBytes (encode x) (encode y)))) ⌝ }
+// Whether the term at a place has the bytes from one place up to another.
+fn again(src: &[u8], arities: &[u8], from: usize, to: usize, at: usize) -> bool
+    requires { ⌜ (length (now src) ≤ longest) × (from ≤ to) × (to ≤ length (now src)) ⌝ }
+    ensures { λ r. ⌜ Promises (λ (x : Term). Here (now (arities .entry)) (now (src .entry)) from to x) (λ (x : Term). Promises₂ (Here (now (arities .entry)) (now (src .entry)) at) (λ (e : ℕ) (y : Term). r ≡ isEqual (compareBytes (encode x) (encode y)))) ⌝ }
 {
-    octets::same_bytes(
-        term::term_part(src, arities, i),
-        term::term_part(src, arities, j),
-    )
+    octets::same_bytes(&src[from..to], term::term_part(src, arities, at))
 }
 
 // Moves the bytes from one place up to another down to o, and gives the place behind them.
@@ -156,67 +172,229 @@ fn put_leaf(
     put_number(out, a, number)
 }
 
-// dec(enc(x, y), y) is x.
-fn unlock(out: &mut [u8], o: usize, e: usize, arities: &[u8]) -> usize
-    requires { ⌜ Asks (Built (now arities) (now out) o e decTag) ⌝ }
-    ensures { λ r. ⌜ Promises (Built (now (arities .entry)) (now (out .entry)) o e decTag) (λ (us : Terms). Wrote e (now (out .entry)) o (now (out .exit)) r (encode (apply rules decTag us))) ⌝ }
+// The place behind the argument at a place: where no pattern is left it is the last, and ends at e. A leaf of a small number, as most are, is told by
+// its bytes.
+fn argument_end(out: &[u8], arities: &[u8], at: usize, e: usize, left: usize) -> usize
+    requires { ⌜ (length (now out) ≤ longest) × Asks₂ (Here (now arities) (now out) at) ⌝ }
+    ensures { λ r. ⌜ Promises₂ (Here (now (arities .entry)) (now (out .entry)) at) (λ (d : ℕ) (t : Term). (left ≡ 0 → d ≡ e) → r ≡ d) ⌝ }
 {
-    let c = first(out, arities, o + 1);
-    if c.tag != term::ENC {
+    if left == 0 {
         return e;
     }
-    let message = c.next;
-    let key = end_of(out, arities, message);
-    let given = end_of(out, arities, key);
-    if same_terms(out, arities, key, given) {
-        return move_to(out, o, message, key);
+    let tag = out[at];
+    if tag < factors::FIRST_FUNCTION {
+        let number = out[at + 1];
+        if number < number::TOP_BIT {
+            return at + factors::SHORT_LEAF;
+        }
+    }
+    end_of(out, arities, at)
+}
+
+// One symbol of the patterns against the arguments. A function's tag must be the same. A variable's value is what stands at its first place; at a
+// further one it must stand again.
+fn step(
+    out: &[u8],
+    arities: &[u8],
+    at: usize,
+    e: usize,
+    patterns: &[u8],
+    i: usize,
+    from: &mut [usize; VARIABLES],
+    to: &mut [usize; VARIABLES],
+) -> Match
+    requires { ⌜ (i < length (now patterns)) × Asks₃ (Left (now arities) (now out) e (now patterns) i at (now from) (now to)) ⌝ }
+    ensures { λ r. ⌜ Promises₃ (Left (now (arities .entry)) (now (out .entry)) e (now (patterns .entry)) i at (now (from .entry)) (now (to .entry))) (Stepped (now (arities .entry)) (now (out .entry)) e (now (patterns .entry)) i at (now (from .entry)) (now (to .entry)) (now (from .exit)) (now (to .exit)) r) ⌝ }
+{
+    let tag = patterns[i];
+    if tag != A_VARIABLE {
+        if out[at] != tag {
+            return Match::Nothing;
+        }
+        return Match::On(i + 1, at + 1);
+    }
+    let v = wide(patterns[i + 1]);
+    let next = i + 2;
+    let end = to[v];
+    if end == 0 {
+        let behind = argument_end(out, arities, at, e, patterns.len() - next);
+        from[v] = at;
+        to[v] = behind;
+        return Match::On(next, behind);
+    }
+    let start = from[v];
+    if again(out, arities, start, end, at) {
+        return Match::On(next, at + (end - start));
+    }
+    Match::Nothing
+}
+
+// Whether the arguments at a place, up to e, are an instance of the patterns; and where the values of the variables stand.
+fn fits(
+    out: &[u8],
+    arities: &[u8],
+    at: usize,
+    e: usize,
+    patterns: &[u8],
+    from: &mut [usize; VARIABLES],
+    to: &mut [usize; VARIABLES],
+) -> bool
+    requires { ⌜ Asks₃ (Left (now arities) (now out) e (now patterns) 0 at (now from) (now to)) ⌝ }
+    ensures { λ r. ⌜ Promises₃ (Left (now (arities .entry)) (now (out .entry)) e (now (patterns .entry)) 0 at (now (from .entry)) (now (to .entry))) (Fits (now (arities .entry)) (now (out .entry)) at (now (to .entry)) (now (from .exit)) (now (to .exit)) r) ⌝ }
+{
+    let mut i = 0;
+    let mut a = at;
+    while i < patterns.len() {
+        match step(out, arities, a, e, patterns, i, from, to) {
+            Match::On(j, b) => {
+                i = j;
+                a = b;
+            }
+            Match::Nothing => {
+                return false;
+            }
+        }
+    }
+    true
+}
+
+// Writes a rule's result: the value of a variable moved down, or a constant.
+fn put_result(
+    out: &mut [u8],
+    o: usize,
+    result: &[u8],
+    from: &[usize; VARIABLES],
+    to: &[usize; VARIABLES],
+) -> usize
+    requires { ⌜ Asks (Given (now out) o (now result) (now from) (now to)) ⌝ }
+    ensures { λ r. ⌜ Promises (Given (now (out .entry)) o (now (result .entry)) (now (from .entry)) (now (to .entry))) (λ (q : List ℕ). Wrote r (now (out .entry)) o (now (out .exit)) r q) ⌝ }
+{
+    if result[0] == A_VARIABLE {
+        let v = wide(result[1]);
+        return move_to(out, o, from[v], to[v]);
+    }
+    octets::copy_into(out, o, result)
+}
+
+// A function of made arguments by its rule: its result where the arguments are an instance of the rule's patterns.
+fn rewrite(
+    out: &mut [u8],
+    o: usize,
+    e: usize,
+    arities: &[u8],
+    patterns: &[u8],
+    result: &[u8],
+) -> usize
+    requires { ⌜ Asks₂ (Ruled (now arities) (now out) o e (now patterns) (now result)) ⌝ }
+    ensures { λ r. ⌜ Promises₂ (Ruled (now (arities .entry)) (now (out .entry)) o e (now (patterns .entry)) (now (result .entry))) (λ (f : ℕ) (us : Terms). Wrote e (now (out .entry)) o (now (out .exit)) r (encode (apply rules f us))) ⌝ }
+{
+    let mut from = [0usize; VARIABLES];
+    let mut to = [0usize; VARIABLES];
+    if fits(out, arities, o + 1, e, patterns, &mut from, &mut to) {
+        return put_result(out, o, result, &from, &to);
     }
     e
 }
 
+// The same, where the byte of the first function tells most others.
+fn by_rule(
+    out: &mut [u8],
+    o: usize,
+    e: usize,
+    arities: &[u8],
+    patterns: &[u8],
+    result: &[u8],
+) -> usize
+    requires { ⌜ Asks₂ (Ruled (now arities) (now out) o e (now patterns) (now result)) ⌝ }
+    ensures { λ r. ⌜ Promises₂ (Ruled (now (arities .entry)) (now (out .entry)) o e (now (patterns .entry)) (now (result .entry))) (λ (f : ℕ) (us : Terms). Wrote e (now (out .entry)) o (now (out .exit)) r (encode (apply rules f us))) ⌝ }
+{
+    if 0 < patterns.len() {
+        let tag = patterns[0];
+        if tag != A_VARIABLE {
+            if out[o + 1] != tag {
+                return e;
+            }
+        }
+    }
+    rewrite(out, o, e, arities, patterns, result)
+}
+
+// The rows: a rule's patterns and its result, in the layout of the files; a further rule is one more row. Each is a function of its own, since a
+// function stores all its byte strings where it begins.
+// dec(enc(x, y), y) is x.
+fn by_dec(out: &mut [u8], o: usize, e: usize, arities: &[u8]) -> usize
+    requires { ⌜ Asks (Built (now arities) (now out) o e decTag) ⌝ }
+    ensures { λ r. ⌜ Promises (Built (now (arities .entry)) (now (out .entry)) o e decTag) (λ (us : Terms). Wrote e (now (out .entry)) o (now (out .exit)) r (encode (apply rules decTag us))) ⌝ }
+{
+    by_rule(
+        out,
+        o,
+        e,
+        arities,
+        b"\x04\x00\x00\x00\x01\x00\x01",
+        b"\x00\x00",
+    )
+}
+
 // fst(pair(x, y)) is x.
-fn left(out: &mut [u8], o: usize, e: usize, arities: &[u8]) -> usize
+fn by_fst(out: &mut [u8], o: usize, e: usize, arities: &[u8]) -> usize
     requires { ⌜ Asks (Built (now arities) (now out) o e fstTag) ⌝ }
     ensures { λ r. ⌜ Promises (Built (now (arities .entry)) (now (out .entry)) o e fstTag) (λ (us : Terms). Wrote e (now (out .entry)) o (now (out .exit)) r (encode (apply rules fstTag us))) ⌝ }
 {
-    let c = first(out, arities, o + 1);
-    if c.tag != term::PAIR {
-        return e;
-    }
-    let x = c.next;
-    let y = end_of(out, arities, x);
-    move_to(out, o, x, y)
+    by_rule(out, o, e, arities, b"\x07\x00\x00\x00\x01", b"\x00\x00")
 }
 
 // snd(pair(x, y)) is y.
-fn right(out: &mut [u8], o: usize, e: usize, arities: &[u8]) -> usize
+fn by_snd(out: &mut [u8], o: usize, e: usize, arities: &[u8]) -> usize
     requires { ⌜ Asks (Built (now arities) (now out) o e sndTag) ⌝ }
     ensures { λ r. ⌜ Promises (Built (now (arities .entry)) (now (out .entry)) o e sndTag) (λ (us : Terms). Wrote e (now (out .entry)) o (now (out .exit)) r (encode (apply rules sndTag us))) ⌝ }
 {
-    let c = first(out, arities, o + 1);
-    if c.tag != term::PAIR {
-        return e;
-    }
-    let x = c.next;
-    let y = end_of(out, arities, x);
-    move_to(out, o, y, e)
+    by_rule(out, o, e, arities, b"\x07\x00\x00\x00\x01", b"\x00\x01")
 }
 
-// The function of a tag, no product function and no exp, of canonical arguments.
+// adec(aenc(x, pk(y)), y) is x.
+fn by_adec(out: &mut [u8], o: usize, e: usize, arities: &[u8]) -> usize
+    requires { ⌜ Asks (Built (now arities) (now out) o e adecTag) ⌝ }
+    ensures { λ r. ⌜ Promises (Built (now (arities .entry)) (now (out .entry)) o e adecTag) (λ (us : Terms). Wrote e (now (out .entry)) o (now (out .exit)) r (encode (apply rules adecTag us))) ⌝ }
+{
+    by_rule(
+        out,
+        o,
+        e,
+        arities,
+        b"\x1d\x00\x00\x1f\x00\x01\x00\x01",
+        b"\x00\x00",
+    )
+}
+
+// verify(sign(x, y), x, pk(y)) is true.
+fn by_verify(out: &mut [u8], o: usize, e: usize, arities: &[u8]) -> usize
+    requires { ⌜ Asks (Built (now arities) (now out) o e verifyTag) ⌝ }
+    ensures { λ r. ⌜ Promises (Built (now (arities .entry)) (now (out .entry)) o e verifyTag) (λ (us : Terms). Wrote e (now (out .entry)) o (now (out .exit)) r (encode (apply rules verifyTag us))) ⌝ }
+{
+    by_rule(
+        out,
+        o,
+        e,
+        arities,
+        b"\x20\x00\x00\x00\x01\x00\x00\x1f\x00\x01",
+        b"\x22",
+    )
+}
+
+// The function of a tag, no product function and no exp, of canonical arguments: by its row, if it has one.
 fn reduce(out: &mut [u8], o: usize, e: usize, tag: usize, arities: &[u8]) -> usize
     requires { ⌜ (isProduct tag ≡ false) × (tag ≢ expTag) × Asks (Built (now arities) (now out) o e tag) ⌝ }
     ensures { λ r. ⌜ Promises (Built (now (arities .entry)) (now (out .entry)) o e tag) (λ (us : Terms). Wrote e (now (out .entry)) o (now (out .exit)) r (encode (apply rules tag us))) ⌝ }
 {
-    if tag == term::DEC {
-        return unlock(out, o, e, arities);
+    match tag {
+        term::DEC => by_dec(out, o, e, arities),
+        term::FST => by_fst(out, o, e, arities),
+        term::SND => by_snd(out, o, e, arities),
+        term::ADEC => by_adec(out, o, e, arities),
+        term::VERIFY => by_verify(out, o, e, arities),
+        _ => e,
     }
-    if tag == term::FST {
-        return left(out, o, e, arities);
-    }
-    if tag == term::SND {
-        return right(out, o, e, arities);
-    }
-    e
 }
 
 // The function of a tag, of made arguments. A product function inside a product stays as it stands, and so does an exp that is the base of an

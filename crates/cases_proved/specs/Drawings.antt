@@ -15,7 +15,7 @@ use Rattle.message.specs.Canon.{apply}
 use Rattle.rewriting.specs.Table.{Ruling, passed, refused}
 use Rattle.rewriting.specs.Graph.{Edge}
 use Rattle.protocol.specs.Protocol.{ruleTerm, fact, facts, layout, rule, own, protocol}
-use Rattle.rules.specs.Numbered.{ruleOf, fixed}
+use Rattle.rules.specs.Numbered.{ruleOf, numbered, fixed}
 use Rattle.steps.specs.Nodes.{node-of, node, nodesFrom, nodeList, steps}
 use Rattle.steps.specs.Facts.{sameFact, sameTerm, sameTerms}
 use Rattle.steps.specs.WellFormed.{stepsLimit}
@@ -72,7 +72,7 @@ Drawn steps r = graphDrawn printed-protocol steps ≡ r
 computed :
     Drawn printed-nodes (passed four-drawn) × Drawn three-steps (passed three-drawn) × Drawn received-again (refused 14 4) × Drawn made-again (refused 9 2)
 unfolding protocol rule layout facts fact own ruleTerm term termIn symbolAt arity tagArities
-    stepsUnder steps nodeList nodesFrom node ruleOf fixed sameFact sameTerms sameTerm apply
+    stepsUnder steps nodeList nodesFrom node ruleOf numbered fixed sameFact sameTerms sameTerm apply
     many counted below readNumber readIn groups groupsIn numberLimit allBelow
 computed = (refl, refl, refl, refl)
 

@@ -10,6 +10,8 @@ pub mod Lines
 pub mod Messages
 -- and as the bytes that canonical form writes
 pub mod Forms
+-- signatures and public keys, likewise by the equations and the words of the canonical form
+pub mod Signatures
 -- 80 01 is 128, 80 00 refused
 pub mod Numbers
 -- "Shut out": what a checker and a canonical form cannot be, from the cases

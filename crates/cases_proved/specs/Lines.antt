@@ -20,7 +20,7 @@ use Rattle.rewriting.specs.Table.{Ruling, passed, refused, Ruled, andThen}
 use Rattle.rewriting.specs.Table.Laws.{passed-good}
 use Rattle.protocol.specs.Protocol.{Protocol, own-of, protocol-of, ruleTerm, fact, facts, layout, rule, own, protocol}
 use Rattle.protocol.specs.Example as protocols
-use Rattle.rules.specs.Numbered.{ruleOf, fixed}
+use Rattle.rules.specs.Numbered.{ruleOf, numbered, fixed}
 use Rattle.steps.specs.Nodes.{node, nodesFrom, nodeList}
 use Rattle.steps.specs.Facts.{sameFact, sameTerm, sameTerms}
 use Rattle.graph.specs.Graph.{place, edge, edgeList, graph}
@@ -121,7 +121,7 @@ computed :
     × Printed not-earlier (refused 10 3) × Printed facts-differ (refused 11 3) × Printed received-twice (refused 13 2)
 unfolding protocol rule layout facts fact own ruleTerm term termIn symbolAt arity tagArities
     property formulaAt scopedAt headAt timedAt factAt sortAt termAt
-    graphRuling graph edgeList edge place nodeList nodesFrom node ruleOf fixed
+    graphRuling graph edgeList edge place nodeList nodesFrom node ruleOf numbered fixed
     truth sameFact sameTerms sameTerm apply
     many counted below readNumber readIn groups groupsIn numberLimit allBelow
 computed = (refl, refl, refl, refl, refl, refl)

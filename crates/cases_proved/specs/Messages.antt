@@ -12,7 +12,7 @@ use Rattle.octets.specs.declared.Order.the-variants.{Less, Equal, Greater}
 use Rattle.term.specs.Term.{public, fresh, Kind, Term, leaf, app, nil, _&_, Formed}
 use Rattle.term.specs.Arity.{arity, tagArities}
 use Rattle.message.specs.Functions.{one, enc, dec, exp, inv, mul}
-use Rattle.message.specs.Equations.{Same, equation, reflexive, transitive, congruent, same-none, same-more, dec-enc}
+use Rattle.message.specs.Equations.{Same, equation, reflexive, transitive, congruent, same-none, same-more, figure, dec-enc}
 use Rattle.message.specs.Equations.Laws.{same-formed, widen}
 use Rattle.message.specs.Product.{empty, part, order}
 use Rattle.message.specs.Canonical.{Settled, Canonical, product, noFactor, factor, name, node, noArg, arg}
@@ -34,7 +34,7 @@ abbrev pub fn : ℕ → Term
 fn n = leaf fresh n
 
 -- ── small canonical terms ──
-leaf-canonical : (k : Kind) (n : ℕ) → Canonical (leaf k n)
+pub leaf-canonical : (k : Kind) (n : ℕ) → Canonical (leaf k n)
 leaf-canonical k n = factor-canonical Settled name
 
 -- under another key
@@ -43,6 +43,8 @@ dec-settled t u v n = record {
   no-dec = λ m k e. n (cc);
   no-fst = λ x y e. absurd (omega (arith, tag e));
   no-snd = λ x y e. absurd (omega (arith, tag e));
+  no-adec = λ m k e. absurd (omega (arith, tag e));
+  no-verify = λ m k e. absurd (omega (arith, tag e));
   no-exp = λ x y z e. absurd (omega (arith, tag e));
   no-exp-one = λ x e. absurd (omega (arith, tag e));
 }
@@ -52,6 +54,8 @@ exp-settled j k m n = record {
   no-dec = λ m k e. absurd (omega (arith, tag e));
   no-fst = λ x y e. absurd (omega (arith, tag e));
   no-snd = λ x y e. absurd (omega (arith, tag e));
+  no-adec = λ m k e. absurd (omega (arith, tag e));
+  no-verify = λ m k e. absurd (omega (arith, tag e));
   no-exp = λ x y z e. clash (cc);
   no-exp-one = λ x e. clash (cc);
 }
@@ -71,7 +75,7 @@ over-canonical m n Greater e h =
     (factor name (factor name noFactor))
 
 module _ (free : List ℕ) where
-  abbrev σ : Theory
+  abbrev pub σ : Theory
   σ = theory (arity (tagArities free)) (declared free)
 
   -- u is the canonical form of t
@@ -137,7 +141,7 @@ module _ (free : List ℕ) where
         let u : Formed (σ .arity) (dec (enc m (mul a b)) (mul a b)) = (refl, (w, (_⊗_ σ A B .1, tt))) in
         record {
           same = transitive (congruent v (same-more (reflexive w) (same-more (widen tabled-figure (⊗-comm σ B A)) same-none)))
-              (equation u tt (dec-enc m (mul a b)));
+              (equation u tt (figure (dec-enc m (mul a b))));
           canonical = leaf-canonical fresh mi;
         }
 
@@ -149,7 +153,7 @@ module _ (free : List ℕ) where
           same = reflexive w;
           canonical = two-canonical 5 (enc m a) b (omega arith) (omega arith) (omega arith)
               (two-canonical 4 m a (omega arith) (omega arith) (omega arith) (leaf-canonical fresh mi) (leaf-canonical fresh ai)
-              (free-settled 4 (m & a & nil) (omega arith) (omega arith) (omega arith) (omega arith)))
+              (free-settled 4 (m & a & nil) (omega arith) (omega arith) (omega arith) (omega arith) (omega arith) (omega arith)))
               (leaf-canonical fresh bi) (dec-settled m a b (λ e. n (cc)));
         }
 

@@ -12,6 +12,7 @@ use Rattle.cases_proved.specs.Pinned.Edges as edges
 use Rattle.cases_proved.specs.Pinned.Groups as groups
 use Rattle.cases_proved.specs.Pinned.Sources as sources
 use Rattle.cases_proved.specs.Pinned.Equations as equations
+use Rattle.cases_proved.specs.Pinned.Signatures as signatures
 use Rattle.cases_proved.specs.Pinned.Properties as properties
 -- what a row claims, and how it is computed
 pub mod Row
@@ -28,6 +29,8 @@ pub mod Groups
 pub mod Sources
 -- which messages are equal and which are canonical
 pub mod Equations
+-- signatures and public keys
+pub mod Signatures
 -- the forms of a property, each by traces that make it true and traces that make it false
 pub mod Properties
 
@@ -45,6 +48,7 @@ parts =
     ∷ record { rows = groups.rows; rows-hold = groups.rows-hold }
     ∷ record { rows = sources.rows; rows-hold = sources.rows-hold }
     ∷ record { rows = equations.rows; rows-hold = equations.rows-hold }
+    ∷ record { rows = signatures.rows; rows-hold = signatures.rows-hold }
     ∷ record { rows = properties.rows; rows-hold = properties.rows-hold }
     ∷ []
 

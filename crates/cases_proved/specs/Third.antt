@@ -17,7 +17,7 @@ use Rattle.term.specs.Reader.{symbolAt, term, termIn}
 use Rattle.message.specs.Canon.{apply}
 use Rattle.rewriting.specs.Table.{Ruling, Ruled, passed, refused}
 use Rattle.rewriting.specs.Table.Laws.{refused-passed, passed-inj, passed-good}
-use Rattle.rules.specs.Numbered.{ruleOf, fixed}
+use Rattle.rules.specs.Numbered.{ruleOf, numbered, fixed}
 use Rattle.steps.specs.Nodes.{Node, node-of, read, node, nodesFrom, nodeList, steps}
 use Rattle.steps.specs.Nodes.Exact.{steps-form}
 use Rattle.steps.specs.Values.{NodeRight, valueRows}
@@ -72,7 +72,7 @@ Passing file xs = (steps its-protocol file ≡ read xs (length file)) × (valueR
 computed :
     Passing printed-nodes (of-rules (0 ∷ 31 ∷ 1 ∷ 2 ∷ [])) × Passing received-again (of-rules (0 ∷ 31 ∷ 1 ∷ 1 ∷ []))
     × Passing made-again (of-rules (0 ∷ 0 ∷ []))
-unfolding steps nodeList nodesFrom node ruleOf fixed term termIn symbolAt arity tagArities apply
+unfolding steps nodeList nodesFrom node ruleOf numbered fixed term termIn symbolAt arity tagArities apply
     many below readNumber readIn groups groupsIn numberLimit allBelow
 computed = ((refl, refl), (refl, refl), (refl, refl))
 

@@ -96,7 +96,7 @@ pub nodes-attack :
     → (truth p xs f ≡ false) ↔ ¬ NodesHold p fit f xs within values
 nodes-attack p fit f fits xs within values = fails-exactly (truth-holds p fit xs within values f fits)
 
--- ── 2: "Two messages count as equal exactly when the paper's ten equations make them equal." ──
+-- ── 2: "Two messages count as equal exactly when the paper's ten equations make them equal", from Change 4 on all twelve ──
 -- the test of two messages, and that of two facts of nodes
 pub messages-equal : (free : List ℕ) (m n : Message (arities free)) → (messages free .same m n ≡ true) ↔ SameMessage (arities free) m n
 messages-equal free m n = messages free .decides m n

@@ -21,7 +21,7 @@ use term::Symbol;
 // The tags that are told by their byte: mul, and those of leaves, which are below.
 const MUL: u8 = term::MUL as u8;
 
-const FIRST_FUNCTION: u8 = term::FIRST_FUNCTION as u8;
+pub const FIRST_FUNCTION: u8 = term::FIRST_FUNCTION as u8;
 
 // The bytes of a leaf whose number is one byte.
 pub const SHORT_LEAF: usize = 2;

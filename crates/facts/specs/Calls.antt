@@ -29,7 +29,7 @@ use Rattle.facts.specs.Writing.{factRoom, Has, wantedBytes, Put}
 pub mod Laws
 -- facts are the same just where their symbols and canonical bytes are; facts that are equal as they stand are
 pub mod Bytes
--- what the answers mean by the ten equations
+-- what the answers mean by the equations
 pub mod Meaning
 -- numbers from 0 here, from 1 in crate rewriting
 pub mod Numbers
@@ -90,7 +90,7 @@ pub record FactWritten (q : Wanted) (out : List ℕ) (o : ℕ) (out′ : List �
 abbrev pub TellsFacts : Protocol → Fact → Fact → Bool → Type 0
 TellsFacts P f g r = Reflects (SameFact (arity (tagArities (P .functions))) f g) r
 
--- "Two messages count as equal exactly when the paper's ten equations make them equal": whether two are
+-- "Two messages count as equal exactly when the paper's ten equations make them equal", from Change 4 on all twelve: whether two are
 abbrev pub TellsTerms : Protocol → Term → Term → Bool → Type 0
 TellsTerms P t u r = Reflects (Same (arity (tagArities (P .functions))) t u) r
 

@@ -1,14 +1,17 @@
--- "Equality is the least congruence of document 003, figure 2". What a reader must believe of equality is in this file.
+-- "Equality is the least congruence of document 003, figure 2"; document 02, Change 4: "Message equality is from then on the congruence of all twelve
+-- equations". What a reader must believe of equality is in this file.
 use Prim.Native.Nat.{ℕ}
 use mathlib.Core.Option.{Option}
 use Rattle.term.specs.Term.{Term, app, Terms, nil, _&_, Formed}
-use Rattle.message.specs.Functions.{one, enc, dec, pair, fst, snd, exp, inv, mul}
+use Rattle.message.specs.Functions.{one, enc, dec, pair, fst, snd, exp, inv, mul, aenc, adec, pk, sign, verify, yes}
 -- its laws
 pub mod Laws
 -- it is the least
 pub mod Least
 -- and so it is on messages alone
 pub mod Messages
+-- between terms of document 01's functions it is what the ten equations alone make it
+pub mod Older
 
 -- figure 2, equations (1) to (10), each side as it stands there
 pub data Figure2 : Term → Term → Type 0 where
@@ -22,6 +25,12 @@ pub data Figure2 : Term → Term → Type 0 where
   inv-inv : (x : Term) → Figure2 (inv (inv x)) x
   exp-exp : (x y z : Term) → Figure2 (exp (exp x y) z) (exp x (mul y z))
   exp-one : (x : Term) → Figure2 (exp x one) x
+
+-- "The equations are adec(aenc(m,pk(k)),k)=m and verify(sign(m,k),m,pk(k))=true": the figure's ten and these two
+pub data Twelve : Term → Term → Type 0 where
+  figure : {t u : Term} → Figure2 t u → Twelve t u
+  adec-aenc : (m k : Term) → Twelve (adec (aenc m (pk k)) k) m
+  verify-sign : (m k : Term) → Twelve (verify (sign m k) m (pk k)) yes
 
 -- the least congruence, on the terms that are well formed under an arity for each tag, that holds the equations E; every term on
 -- the way is well formed
@@ -38,6 +47,6 @@ mutual
     same-none : Congruences ar E nil nil
     same-more : {t u : Term} {ts us : Terms} → Congruence ar E t u → Congruences ar E ts us → Congruences ar E (t & ts) (u & us)
 
--- "Two messages count as equal exactly when the paper's ten equations make them equal."
+-- "Two messages count as equal exactly when the paper's ten equations make them equal", and from Change 4 on all twelve
 abbrev pub Same : (ℕ → Option ℕ) → Term → Term → Type 0
-Same ar t u = Congruence ar Figure2 t u
+Same ar t u = Congruence ar Twelve t u

@@ -4,7 +4,7 @@
 -- ── definitions ──
 -- the built-in functions by their names
 pub mod Functions
--- figure 2's ten equations, and equality: their least congruence
+-- figure 2's ten equations, the two behind them, and equality: their least congruence
 pub mod Equations
 -- products: factors with exponents, their order, and how they are written
 pub mod Product
@@ -19,7 +19,7 @@ pub mod Whole
 pub mod Encoding
 -- the equations as a table, and what is asked of its rows
 pub mod Rules
--- the rows of figure 2, and that table, figure and words agree
+-- the rows of subterm rules, and that table, equations and words agree
 pub mod Table
 -- a term as a product
 pub mod Parts

@@ -4,13 +4,12 @@ use mathlib.Core.Path.{_≡_, refl, sym, _∙_, ap}
 use mathlib.Core.Logic.{_≢_}
 use mathlib.Core.Option.{Option, some}
 use lib.ListN.{length}
-use Rattle.term.specs.Tags.{oneTag, decTag, fstTag, sndTag, expTag, invTag, mulTag}
+use Rattle.term.specs.Tags.{oneTag, expTag, invTag, mulTag}
 use Rattle.term.specs.Term.{Term, app, Terms, nil, _&_, Formed, encode}
-use Rattle.message.specs.Functions.{enc, dec, pair, fst, snd}
 use Rattle.message.specs.Substitution.{sub, subs}
 use Rattle.message.specs.Rules.{Rule, Ordinary, FitArities}
-use Rattle.message.specs.Table.{x, y, rules}
-use Rattle.message.specs.Table.Laws.{values, figure-fit, theory, no-rule}
+use Rattle.message.specs.Table.{rules}
+use Rattle.message.specs.Table.Laws.{figure-fit, theory, Ruleless, no-rule}
 use Rattle.message.specs.Parts.{Role}
 use Rattle.message.specs.Canon.{asBinary, reduceAt, applyAt, apply}
 use Rattle.message.specs.Canon.Views.{ordinary-role, reduce-hit, Plainly, stays, reduces, plainly}
@@ -24,13 +23,13 @@ module _ (ar : ℕ → Option ℕ) (g : FitArities ar) where
     made-plain : (ts : Terms) → apply rules f ts ≡ reduceAt (some r) f ts
     unfolding apply
     made-plain ts =
-        ap (λ (k : Role). applyAt rules k f ts) (ordinary-role f (figure-fit ar f r e .head))
+        ap (λ (k : Role). applyAt rules k f ts) (ordinary-role f (figure-fit ar g f r e .head))
         ∙ ap (λ (z : Option Rule). reduceAt z f ts) e
 
-    made-rule : (θ : ℕ → Term) → apply rules f (subs θ (r .args)) ≡ sub θ (r .result)
-    made-rule θ = made-plain (subs θ (r .args)) ∙ reduce-hit r f θ (figure-fit ar f r e .bound)
+    pub made-rule : (θ : ℕ → Term) → apply rules f (subs θ (r .args)) ≡ sub θ (r .result)
+    made-rule θ = made-plain (subs θ (r .args)) ∙ reduce-hit r f θ (figure-fit ar g f r e .bound)
 
-    made-stays : (ts : Terms) → ((θ : ℕ → Term) → ts ≢ subs θ (r .args)) → apply rules f ts ≡ app f ts
+    pub made-stays : (ts : Terms) → ((θ : ℕ → Term) → ts ≢ subs θ (r .args)) → apply rules f ts ≡ app f ts
     made-stays ts h = made-plain ts ∙ ap (λ (z : Option Rule). reduceAt z f ts) (sym e) ∙ go (reduceAt (rules f) f ts) (plainly rules f ts)
       where
         go : (t : Term) → Plainly rules f ts t → t ≡ app f ts
@@ -40,35 +39,11 @@ module _ (ar : ℕ → Option ℕ) (g : FitArities ar) where
             let p : r ≡ q = cc in
             absurd (h θ (m ∙ ap (λ (z : Rule). subs θ (z .args)) (sym p)))
 
-  -- ── dec, fst and snd ──
-  pub made-dec : (m k : Term) → apply rules decTag (enc m k & k & nil) ≡ m
-  made-dec m k = made-rule decTag (record { args = enc x y & y & nil; result = x }) refl (values m k)
-
-  -- the key is another, or it is no ciphertext
-  pub made-dec-stays : (c k : Term) → ((m : Term) → c ≢ enc m k) → apply rules decTag (c & k & nil) ≡ dec c k
-  made-dec-stays c k h =
-      made-stays decTag (record { args = enc x y & y & nil; result = x }) refl (c & k & nil)
-      (λ θ e. let p : c ≡ enc (θ 0) (θ 1) = cc in let q : k ≡ θ 1 = cc in h (θ 0) (p ∙ ap (enc (θ 0)) (sym q)))
-
-  pub made-fst : (a b : Term) → apply rules fstTag (pair a b & nil) ≡ a
-  made-fst a b = made-rule fstTag (record { args = pair x y & nil; result = x }) refl (values a b)
-
-  pub made-fst-stays : (c : Term) → ((a b : Term) → c ≢ pair a b) → apply rules fstTag (c & nil) ≡ fst c
-  made-fst-stays c h =
-      made-stays fstTag (record { args = pair x y & nil; result = x }) refl (c & nil) (λ θ e. h (θ 0) (θ 1) (cc))
-
-  pub made-snd : (a b : Term) → apply rules sndTag (pair a b & nil) ≡ b
-  made-snd a b = made-rule sndTag (record { args = pair x y & nil; result = y }) refl (values a b)
-
-  pub made-snd-stays : (c : Term) → ((a b : Term) → c ≢ pair a b) → apply rules sndTag (c & nil) ≡ snd c
-  made-snd-stays c h =
-      made-stays sndTag (record { args = pair x y & nil; result = y }) refl (c & nil) (λ θ e. h (θ 0) (θ 1) (cc))
-
   -- ── a function without a rule, of any arity ──
-  pub made-free : (f : ℕ) (ts : Terms) → Ordinary f → f ≢ decTag → f ≢ fstTag → f ≢ sndTag → apply rules f ts ≡ app f ts
+  pub made-free : (f : ℕ) (ts : Terms) → Ordinary f → Ruleless f → apply rules f ts ≡ app f ts
   unfolding apply
-  made-free f ts o a b c =
-      ap (λ (k : Role). applyAt rules k f ts) (ordinary-role f o) ∙ ap (λ (z : Option Rule). reduceAt z f ts) (no-rule f a b c)
+  made-free f ts o n =
+      ap (λ (k : Role). applyAt rules k f ts) (ordinary-role f o) ∙ ap (λ (z : Option Rule). reduceAt z f ts) (no-rule f n)
 
   -- ── products and exp, as gathered ──
   pub made-one : (ts : Terms) → Formed ar (app oneTag ts) → apply rules oneTag ts ≡ multiplied (app oneTag ts & nil)

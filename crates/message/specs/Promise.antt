@@ -14,7 +14,7 @@ use Rattle.octets.specs.declared.Order.{Order}
 use Rattle.octets.specs.declared.Order.the-variants.{Less, Equal, Greater}
 use Rattle.term.specs.Term.{public, fresh, Term, leaf, app, Terms, nil, _&_, count, Formed, Formeds, encode}
 use Rattle.term.specs.Arity.{arity, tagArities}
-use Rattle.message.specs.Equations.{Figure2, Same, Congruences, reflexive, symmetric, transitive, congruent, same-none, same-more}
+use Rattle.message.specs.Equations.{Twelve, Same, Congruences, reflexive, symmetric, transitive, congruent, same-none, same-more}
 use Rattle.message.specs.Substitution.{Ground, Grounds}
 use Rattle.message.specs.Substitution.Laws.{public-ground, fresh-ground}
 use Rattle.message.specs.Rules.{FitArities}
@@ -29,7 +29,7 @@ pub record Message (ar : ℕ → Option ℕ) : Type 0 where
   pub ground : Ground term
 
 module _ (ar : ℕ → Option ℕ) where
-  -- "Two messages count as equal exactly when the paper's ten equations make them equal."
+  -- "Message equality is from then on the congruence of all twelve equations"
   abbrev pub SameMessage : Message ar → Message ar → Type 0
   SameMessage m n = Same ar (m .term) (n .term)
 
@@ -104,7 +104,7 @@ module _ (ar : ℕ → Option ℕ) (g : FitArities ar) where
         λ d. ap (λ (l : List ℕ). isEqual (compareBytes (canonBytes m) l)) (sym (b .0 d)) ∙ ap isEqual (compare-refl (canonBytes m)),
       )
 
-  all-same : (ms ns : List (Message ar)) → SameMessages ar ms ns → Congruences ar Figure2 (terms ar ms) (terms ar ns)
+  all-same : (ms ns : List (Message ar)) → SameMessages ar ms ns → Congruences ar Twelve (terms ar ms) (terms ar ns)
   all-same [] [] s = same-none
   all-same [] (n ∷ ns) s = absurd s
   all-same (m ∷ ms) [] s = absurd s

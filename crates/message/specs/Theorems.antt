@@ -1,13 +1,14 @@
--- What the canonical form is: the theorems of this crate, for every arity of the tags that gives one, exp, inv and mul theirs.
+-- What the canonical form is: the theorems of this crate, for every arity of the tags that gives one, exp, inv, mul and true theirs.
 use Prim.Native.Nat.{ℕ, _≤_}
 use mathlib.Core.Path.{_≡_, refl, ap, subst}
 use mathlib.Core.Logic.{_↔_}
 use mathlib.Core.List.{List}
-use mathlib.Core.Option.{Option}
+use mathlib.Core.Option.{Option, some}
+use native.Mathlib.Omega.{arith}
 use lib.ListN.{length}
 use Rattle.term.specs.Term.{Term, Formed, InRange, encode, symbols}
 use Rattle.term.specs.Arity.{arity, tagArities}
-use Rattle.term.specs.Arity.Laws.{no-leaf}
+use Rattle.term.specs.Arity.Laws.{no-leaf, signing-arity}
 use Rattle.message.specs.Encoding.{encode-same}
 use Rattle.message.specs.Equations.{Same}
 use Rattle.message.specs.Equations.Laws.{widen}
@@ -88,4 +89,5 @@ declared free = record {
   exp-arity = refl;
   inv-arity = refl;
   mul-arity = refl;
+  true-arity = signing-arity free 5 (omega arith);
 }

@@ -12,7 +12,8 @@ use Rattle.rules.specs.Numbered.{ruleOf}
 use Rattle.rules.specs.declared.fit.FitVerdict.{FitVerdict}
 use Rattle.rules.specs.declared.fit.FitVerdict.the-variants as jd
 use Rattle.rules.specs.Numbered.{ruleRoom}
-use Rattle.prepared.specs.Sections.{builtinCount, fileLimit, placesAt, rulesAt, fileAt, cellAt, builtinAt, placeBytes}
+use Rattle.rules.specs.Numbered.Slots.{slotOf}
+use Rattle.prepared.specs.Sections.{fileLimit, placesAt, rulesAt, fileAt, cellAt, writtenAt}
 use Rattle.prepared.specs.Pairs.{paired}
 use Rattle.prepared.specs.Prepared.{placeAt, Body}
 -- bytes that stand somewhere; lists filled up with 255
@@ -53,26 +54,16 @@ Lies p at q = (j : ℕ) → j < length q → getD p (at + j) 0 ≡ getD q j 0
 module _ {arities places : List ℕ} {nr : ℕ} (f : Source arities places nr) (p : List ℕ) (n : ℕ) where
   pub data Row : Type 0 where
     written :
-        (u : Rule) → ruleOf (f .entries .is) n ≡ some u → n < builtinCount → placeAt p n ≡ builtinAt n → length (encodeRule u) ≤ ruleRoom
-        → Lies p (builtinAt n) (encodeRule u) → Row
+        (u : Rule) → ruleOf (f .entries .is) n ≡ some u → slotOf n < slotOf (n + 1) → placeAt p n ≡ writtenAt (slotOf n) → length (encodeRule u) ≤ ruleRoom
+        → Lies p (writtenAt (slotOf n)) (encodeRule u) → Row
     in-file : (u : Rule) (k e : ℕ) → ruleOf (f .entries .is) n ≡ some u → placeAt p n ≡ fileAt + k → k ≤ length (f .file) → Stands (f .file) k (encodeRule u) e
         → Row
     missing : ruleOf (f .entries .is) n ≡ none → placeAt p n ≡ 0 → Row
 
--- from rule number n on none has a place
-abbrev pub Unplaced : List ℕ → ℕ → Type 0
-Unplaced p n = (i : ℕ) → cellAt n ≤ i → i < rulesAt → getD p i 0 ≡ 0
-
--- none has one, and the sections before the places are as they were
-pub record NoPlaces (p p′ : List ℕ) : Type 0 where
-  pub before : (i : ℕ) → i < placesAt → getD p′ i 0 ≡ getD p i 0
-  pub zeros : Unplaced p′ 0
-
--- entering a number changes nothing before its two bytes, no place behind them, and of the rules written out none before its own
+-- entering a number changes nothing before its two bytes, and of the rules written out none before its own
 pub record Kept (p p′ : List ℕ) (n : ℕ) : Type 0 where
   pub low : (i : ℕ) → i < cellAt n → getD p′ i 0 ≡ getD p i 0
-  pub between : (i : ℕ) → cellAt n + placeBytes ≤ i → i < rulesAt → getD p′ i 0 ≡ getD p i 0
-  pub high : (i : ℕ) → rulesAt ≤ i → i < builtinAt n → getD p′ i 0 ≡ getD p i 0
+  pub high : (i : ℕ) → rulesAt ≤ i → i < writtenAt (slotOf n) → getD p′ i 0 ≡ getD p i 0
 
 pub record Enters {arities places : List ℕ} {nr : ℕ} (f : Source arities places nr) (p p′ : List ℕ) (n : ℕ) : Type 0 where
   pub row : Row f p′ n

@@ -1,15 +1,15 @@
 -- What code finds for a rule number in a prepared protocol: the place of its rule, or that there is none.
-use Prim.Native.Nat.{ℕ, _-_, _≤_, _<_}
+use Prim.Native.Nat.{ℕ, _≤_, _<_}
 use mathlib.Core.List.{List}
 use mathlib.Core.Option.{Option, some, none, Option·some-injective, Option·none-ne-some}
 use mathlib.Core.Path.{_≡_, refl, sym, _∙_, subst}
 use native.Mathlib.Omega.{arith}
 use Rattle.lists.specs.Choice.{by-size}
-use Rattle.lists.specs.Lists.Laws.{at-outside}
 use Rattle.protocol.specs.Protocol.{Rule, Protocol}
 use Rattle.protocol.specs.Protocol.Limits.{Within}
-use Rattle.rules.specs.Numbered.{ruleOf}
-use Rattle.rules.specs.Numbered.Found.{of-own}
+use Rattle.rules.specs.Numbered.{nothing, ruleOf}
+use Rattle.rules.specs.Numbered.Found.{of-number}
+use Rattle.rules.specs.Numbered.Map.{number-nothing}
 use Rattle.prepared.specs.declared.finding.Found.{Found}
 use Rattle.prepared.specs.declared.finding.Found.the-variants as fd
 use Rattle.prepared.specs.Sections.{ruleCount}
@@ -26,7 +26,7 @@ Finds p P n fd.Nothing = ruleOf P n ≡ none
 
 -- ── no rule has a number that the table has not ──
 pub rule-past : (P : Protocol) → Within P → (n : ℕ) → ruleCount ≤ n → ruleOf P n ≡ none
-rule-past P w n h = of-own P n (omega arith) ∙ at-outside (P .rules) (n - 31) (omega (arith, w .few-rules))
+rule-past P w n h = of-number P n nothing (number-nothing n h)
 
 pub rule-listed : (P : Protocol) → Within P → (n : ℕ) (u : Rule) → ruleOf P n ≡ some u → n < ruleCount
 rule-listed P w n u is =

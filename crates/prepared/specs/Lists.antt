@@ -34,11 +34,6 @@ pub record ListsOf (q : List ℕ) (n place : ℕ) : Type 0 where
   pub some-protocol : Asks (Body q)
   pub found : (P : Protocol) → Body q P → RuleFound q P n place
 
--- the file has so many rules
-pub record RulesIn (q : List ℕ) (nr : ℕ) (P : Protocol) : Type 0 where
-  pub body : Body q P
-  pub count : length (P .rules) ≡ nr
-
 -- ── what is written ──
 -- entry k
 abbrev pub entered : List ℕ → ℕ → ℕ → List ℕ

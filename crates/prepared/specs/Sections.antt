@@ -2,19 +2,17 @@
 use Prim.Native.Nat.{ℕ, _+_, _*_, _≤_}
 use native.Mathlib.Omega.{arith}
 use Rattle.term.specs.Tags.{tagCount}
-use Rattle.protocol.specs.Figures.{symbolCount, mostRules, listCount, mostFacts}
-use Rattle.rules.specs.Numbered.{ruleRoom, firstOwnRule}
+use Rattle.protocol.specs.Figures.{symbolCount, listCount, mostFacts}
+use Rattle.rules.specs.Numbered.{ruleRoom, numberCount}
+use Rattle.rules.specs.Numbered.Slots.{writtenCount}
 
 -- ── how many ──
--- tags; fact symbols, the four built-in ones among them; rule numbers; of these the ones below the protocol's own
+-- tags; fact symbols, the four built-in ones among them; rule numbers
 abbrev pub slotCount : ℕ
 slotCount = tagCount
 
 abbrev pub ruleCount : ℕ
-ruleCount = firstOwnRule + mostRules
-
-abbrev pub builtinCount : ℕ
-builtinCount = firstOwnRule
+ruleCount = numberCount
 
 -- three lists of each rule number; those, and eight facts of each
 abbrev pub entryCount : ℕ
@@ -53,7 +51,7 @@ abbrev pub rulesAt : ℕ
 rulesAt = placesAt + placeBytes * ruleCount
 
 abbrev pub fileAt : ℕ
-fileAt = rulesAt + ruleRoom * builtinCount
+fileAt = rulesAt + ruleRoom * writtenCount
 
 -- all but the places of the rules' lists and of their facts, which stand behind it in two bytes each
 abbrev pub bodyLength : ℕ
@@ -77,9 +75,9 @@ entryPlace k = bodyLength + placeBytes * k
 abbrev pub factRow : ℕ → ℕ
 factRow k = entryCount + mostFacts * k
 
--- the bytes of the built-in rule n
-abbrev pub builtinAt : ℕ → ℕ
-builtinAt n = rulesAt + ruleRoom * n
+-- the bytes of the rule that is written out in slot s
+abbrev pub writtenAt : ℕ → ℕ
+writtenAt s = rulesAt + ruleRoom * s
 
 -- ── each starts where the one before ends ──
 pub record Apart : Type 0 where
@@ -87,7 +85,7 @@ pub record Apart : Type 0 where
   pub arities-end : aritiesAt + symbolCount ≤ linearsAt
   pub linears-end : linearsAt + symbolCount ≤ placesAt
   pub places-end : cellAt ruleCount ≤ rulesAt
-  pub rules-end : builtinAt builtinCount ≤ fileAt
+  pub rules-end : writtenAt writtenCount ≤ fileAt
   pub file-end : fileAt + fileLimit ≤ bodyLength
   pub lists-end : entryCount ≤ factRow 0
   pub facts-end : entryPlace (factRow entryCount) ≤ preparedLength

@@ -10,9 +10,10 @@ ghost use Rattle.rules.specs.Fit.{judged};
 ghost use Rattle.rules.specs.Fit.Laws.{verdictOf};
 ghost use Rattle.protocol.specs.Figures.{symbolCount};
 ghost use Rattle.rules.specs.Numbered.{ruleRoom};
-ghost use Rattle.prepared.specs.Sections.{slotCount, ruleCount, builtinCount, fileLimit, linearsAt, builtinAt, bodyLength, placeLimit};
+ghost use Rattle.rules.specs.Numbered.Slots.{slotOf};
+ghost use Rattle.prepared.specs.Sections.{slotCount, ruleCount, fileLimit, linearsAt, writtenAt, bodyLength, placeLimit};
 ghost use Rattle.prepared.specs.Prepared.{linear, Body};
-ghost use Rattle.prepared.specs.Filling.{Source, Laid, placed, NoPlaces, Enters, Rows, WhereBody};
+ghost use Rattle.prepared.specs.Filling.{Source, Laid, placed, Enters, Rows, WhereBody};
 use crate::pairs;
 use crate::sections;
 use protocol::figures;
@@ -66,12 +67,12 @@ fn put_place(p: &mut [u8], n: usize, place: usize)
     pairs::write(p, sections::PLACES + sections::PLACE_BYTES * n, place);
 }
 
-// The bytes of the built-in rule n, and its place.
+// The bytes of rule number n, which is written out, and its place.
 fn put_rule(p: &mut [u8], n: usize, rule: &[u8])
-    requires { ⌜ (n < builtinCount) × (length (now p) ≡ bodyLength) × (length (now rule) ≤ ruleRoom) ⌝ }
-    ensures { λ r. ⌜ now (p .exit) ≡ placed (splice (now (p .entry)) (builtinAt n) (now (rule .entry))) n (builtinAt n) ⌝ }
+    requires { ⌜ (n < ruleCount) × (slotOf n < slotOf (n + 1)) × (length (now p) ≡ bodyLength) × (length (now rule) ≤ ruleRoom) ⌝ }
+    ensures { λ r. ⌜ now (p .exit) ≡ placed (splice (now (p .entry)) (writtenAt (slotOf n)) (now (rule .entry))) n (writtenAt (slotOf n)) ⌝ }
 {
-    let at = sections::RULES + rules::numbered::RULE_ROOM * n;
+    let at = sections::RULES + rules::numbered::RULE_ROOM * rules::numbered::slot_of(n);
     octets::copy_into(p, at, rule);
     put_place(p, n, at);
 }
@@ -89,23 +90,13 @@ fn enter_rule(p: &mut [u8], n: usize, arities: &[u8], places: &[usize], nr: usiz
     }
 }
 
-// No rule number has a place.
-fn clear_places(p: &mut [u8])
-    requires { ⌜ length (now p) ≡ bodyLength ⌝ }
-    ensures { λ r. ⌜ NoPlaces (now (p .entry)) (now (p .exit)) ⌝ }
-{
-    octets::clear(&mut p[sections::PLACES..sections::RULES]);
-}
-
-// All rule numbers: none behind the file's own rules has a place.
+// All rule numbers.
 fn enter_rules(p: &mut [u8], arities: &[u8], places: &[usize], nr: usize)
     requires { ⌜ (length (now p) ≡ bodyLength) × (length (now arities) ≡ slotCount) × (nr ≤ length (now places)) × Source (now arities) (now places) nr ⌝ }
     ensures { λ r. ⌜ ((f : Source (now (arities .entry)) (now (places .entry)) nr) → Rows f (now (p .entry)) (now (p .exit)) ruleCount) ⌝ }
 {
-    clear_places(p);
-    let end = sections::BUILTIN_COUNT + nr;
     let mut n: usize = 0;
-    while n < end {
+    while n < sections::RULE_COUNT {
         enter_rule(p, n, arities, places, nr);
         n += 1;
     }

@@ -10,7 +10,7 @@ ghost use Rattle.rules.specs.Fit.{judged};
 ghost use Rattle.rules.specs.Fit.Laws.{verdictOf};
 ghost use Rattle.prepared.specs.Sections.{ruleCount, entryCount, placeCount, fileLimit, preparedLength, placeLimit};
 ghost use Rattle.prepared.specs.Prepared.{Body, bodyOf, entryAt, listEntry, factEntry, preparedFacts, factPlaceIn};
-ghost use Rattle.prepared.specs.Lists.{FirstFacts, ListsOf, RulesIn, entered, FactsEntered, ListEntered, NumberEntered, Tabled, WherePrepared};
+ghost use Rattle.prepared.specs.Lists.{FirstFacts, ListsOf, entered, FactsEntered, ListEntered, NumberEntered, Tabled, WherePrepared};
 use crate::filling;
 use crate::finding;
 use crate::finding::Found;
@@ -98,14 +98,13 @@ fn enter_number(p: &mut [u8], n: usize)
     }
 }
 
-// The lists of all rules: nr of them are the file's own.
-fn enter_table(p: &mut [u8], nr: usize)
-    requires { ⌜ Asks (RulesIn (bodyOf (now p)) nr) × (length (now p) ≡ preparedLength) ⌝ }
+// The lists of all rules.
+fn enter_table(p: &mut [u8])
+    requires { ⌜ Asks (Body (bodyOf (now p))) × (length (now p) ≡ preparedLength) ⌝ }
     ensures { λ r. ⌜ Tabled (now (p .entry)) (now (p .exit)) ⌝ }
 {
-    let end = sections::BUILTIN_COUNT + nr;
     let mut n: usize = 0;
-    while n < end {
+    while n < sections::RULE_COUNT {
         enter_number(p, n);
         n += 1;
     }
@@ -119,7 +118,7 @@ pub fn prepare(file: &[u8], p: &mut [u8]) -> FitVerdict
 {
     match filling::prepare_body(file, &mut p[..sections::BODY]) {
         FitVerdict::Sound(ns, nr) => {
-            enter_table(p, nr);
+            enter_table(p);
             FitVerdict::Sound(ns, nr)
         }
         FitVerdict::Broken(k) => FitVerdict::Broken(k),

@@ -1,10 +1,8 @@
 // The sections of a prepared protocol, one behind the other.
 use protocol::figures;
 
-// As many as there are tags, fact symbols, rule numbers, and rule numbers below those of the protocol's own rules.
-pub const RULE_COUNT: usize = BUILTIN_COUNT + figures::MOST_RULES;
-
-pub const BUILTIN_COUNT: usize = rules::numbered::FIRST_OWN;
+// As many as there are rule numbers.
+pub const RULE_COUNT: usize = rules::numbered::NUMBERS;
 
 // The bytes of a place, and the base of its two bytes.
 pub const PLACE_BYTES: usize = 2;
@@ -24,7 +22,7 @@ pub const PLACES: usize = LINEARS + figures::SYMBOLS;
 
 pub const RULES: usize = PLACES + PLACE_BYTES * RULE_COUNT;
 
-pub const FILE: usize = RULES + rules::numbered::RULE_ROOM * BUILTIN_COUNT;
+pub const FILE: usize = RULES + rules::numbered::RULE_ROOM * rules::numbered::WRITTEN;
 
 pub const BODY: usize = FILE + FILE_LIMIT;
 

@@ -24,7 +24,7 @@ module _ (free : List ℕ) where
   abbrev pub arities : ℕ → Option ℕ
   arities = arity (tagArities free)
 
-  -- "all messages": well-formed terms without variables, names of any number, equal by the ten equations
+  -- "all messages": well-formed terms without variables, names of any number, equal by the equations
   abbrev pub realMessages : Messages
   realMessages = record {
     Msg = Message arities;

@@ -51,7 +51,7 @@ fn functions_from(file: &[u8], at: usize, n: u32, arities: &mut [u8]) -> Number
     Number::Value(n, i)
 }
 
-// The built-in functions' arities; then a count and that many arities.
+// The built-in functions' arities, and aenc to true's behind the slots of the free functions; then a count and that many arities.
 fn functions(file: &[u8], at: usize, arities: &mut [u8]) -> Number
     requires { ⌜ length (now arities) ≡ tagCount ⌝ }
     ensures kept { λ r. ⌜ length (now (arities .exit)) ≡ length (now (arities .entry)) ⌝ }
@@ -60,7 +60,7 @@ fn functions(file: &[u8], at: usize, arities: &mut [u8]) -> Number
     octets::copy_into(
         arities,
         0,
-        b"\xff\xff\xff\x00\x02\x02\x01\x02\x01\x01\x02\x01\x02\xff\xff\xff\xff\xff\xff\xff\xff\xff\xff\xff\xff\xff\xff\xff\xff",
+        b"\xff\xff\xff\x00\x02\x02\x01\x02\x01\x01\x02\x01\x02\xff\xff\xff\xff\xff\xff\xff\xff\xff\xff\xff\xff\xff\xff\xff\xff\x02\x02\x01\x02\x03\x00",
     );
     match number::below(file, at, figures::FUNCTION_LIMIT) {
         Number::Value(n, e) => functions_from(file, e, n, arities),

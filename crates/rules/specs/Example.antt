@@ -12,7 +12,7 @@ use Rattle.protocol.specs.Protocol.{fact-of, rule-of, protocol-of, premises, ac
 use Rattle.protocol.specs.Example.{printed, its-rule}
 use Rattle.rules.specs.Fit.{leastUnfit, judged, sound}
 use Rattle.lists.specs.Below.{least, allBelow}
-use Rattle.rules.specs.Numbered.{ruleOf, fixed, makesFresh, hears, injects, names, learns, applies}
+use Rattle.rules.specs.Numbered.{ruleOf, fixed, makesFresh, hears, injects, names, learns, applies, numbered}
 
 printed-fit : judged (protocol printed) ≡ sound
 unfolding protocol rule layout facts fact own ruleTerm term termIn symbolAt arity tagArities many counted below readNumber readIn numberLimit least allBelow
@@ -56,7 +56,7 @@ builtin-recorded = (refl, refl, refl, refl, refl, λ t k. refl)
 
 -- rule 1; h is tag 6, its rule 8; of two free functions, the second is of arity 0: its rule is 16, and 17 is none; 31 is the first own rule
 second : ruleOf (protocol-of (1 ∷ 0 ∷ []) [] (its-rule ∷ [])) 1 ≡ some hears
-unfolding ruleOf fixed
+unfolding ruleOf numbered fixed
 second = refl
 
 hashes :
@@ -64,23 +64,36 @@ hashes :
     ≡ some
     (rule-of (0 ∷ [])
     ((fact-of 3 (leaf variable 0 ∷ []) ∷ []) ∷ [] ∷ (fact-of 3 (app 6 (leaf variable 0 & nil) ∷ []) ∷ []) ∷ []))
-unfolding ruleOf arity tagArities
+unfolding ruleOf numbered arity tagArities
 hashes = refl
 
 constant :
     ruleOf (protocol-of (1 ∷ 0 ∷ []) [] (its-rule ∷ [])) 16
     ≡ some (rule-of [] ([] ∷ [] ∷ (fact-of 3 (app 14 nil ∷ []) ∷ []) ∷ []))
-unfolding ruleOf arity tagArities
+unfolding ruleOf numbered arity tagArities
 constant = refl
 
 no-function : ruleOf (protocol-of (1 ∷ 0 ∷ []) [] (its-rule ∷ [])) 17 ≡ none
-unfolding ruleOf arity tagArities
+unfolding ruleOf numbered arity tagArities
 no-function = refl
 
 own-rule : ruleOf (protocol-of (1 ∷ 0 ∷ []) [] (its-rule ∷ [])) 31 ≡ some its-rule
-unfolding ruleOf
+unfolding ruleOf numbered
 own-rule = refl
 
 no-rule : ruleOf (protocol-of (1 ∷ 0 ∷ []) [] (its-rule ∷ [])) 32 ≡ none
-unfolding ruleOf
+unfolding ruleOf numbered
 no-rule = refl
+
+-- 97 is that of tag 31, pk, under every protocol; behind 100 there is none
+signing-rule :
+    ruleOf (protocol-of [] [] []) 97
+    ≡ some
+    (rule-of (0 ∷ [])
+    ((fact-of 3 (leaf variable 0 ∷ []) ∷ []) ∷ [] ∷ (fact-of 3 (app 31 (leaf variable 0 & nil) ∷ []) ∷ []) ∷ []))
+unfolding ruleOf numbered arity tagArities
+signing-rule = refl
+
+no-further : ruleOf (protocol-of [] [] (its-rule ∷ [])) 101 ≡ none
+unfolding ruleOf numbered
+no-further = refl

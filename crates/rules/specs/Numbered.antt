@@ -4,12 +4,17 @@ use mathlib.Core.List.{List, [], _∷_, map}
 use mathlib.Core.Option.{Option, some, none}
 use lib.ListN.{replicate, getElem?}
 use lib.Dec.{ltb, eqb}
-use Rattle.protocol.specs.Figures.{freshSort, messageSort, publicSort, mostArity}
+use Rattle.protocol.specs.Figures.{freshSort, messageSort, publicSort, mostArity, mostRules}
 use Rattle.lists.specs.Choice.{pick}
 use Rattle.term.specs.Term.{Term, leaf, app, variable}
+use Rattle.term.specs.Tags.{tagCount}
 use Rattle.term.specs.Arity.{arity, tagArities}
 use Rattle.term.specs.Reader.{terms}
 use Rattle.protocol.specs.Protocol.{Fact, Rule, Protocol, fact-of, rule-of, frSymbol, inSymbol, outSymbol, kSymbol}
+-- the map of numbers
+pub mod Map
+-- the slots of the rules that are written out
+pub mod Slots
 -- they keep to the limits
 pub mod Limits
 -- their bytes, and how the code writes them
@@ -68,8 +73,14 @@ abbrev pub applied : ℕ → Option ℕ → Option Rule
 applied t (some k) = some (applies t k)
 applied t none = none
 
--- ── the rule of each number ──
--- the rules 0 to 4 come first; "Rule t+2 applies the function of tag t"; "a protocol rule r (from 0) is 31+r"
+-- ── what each number stands for ──
+-- rule n of 0 to 4; the apply-rule of a tag; the protocol's rule r; no rule
+pub data Numbered : Type 0 where
+  aFixed anApply anOwn : ℕ → Numbered
+  nothing : Numbered
+
+-- the rules 0 to 4 come first; "Rule t+2 applies the function of tag t"; "a protocol rule r (from 0) is 31+r"; "Their apply-rules are 95 to 100, in
+-- that order, so protocol rules keep their numbers"
 abbrev pub firstApply : ℕ
 firstApply = 5
 
@@ -79,7 +90,30 @@ tagShift = 2
 abbrev pub firstOwnRule : ℕ
 firstOwnRule = 31
 
+abbrev pub firstSigning : ℕ
+firstSigning = firstOwnRule + mostRules
+
+abbrev pub signingShift : ℕ
+signingShift = 66
+
+abbrev pub numberCount : ℕ
+numberCount = tagCount + signingShift
+
+-- a row is a range of numbers: the first that it is below
+unfoldable pub numbered : ℕ → Numbered
+numbered n =
+    pick (ltb n firstApply) (aFixed n)
+    (pick (ltb n firstOwnRule) (anApply (n - tagShift))
+    (pick (ltb n firstSigning) (anOwn (n - firstOwnRule))
+    (pick (ltb n numberCount) (anApply (n - signingShift))
+    nothing)))
+
+-- ── the rule of each number ──
+abbrev pub ruleAs : Protocol → Numbered → Option Rule
+ruleAs p (aFixed n) = some (fixed n)
+ruleAs p (anApply t) = applied t (arity (tagArities (p .functions)) t)
+ruleAs p (anOwn r) = getElem? (p .rules) r
+ruleAs p nothing = none
+
 unfoldable pub ruleOf : Protocol → ℕ → Option Rule
-ruleOf p n =
-    pick (ltb n firstApply) (some (fixed n)) (pick (ltb n firstOwnRule) (applied (n - tagShift) (arity (tagArities (p .functions)) (n - tagShift)))
-    (getElem? (p .rules) (n - firstOwnRule)))
+ruleOf p n = ruleAs p (numbered n)

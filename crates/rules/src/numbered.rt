@@ -11,6 +11,7 @@ ghost use Rattle.term.specs.Arity.{tagArities};
 ghost use Rattle.protocol.specs.Protocol.{encodeRule};
 ghost use Rattle.protocol.specs.Index.{Entries};
 ghost use Rattle.rules.specs.Numbered.{fixed, applies, ruleRoom, firstApply};
+ghost use Rattle.rules.specs.Numbered.Slots.{slotOf};
 ghost use Rattle.rules.specs.Numbered.Bytes.{variableBytes, premiseBytes, premiseRoom};
 ghost use Rattle.rules.specs.Numbered.Writing.{Put};
 ghost use Rattle.rules.specs.Numbered.Found.{Applies, placeFound, Finds};
@@ -25,7 +26,8 @@ const INJECTS: usize = 2;
 
 const NAMES: usize = 3;
 
-// The rules 0 to 4; "Rule t+2 applies the function of tag t": the built-in functions', then the free functions'; "a protocol rule r (from 0) is 31+r".
+// What each number is: the rules 0 to 4; "Rule t+2 applies the function of tag t": the built-in functions', then the free functions'; "a protocol rule r
+// (from 0) is 31+r"; the apply-rules of aenc to true, "95 to 100, in that order, so protocol rules keep their numbers".
 const LAST_FIXED: usize = 4;
 
 const TAG_SHIFT: usize = 2;
@@ -38,7 +40,20 @@ const FIRST_FREE: usize = term::FIRST_FREE + TAG_SHIFT;
 
 const LAST_FREE: usize = FIRST_OWN - 1;
 
-pub const FIRST_OWN: usize = term::TAGS + TAG_SHIFT;
+const FIRST_OWN: usize = FIRST_FREE + term::MOST_FUNCTIONS;
+
+const LAST_OWN: usize = FIRST_SIGNING - 1;
+
+const FIRST_SIGNING: usize = FIRST_OWN + figures::MOST_RULES;
+
+const LAST_SIGNING: usize = NUMBERS - 1;
+
+const SIGNING_SHIFT: usize = FIRST_SIGNING - term::FIRST_SIGNING;
+
+pub const NUMBERS: usize = term::TAGS + SIGNING_SHIFT;
+
+// As many as are written out: all but the protocol's own.
+pub const WRITTEN: usize = NUMBERS - figures::MOST_RULES;
 
 const MOST_ARITY: u8 = figures::MOST_ARITY as u8;
 
@@ -132,6 +147,17 @@ fn own_rule(places: &[usize], n: usize, k: usize) -> FoundRule
     FoundRule::Nothing
 }
 
+// The slot of a rule that is written out: they stand in the order of their numbers.
+pub fn slot_of(n: usize) -> usize
+    requires { ⌜ slotOf n < slotOf (n + 1) ⌝ }
+    ensures { λ r. ⌜ r ≡ slotOf n ⌝ }
+{
+    if n < FIRST_OWN {
+        return n;
+    }
+    FIRST_OWN + (n - FIRST_SIGNING)
+}
+
 // The rule of a number: its bytes are written to the lent array, or stand at a place of the protocol file.
 pub fn find_rule(
     arities: &[u8],
@@ -147,6 +173,8 @@ pub fn find_rule(
         0..=LAST_FIXED => FoundRule::Written(put_fixed(out, number)),
         FIRST_APPLY..=LAST_BUILTIN => apply_rule(arities, number - TAG_SHIFT, out),
         FIRST_FREE..=LAST_FREE => apply_rule(arities, number - TAG_SHIFT, out),
-        _ => own_rule(places, nr, number - FIRST_OWN),
+        FIRST_OWN..=LAST_OWN => own_rule(places, nr, number - FIRST_OWN),
+        FIRST_SIGNING..=LAST_SIGNING => apply_rule(arities, number - SIGNING_SHIFT, out),
+        _ => FoundRule::Nothing,
     }
 }

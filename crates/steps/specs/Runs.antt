@@ -10,7 +10,7 @@ use Rattle.steps.specs.Facts.{factsOf, madeName, sameFact, isLinear}
 use Rattle.steps.specs.Facts.Laws.{fact-refl, fact-sym, fact-trans, fact-linear}
 -- the theorems of crate rewriting at these facts
 pub mod Theorems
--- runs, accepted graphs, the earliest sources and the table's rows by the ten equations
+-- runs, accepted graphs, the earliest sources and the table's rows by the equations
 pub mod Equations
 -- the machine's counts by any test of facts that decides the equations
 pub mod AnyTest

@@ -22,6 +22,10 @@ arity arities f =
 abbrev pub builtin : List ℕ
 builtin = undeclared ∷ undeclared ∷ undeclared ∷ 0 ∷ 2 ∷ 2 ∷ 1 ∷ 2 ∷ 1 ∷ 1 ∷ 2 ∷ 1 ∷ 2 ∷ []
 
+-- 29 aenc; 30 adec; 31 pk; 32 sign; 33 verify; 34 true: "arities 2, 2, 1, 2, 3, 0"
+abbrev pub signing : List ℕ
+signing = 2 ∷ 2 ∷ 1 ∷ 2 ∷ 3 ∷ 0 ∷ []
+
 -- as many slots as n, those past the list's end undeclared
 abbrev pub padded : ℕ → List ℕ → List ℕ
 padded zero l = []
@@ -30,4 +34,4 @@ padded (suc n) (a ∷ l) = a ∷ padded n l
 
 -- document 01's table, for the declared arities of the free functions: "13+j free function j (j from 0)", 16 at most
 unfoldable pub tagArities : List ℕ → List ℕ
-tagArities free = builtin ++ padded mostFunctions free
+tagArities free = builtin ++ (padded mostFunctions free ++ signing)

@@ -53,6 +53,25 @@ firstFree = 13
 abbrev pub mostFunctions : ℕ
 mostFunctions = 16
 
+-- Change 4: "29 aenc, 30 adec, 31 pk, 32 sign, 33 verify, 34 true"
+abbrev pub aencTag : ℕ
+aencTag = 29
+
+abbrev pub adecTag : ℕ
+adecTag = 30
+
+abbrev pub pkTag : ℕ
+pkTag = 31
+
+abbrev pub signTag : ℕ
+signTag = 32
+
+abbrev pub verifyTag : ℕ
+verifyTag = 33
+
+abbrev pub trueTag : ℕ
+trueTag = 34
+
 -- as many tags as there can be
 abbrev pub tagCount : ℕ
-tagCount = firstFree + mostFunctions
+tagCount = firstFree + mostFunctions + 6

@@ -44,7 +44,14 @@ pub const FIRST_FREE: usize = 13;
 
 pub const MOST_FUNCTIONS: usize = 16;
 
-pub const TAGS: usize = FIRST_FREE + MOST_FUNCTIONS;
+// "29 aenc, 30 adec, 31 pk, 32 sign, 33 verify, 34 true": behind the free functions.
+pub const FIRST_SIGNING: usize = FIRST_FREE + MOST_FUNCTIONS;
+
+pub const ADEC: usize = 30;
+
+pub const VERIFY: usize = 33;
+
+pub const TAGS: usize = FIRST_SIGNING + 6;
 
 // The slot of a tag that no function has.
 pub const UNDECLARED: u8 = 255;

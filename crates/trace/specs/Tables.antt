@@ -75,7 +75,7 @@ module _ (P : Protocol) where
 pub record Starts (starts : List ℕ) (P : Protocol) (xs : List Node) : Type 0 where
   pub begins : (k : ℕ) → k ≤ length xs → getD starts k 0 ≡ actionsBefore P xs k
 
--- for each action its symbol; for each argument a number: equal numbers exactly when "the paper's ten equations make them equal", and base + n
+-- for each action its symbol; for each argument a number: equal numbers exactly when the equations make them equal, and base + n
 -- exactly for the public name n
 pub record Tables (starts symbols classes : List ℕ) (P : Protocol) (xs : List Node) : Type 0 where
   pub begun : Starts starts P xs

@@ -5,7 +5,7 @@ use mathlib.Core.Option.{Option}
 use Rattle.term.specs.Tags.{expTag}
 use Rattle.term.specs.Term.{Term, Terms, nil, _&_, Formed, Formeds}
 use Rattle.message.specs.Functions.{exp, mul}
-use Rattle.message.specs.Equations.{equation, exp-exp}
+use Rattle.message.specs.Equations.{figure, equation, exp-exp}
 use Rattle.message.specs.Canonical.{CanonicalBy}
 use Rattle.message.specs.Product.{Exps, empty, chain, build}
 use Rattle.message.specs.Rules.{FitArities, Theory, Irreducible}
@@ -75,7 +75,7 @@ module _ (ar : ℕ → Option ℕ) (g : FitArities ar) where
         let v : Formed ar (exp (exp c d) m) = (g .exp-arity, ((g .exp-arity, (wc, (wd, tt))), (wm, tt))) in
         let w : Formed ar (exp c (mul d m)) = (g .exp-arity, (wc, (product-formed, tt))) in
         ap (λ (x : Term). applyExp x (canon (mul d m))) (sym fc)
-        ∙ sym (same-canon ar g (exp (exp c d) m) (exp c (mul d m)) v w .0 (equation v w (exp-exp c d m)))
+        ∙ sym (same-canon ar g (exp (exp c d) m) (exp c (mul d m)) v w .0 (equation v w (figure (exp-exp c d m))))
         ∙ ap₂ (λ (x y : Term). applyExp (applyExp x y) (canon m)) fc fd
         ∙ ap (applyExp (applyExp c d)) fm
 

@@ -15,7 +15,7 @@ use Rattle.message.specs.Canon.{apply}
 use Rattle.rewriting.specs.Table.{Ruling, passed, refused, andThen}
 use Rattle.rewriting.specs.Graph.{Edge}
 use Rattle.protocol.specs.Protocol.{Fact, Protocol, fact-of, rule-of, own-of, protocol-of, ruleTerm, fact, facts, layout, rule, own, protocol}
-use Rattle.rules.specs.Numbered.{ruleOf}
+use Rattle.rules.specs.Numbered.{ruleOf, numbered}
 use Rattle.steps.specs.Nodes.{Reading, read, node-of, NodesWithin}
 use Rattle.steps.specs.Causes.{graphItem, readRuling}
 use Rattle.steps.specs.Facts.{sameFact, sameTerm, sameTerms}
@@ -67,7 +67,7 @@ each-edge zero = tt
 each-edge (suc n) = (((omega arith, omega arith), (omega arith, omega arith)), each-edge n)
 
 within : GraphWithin its-protocol its-graph
-unfolding numberLimit ruleOf
+unfolding numberLimit ruleOf numbered
 within =
     let m : length (replicate 4096 joins) ≤ 4096 = omega (arith, length-replicate {A = Edge} 4096 joins) in
     let nodes : NodesWithin its-protocol (node-of 31 [] ∷ node-of 32 [] ∷ []) =
@@ -85,7 +85,7 @@ is-read = graph-back file (bytes-of file refl) its-protocol its-graph within is-
 
 -- ── and judged ──
 judged : ruling its-protocol its-graph ≡ refused 12 2
-unfolding ruleOf sameFact sameTerms sameTerm apply groups groupsIn numberLimit
+unfolding ruleOf numbered sameFact sameTerms sameTerm apply groups groupsIn numberLimit
 judged = refl
 
 by-parts : filesRuling (own-fact 0) falsehood file ≡ refused 12 2

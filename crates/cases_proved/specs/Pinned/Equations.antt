@@ -11,7 +11,7 @@ use Rattle.term.specs.Reader.{symbolAt, term, termIn}
 use Rattle.message.specs.Canon.{apply}
 use Rattle.rewriting.specs.Table.{passed, refused}
 use Rattle.protocol.specs.Protocol.{ruleTerm, fact, facts, layout, rule, own, protocol}
-use Rattle.rules.specs.Numbered.{ruleOf, fixed}
+use Rattle.rules.specs.Numbered.{ruleOf, numbered, fixed}
 use Rattle.steps.specs.Nodes.{node, nodesFrom, nodeList, steps}
 use Rattle.steps.specs.Facts.{sameFact, sameTerm, sameTerms}
 use Rattle.graph.specs.Graph.{place, edge, edgeList, graph}
@@ -29,15 +29,15 @@ use Rattle.cases_proved.specs.Pinned.Row.{Row, checks, forms, At, Holds,
 
 -- ── files ──
 -- a protocol: nothing to Out of a term of three variables of sort public
-abbrev sends : List ℕ → List ℕ
+abbrev pub sends : List ℕ → List ℕ
 sends term = 0x00 ∷ 0x00 ∷ 0x01 ∷ 0x03 ∷ 0x02 ∷ 0x02 ∷ 0x02 ∷ 0x00 ∷ 0x00 ∷ 0x01 ∷ 0x02 ∷ term
 
 -- a graph: that rule of the public names 1, 2 and 3, and rule 1 of a term; an edge from Out to Out
-abbrev hears : List ℕ → List ℕ
+abbrev pub hears : List ℕ → List ℕ
 hears term = 0x02 ∷ 0x1F ∷ 0x01 ∷ 0x01 ∷ 0x01 ∷ 0x02 ∷ 0x01 ∷ 0x03 ∷ 0x01 ∷ (term ++ (0x01 ∷ 0x01 ∷ 0x01 ∷ 0x02 ∷ 0x01 ∷ []))
 
 -- a graph: rule 1 of a term, its premise without an edge
-abbrev value : List ℕ → List ℕ
+abbrev pub value : List ℕ → List ℕ
 value term = 0x01 ∷ 0x01 ∷ (term ++ (0x00 ∷ []))
 
 -- ── the rows ──
@@ -134,7 +134,7 @@ rows =
 computed : Each (At workNeed) rows
 unfolding protocol rule layout facts fact own ruleTerm term termIn symbolAt arity tagArities
     property formulaAt scopedAt headAt actionAt timedAt factAt timesAt equalAt sortAt termAt
-    graphRuling graph edgeList edge place stepsUnder steps nodeList nodesFrom node ruleOf fixed
+    graphRuling graph edgeList edge place stepsUnder steps nodeList nodesFrom node ruleOf numbered fixed
     truth sameFact sameTerms sameTerm apply termFile
     many counted below readNumber readIn groups groupsIn numberLimit allBelow
     checkOutcome drawOutcome canonicalOutcome

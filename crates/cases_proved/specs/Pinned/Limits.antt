@@ -12,7 +12,7 @@ use Rattle.term.specs.Reader.{symbolAt, term, termIn}
 use Rattle.message.specs.Canon.{apply}
 use Rattle.rewriting.specs.Table.{passed, refused}
 use Rattle.protocol.specs.Protocol.{ruleTerm, fact, facts, layout, rule, own, protocol}
-use Rattle.rules.specs.Numbered.{ruleOf, fixed}
+use Rattle.rules.specs.Numbered.{ruleOf, numbered, fixed}
 use Rattle.steps.specs.Nodes.{node, nodesFrom, nodeList, steps}
 use Rattle.steps.specs.Facts.{sameFact, sameTerm, sameTerms}
 use Rattle.graph.specs.Graph.{place, edge, edgeList, graph}
@@ -50,9 +50,9 @@ rows =
     -- the last own symbol is 35
     ∷ checks (0x00 ∷ 0x20 ∷ (replicate 64 0x00 ++ (0x01 ∷ 0x00 ∷ 0x00 ∷ 0x01 ∷ 0x23 ∷ 0x00 ∷ []))) falsehood no-graph (attack 0 0 0)
     ∷ checks (0x00 ∷ 0x20 ∷ (replicate 64 0x00 ++ (0x01 ∷ 0x00 ∷ 0x00 ∷ 0x01 ∷ 0x24 ∷ 0x00 ∷ []))) falsehood no-graph (refused 3 1)
-    -- "count of rules (64)"; the last is 94
+    -- "count of rules (64)"; the last is 94, and behind 100 there is none
     ∷ checks (0x00 ∷ 0x00 ∷ 0x40 ∷ replicate 256 0x00) falsehood (0x01 ∷ 0x5E ∷ 0x00 ∷ []) (attack 1 0 0)
-    ∷ checks (0x00 ∷ 0x00 ∷ 0x40 ∷ replicate 256 0x00) falsehood (0x01 ∷ 0x5F ∷ 0x00 ∷ []) (refused 6 1)
+    ∷ checks (0x00 ∷ 0x00 ∷ 0x40 ∷ replicate 256 0x00) falsehood (0x01 ∷ 0x65 ∷ 0x00 ∷ []) (refused 6 1)
     ∷ checks (0x00 ∷ 0x00 ∷ 0x41 ∷ replicate 260 0x00) falsehood no-graph (refused 3 1)
     -- "count of variables (16), each sort (0 message, 1 fresh, 2 public)"
     ∷ checks (0x00 ∷ 0x00 ∷ 0x01 ∷ 0x10 ∷ (replicate 16 0x00 ++ (0x00 ∷ 0x00 ∷ 0x00 ∷ []))) falsehood no-graph (attack 0 0 0)
@@ -154,7 +154,7 @@ rows =
 computed : Each (At workNeed) rows
 unfolding protocol rule layout facts fact own ruleTerm term termIn symbolAt arity tagArities
     property formulaAt scopedAt headAt actionAt timedAt factAt timesAt equalAt sortAt termAt
-    graphRuling graph edgeList edge place stepsUnder steps nodeList nodesFrom node ruleOf fixed
+    graphRuling graph edgeList edge place stepsUnder steps nodeList nodesFrom node ruleOf numbered fixed
     truth sameFact sameTerms sameTerm apply termFile
     many counted below readNumber readIn groups groupsIn numberLimit allBelow
     checkOutcome drawOutcome canonicalOutcome

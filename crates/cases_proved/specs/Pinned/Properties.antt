@@ -14,7 +14,7 @@ use Rattle.term.specs.Reader.{symbolAt, term, termIn}
 use Rattle.message.specs.Canon.{apply}
 use Rattle.rewriting.specs.Table.{Ruling}
 use Rattle.protocol.specs.Protocol.{ruleTerm, fact, facts, layout, rule, own, protocol}
-use Rattle.rules.specs.Numbered.{ruleOf, fixed}
+use Rattle.rules.specs.Numbered.{ruleOf, numbered, fixed}
 use Rattle.steps.specs.Nodes.{node, nodesFrom, nodeList}
 use Rattle.steps.specs.Facts.{sameFact, sameTerm, sameTerms}
 use Rattle.graph.specs.Graph.{place, edge, edgeList, graph}
@@ -271,7 +271,7 @@ rulingOf c = c .ruling
 answered : map answer cases ≡ map rulingOf cases
 unfolding protocol rule layout facts fact own ruleTerm term termIn symbolAt arity tagArities
     property formulaAt scopedAt headAt timedAt actionAt factAt timesAt equalAt sortAt termAt
-    graphRuling graph edgeList edge place nodeList nodesFrom node ruleOf fixed
+    graphRuling graph edgeList edge place nodeList nodesFrom node ruleOf numbered fixed
     truth sameFact sameTerms sameTerm apply checkOutcome
     many counted below readNumber readIn groups groupsIn numberLimit allBelow
 answered = refl

@@ -11,7 +11,7 @@ use Rattle.term.specs.Reader.{symbolAt, term, termIn}
 use Rattle.message.specs.Canon.{apply}
 use Rattle.rewriting.specs.Table.{passed, refused}
 use Rattle.protocol.specs.Protocol.{ruleTerm, fact, facts, layout, rule, own, protocol}
-use Rattle.rules.specs.Numbered.{ruleOf, fixed}
+use Rattle.rules.specs.Numbered.{ruleOf, numbered, fixed}
 use Rattle.steps.specs.Nodes.{node, nodesFrom, nodeList, steps}
 use Rattle.steps.specs.Facts.{sameFact, sameTerm, sameTerms}
 use Rattle.graph.specs.Graph.{place, edge, edgeList, graph}
@@ -278,7 +278,7 @@ rows =
 computed : Each (At workNeed) rows
 unfolding protocol rule layout facts fact own ruleTerm term termIn symbolAt arity tagArities
     property formulaAt scopedAt headAt actionAt timedAt factAt timesAt equalAt sortAt termAt
-    graphRuling graph edgeList edge place stepsUnder steps nodeList nodesFrom node ruleOf fixed
+    graphRuling graph edgeList edge place stepsUnder steps nodeList nodesFrom node ruleOf numbered fixed
     truth sameFact sameTerms sameTerm apply termFile
     many counted below readNumber readIn groups groupsIn numberLimit allBelow
     checkOutcome drawOutcome canonicalOutcome

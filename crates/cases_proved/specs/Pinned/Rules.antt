@@ -11,7 +11,7 @@ use Rattle.term.specs.Reader.{symbolAt, term, termIn}
 use Rattle.message.specs.Canon.{apply}
 use Rattle.rewriting.specs.Table.{passed, refused}
 use Rattle.protocol.specs.Protocol.{ruleTerm, fact, facts, layout, rule, own, protocol}
-use Rattle.rules.specs.Numbered.{ruleOf, fixed}
+use Rattle.rules.specs.Numbered.{ruleOf, numbered, fixed}
 use Rattle.steps.specs.Nodes.{node, nodesFrom, nodeList, steps}
 use Rattle.steps.specs.Facts.{sameFact, sameTerm, sameTerms}
 use Rattle.graph.specs.Graph.{place, edge, edgeList, graph}
@@ -82,13 +82,13 @@ both-noted m n = 0x0B ∷ 0x01 ∷ 0x03 ∷ 0x04 ∷ 0x01 ∷ m ∷ 0x01 ∷ n �
 
 -- ── graphs ──
 -- public name 1 is known, a rule applies to it, and the function of that tag of it is sent
-abbrev of-one : ℕ → ℕ → List ℕ
+abbrev pub of-one : ℕ → ℕ → List ℕ
 of-one rule tag =
     0x03 ∷ 0x03 ∷ 0x01 ∷ 0x01 ∷ rule ∷ 0x01 ∷ 0x01 ∷ 0x02 ∷ tag ∷ 0x01 ∷ 0x01 ∷ 0x02 ∷ 0x01 ∷ 0x01 ∷ 0x02 ∷ 0x01 ∷ 0x02 ∷ 0x01 ∷ 0x03 ∷ 0x01
     ∷ []
 
 -- public names 1 and 2 are known, a rule applies to them, and the function of that tag of m and n is sent
-abbrev of-two : ℕ → ℕ → ℕ → ℕ → List ℕ
+abbrev pub of-two : ℕ → ℕ → ℕ → ℕ → List ℕ
 of-two rule tag m n =
     0x04 ∷ 0x03 ∷ 0x01 ∷ 0x01 ∷ 0x03 ∷ 0x01 ∷ 0x02 ∷ rule ∷ 0x01 ∷ 0x01 ∷ 0x01 ∷ 0x02 ∷ 0x02 ∷ tag ∷ 0x01 ∷ m ∷ 0x01 ∷ n ∷ 0x03 ∷ 0x01 ∷ 0x01
     ∷ 0x03 ∷ 0x01 ∷ 0x02 ∷ 0x01 ∷ 0x03 ∷ 0x02 ∷ 0x03 ∷ 0x01 ∷ 0x04 ∷ 0x01 ∷ []
@@ -238,7 +238,7 @@ rows =
 computed : Each (At workNeed) rows
 unfolding protocol rule layout facts fact own ruleTerm term termIn symbolAt arity tagArities
     property formulaAt scopedAt headAt actionAt timedAt factAt timesAt equalAt sortAt termAt
-    graphRuling graph edgeList edge place stepsUnder steps nodeList nodesFrom node ruleOf fixed
+    graphRuling graph edgeList edge place stepsUnder steps nodeList nodesFrom node ruleOf numbered fixed
     truth sameFact sameTerms sameTerm apply termFile
     many counted below readNumber readIn groups groupsIn numberLimit allBelow
     checkOutcome drawOutcome canonicalOutcome

@@ -11,7 +11,7 @@ use Rattle.term.specs.Reader.{symbolAt, term, termIn}
 use Rattle.message.specs.Canon.{apply}
 use Rattle.rewriting.specs.Table.{passed, refused}
 use Rattle.protocol.specs.Protocol.{ruleTerm, fact, facts, layout, rule, own, protocol}
-use Rattle.rules.specs.Numbered.{ruleOf, fixed}
+use Rattle.rules.specs.Numbered.{ruleOf, numbered, fixed}
 use Rattle.steps.specs.Nodes.{node, nodesFrom, nodeList, steps}
 use Rattle.steps.specs.Facts.{sameFact, sameTerm, sameTerms}
 use Rattle.checker.specs.Answer.{workNeed}
@@ -79,7 +79,7 @@ rows =
 -- ── by computation ──
 computed : All (At workNeed) rows
 unfolding protocol rule layout facts fact own ruleTerm term termIn symbolAt arity tagArities
-    stepsUnder steps nodeList nodesFrom node ruleOf fixed sameFact sameTerms sameTerm apply
+    stepsUnder steps nodeList nodesFrom node ruleOf numbered fixed sameFact sameTerms sameTerm apply
     many counted below readNumber readIn groups groupsIn numberLimit allBelow drawOutcome
 computed = (
   (refl, refl, refl, refl),

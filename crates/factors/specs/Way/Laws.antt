@@ -195,6 +195,9 @@ module _ (arities src : List ℕ) where
           | no p ↦ absurd (no-fault (J .1) (J .2) (name-symbol ∙ ap (nameAt (getD src at 0)) (number-end (at + 1) (omega arith))))
         ]
 
+        -- and is one byte, or more
+        pub name-there : getD src (at + 1) 0 < 128 → symbolAt src arities at ≡ sy.Leaf (getD src at 0) (getD src (at + 1) 0) (at + 1 + 1)
+        name-there h = name-symbol ∙ ap (nameAt (getD src at 0)) (number-one (at + 1) name-inside h)
+
         pub there-name : getD src (at + 1) 0 < 128 → way.Leaf (at + 2) ≡ wayOf (symbolAt src arities at)
-        there-name h =
-            ap way.Leaf (omega arith) ∙ sym (ap wayOf (name-symbol ∙ ap (nameAt (getD src at 0)) (number-one (at + 1) name-inside h)))
+        there-name h = ap way.Leaf (omega arith) ∙ sym (ap wayOf (name-there h))

@@ -1,4 +1,4 @@
--- What the answers mean: the arguments of a node's facts are messages, and two are the same just where the ten equations make them equal.
+-- What the answers mean: the arguments of a node's facts are messages, and two are the same just where the equations make them equal.
 use Prim.Native.Nat.{ℕ}
 use mathlib.Core.List.{List}
 use mathlib.Core.Bool.{Bool}
@@ -61,7 +61,7 @@ module _ {p s nodes : List ℕ} {P : Protocol} where
       → TellsFacts P (factAt P (a .list) (a .number) x) (factAt P (b .list) (b .number) y) r
   same-fact-means a b x y f g = facts-told P (f .node .prepared .body .within) _ _ (fact-formed f) (fact-formed g)
 
-  -- ── "Two messages count as equal exactly when the paper's ten equations make them equal" ──
+  -- ── "Two messages count as equal exactly when the paper's ten equations make them equal", from Change 4 on all twelve ──
   pub same-argument-means :
       (a : FactId) (i : ℕ) (x : Node) → OneOf p s nodes a i P x → (b : FactId) (j : ℕ) (y : Node) → OneOf p s nodes b j P y → (r : Bool)
       → r ≡ sameTerm (argumentAt P (a .list) (a .number) i x) (argumentAt P (b .list) (b .number) j y)

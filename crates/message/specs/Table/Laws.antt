@@ -7,14 +7,15 @@ use mathlib.Core.Bool.{Bool}
 use mathlib.Core.Option.{Option, some}
 use native.Mathlib.Omega.{arith}
 use borrow.Author.Tests.{ne-eqb}
-use Rattle.term.specs.Tags.{oneTag, decTag, fstTag, sndTag, expTag, invTag, mulTag}
+use Rattle.term.specs.Tags.{oneTag, decTag, fstTag, sndTag, expTag, invTag, mulTag, adecTag, verifyTag}
 use Rattle.lists.specs.Choice.{pick, cut-eq, clash}
 use Rattle.term.specs.Term.{Term, app, nil, _&_}
-use Rattle.message.specs.Functions.{enc, pair}
-use Rattle.message.specs.Equations.{Figure2, dec-enc, fst-pair, snd-pair, mul-assoc, mul-comm, mul-one, mul-inv, inv-inv, exp-exp, exp-one}
+use Rattle.message.specs.Functions.{enc, pair, aenc, pk, sign, yes}
+use Rattle.message.specs.Equations.{Figure2, Twelve, figure as ten, adec-aenc, verify-sign, dec-enc, fst-pair, snd-pair}
+use Rattle.message.specs.Equations.{mul-assoc, mul-comm, mul-one, mul-inv, inv-inv, exp-exp, exp-one}
 use Rattle.message.specs.Substitution.{sub}
 use Rattle.message.specs.Canonical.{Settled}
-use Rattle.message.specs.Rules.{Rule, Ordinary, aVariable, FitRule, FitArities, Theory, Tabled, reduce}
+use Rattle.message.specs.Rules.{Rule, Ordinary, aVariable, aConstant, FitRule, FitArities, Theory, Tabled, reduce}
 use Rattle.message.specs.Rules.{assoc, comm, unit, cancel, double, tower, first, Irreducible}
 use Rattle.message.specs.Table.{Table, end, row, lookup, x, y, figure, rules}
 
@@ -41,8 +42,16 @@ absent f end a = refl
 absent f (row g ts u rows) a =
     ap (λ (b : Bool). pick b (some (record { args = ts; result = u })) (lookup rows f)) (ne-eqb f g (a .0)) ∙ absent f rows (a .1)
 
-pub no-rule : (f : ℕ) → f ≢ decTag → f ≢ fstTag → f ≢ sndTag → rules f ≡ Option.none
-no-rule f a b c = absent f figure (a, (b, (c, tt)))
+-- no row has the tag
+pub record Ruleless (f : ℕ) : Type 0 where
+  pub no-dec : f ≢ decTag
+  pub no-fst : f ≢ fstTag
+  pub no-snd : f ≢ sndTag
+  pub no-adec : f ≢ adecTag
+  pub no-verify : f ≢ verifyTag
+
+pub no-rule : (f : ℕ) → Ruleless f → rules f ≡ Option.none
+no-rule f r = absent f figure (r .no-dec, (r .no-fst, (r .no-snd, (r .no-adec, (r .no-verify, tt)))))
 
 -- ── the rows are fit ──
 pub ordinary : (f : ℕ) → f ≢ oneTag → f ≢ expTag → f ≢ invTag → f ≢ mulTag → Ordinary f
@@ -54,7 +63,33 @@ enc-ordinary = ordinary 4 (omega arith) (omega arith) (omega arith) (omega arith
 pair-ordinary : Ordinary 7
 pair-ordinary = ordinary 7 (omega arith) (omega arith) (omega arith) (omega arith)
 
-module _ (ar : ℕ → Option ℕ) where
+module _ (ar : ℕ → Option ℕ) (g : FitArities ar) where
+  fit-adec : FitRule ar rules 30 (record { args = aenc x (pk y) & y & nil; result = x })
+  fit-adec = record {
+    head = ordinary 30 (omega arith) (omega arith) (omega arith) (omega arith);
+    args = (
+      (
+        ordinary 29 (omega arith) (omega arith) (omega arith) (omega arith),
+        refl,
+        (tt, ((ordinary 31 (omega arith) (omega arith) (omega arith) (omega arith), refl, (tt, tt)), tt)),
+      ),
+      (tt, tt),
+    );
+    result = aVariable;
+    bound = λ v o. inl (inl o);
+  }
+
+  fit-verify : FitRule ar rules 33 (record { args = sign x y & x & pk y & nil; result = yes })
+  fit-verify = record {
+    head = ordinary 33 (omega arith) (omega arith) (omega arith) (omega arith);
+    args = (
+      (ordinary 32 (omega arith) (omega arith) (omega arith) (omega arith), refl, (tt, (tt, tt))),
+      (tt, ((ordinary 31 (omega arith) (omega arith) (omega arith) (omega arith), refl, (tt, tt)), tt)),
+    );
+    result = aConstant {f = 34} (omega arith) (ordinary 34 (omega arith) (omega arith) (omega arith) (omega arith)) refl (g .true-arity);
+    bound = λ v o. absurd o;
+  }
+
   fit-dec : FitRule ar rules 5 (record { args = enc x y & y & nil; result = x })
   fit-dec = record {
     head = ordinary 5 (omega arith) (omega arith) (omega arith) (omega arith);
@@ -80,48 +115,67 @@ module _ (ar : ℕ → Option ℕ) where
   }
 
   pub figure-fit : (f : ℕ) (r : Rule) → rules f ≡ some r → FitRule ar rules f r
-  figure-fit f r e = of-row (FitRule ar rules) figure (fit-dec, (fit-fst, (fit-snd, tt))) f r e
+  figure-fit f r e = of-row (FitRule ar rules) figure (fit-dec, (fit-fst, (fit-snd, (fit-adec, (fit-verify, tt))))) f r e
 
   -- the theory of the figure, for an arity of each tag
-  abbrev pub theory : FitArities ar → Theory
-  theory g = record { arity = ar; rule = rules; arities = g; fit = figure-fit }
+  abbrev pub theory : Theory
+  theory = record { arity = ar; rule = rules; arities = g; fit = figure-fit }
 
 -- ── the table's equations are the figure's ──
 abbrev pub values : Term → Term → ℕ → Term
 values a b zero = a
 values a b (suc n) = b
 
-pub figure-tabled : (t u : Term) → Figure2 t u → Tabled rules t u
-figure-tabled t u (dec-enc m k) = reduce {f = 5} {r = record { args = enc x y & y & nil; result = x }} refl (values m k)
-figure-tabled t u (fst-pair a b) = reduce {f = 8} {r = record { args = pair x y & nil; result = x }} refl (values a b)
-figure-tabled t u (snd-pair a b) = reduce {f = 9} {r = record { args = pair x y & nil; result = y }} refl (values a b)
-figure-tabled t u (mul-assoc a b c) = assoc a b c
-figure-tabled t u (mul-comm a b) = comm a b
-figure-tabled t u (mul-one a) = unit a
-figure-tabled t u (mul-inv a) = cancel a
-figure-tabled t u (inv-inv a) = double a
-figure-tabled t u (exp-exp a b c) = tower a b c
-figure-tabled t u (exp-one a) = first a
+ten-tabled : (t u : Term) → Figure2 t u → Tabled rules t u
+ten-tabled t u (dec-enc m k) = reduce {f = 5} {r = record { args = enc x y & y & nil; result = x }} refl (values m k)
+ten-tabled t u (fst-pair a b) = reduce {f = 8} {r = record { args = pair x y & nil; result = x }} refl (values a b)
+ten-tabled t u (snd-pair a b) = reduce {f = 9} {r = record { args = pair x y & nil; result = y }} refl (values a b)
+ten-tabled t u (mul-assoc a b c) = assoc a b c
+ten-tabled t u (mul-comm a b) = comm a b
+ten-tabled t u (mul-one a) = unit a
+ten-tabled t u (mul-inv a) = cancel a
+ten-tabled t u (inv-inv a) = double a
+ten-tabled t u (exp-exp a b c) = tower a b c
+ten-tabled t u (exp-one a) = first a
+
+pub figure-tabled : (t u : Term) → Twelve t u → Tabled rules t u
+figure-tabled t u (ten e) = ten-tabled t u e
+figure-tabled t u (adec-aenc m k) = reduce {f = 30} {r = record { args = aenc x (pk y) & y & nil; result = x }} refl (values m k)
+figure-tabled t u (verify-sign m k) = reduce {f = 33} {r = record { args = sign x y & x & pk y & nil; result = yes }} refl (values m k)
 
 abbrev InFigure : ℕ → Rule → Type 0
-InFigure f r = (θ : ℕ → Term) → Figure2 (sub θ (app f (r .args))) (sub θ (r .result))
+InFigure f r = (θ : ℕ → Term) → Twelve (sub θ (app f (r .args))) (sub θ (r .result))
 
-pub tabled-figure : (t u : Term) → Tabled rules t u → Figure2 t u
+pub tabled-figure : (t u : Term) → Tabled rules t u → Twelve t u
 tabled-figure t u (reduce {f = f} {r = r} e θ) =
-    of-row InFigure figure (λ η. dec-enc (η 0) (η 1), (λ η. fst-pair (η 0) (η 1), (λ η. snd-pair (η 0) (η 1), tt))) f r e θ
-tabled-figure t u (assoc a b c) = mul-assoc a b c
-tabled-figure t u (comm a b) = mul-comm a b
-tabled-figure t u (unit a) = mul-one a
-tabled-figure t u (cancel a) = mul-inv a
-tabled-figure t u (double a) = inv-inv a
-tabled-figure t u (tower a b c) = exp-exp a b c
-tabled-figure t u (first a) = exp-one a
+    of-row InFigure figure (
+      λ η. ten (dec-enc (η 0) (η 1)),
+      (
+        λ η. ten (fst-pair (η 0) (η 1)),
+        (λ η. ten (snd-pair (η 0) (η 1)), (λ η. adec-aenc (η 0) (η 1), (λ η. verify-sign (η 0) (η 1), tt))),
+      ),
+    ) f r e θ
+tabled-figure t u (assoc a b c) = ten (mul-assoc a b c)
+tabled-figure t u (comm a b) = ten (mul-comm a b)
+tabled-figure t u (unit a) = ten (mul-one a)
+tabled-figure t u (cancel a) = ten (mul-inv a)
+tabled-figure t u (double a) = ten (inv-inv a)
+tabled-figure t u (tower a b c) = ten (exp-exp a b c)
+tabled-figure t u (first a) = ten (exp-one a)
 
 -- ── the table's rules are the words of the canonical form ──
 pub settled-irreducible : (t : Term) → Settled t → Irreducible rules t
 settled-irreducible t s = record {
-  no-rule = of-row (λ f r. (θ : ℕ → Term) → t ≢ sub θ (app f (r .args))) figure
-      (λ η. s .no-dec (η 0) (η 1), (λ η. s .no-fst (η 0) (η 1), (λ η. s .no-snd (η 0) (η 1), tt)));
+  no-rule = of-row (λ f r. (θ : ℕ → Term) → t ≢ sub θ (app f (r .args))) figure (
+    λ η. s .no-dec (η 0) (η 1),
+    (
+      λ η. s .no-fst (η 0) (η 1),
+      (
+        λ η. s .no-snd (η 0) (η 1),
+        (λ η. s .no-adec (η 0) (η 1), (λ η. s .no-verify (η 0) (η 1), tt)),
+      ),
+    ),
+  );
   no-exp = s .no-exp;
   no-exp-one = s .no-exp-one;
 }
@@ -131,6 +185,8 @@ irreducible-settled t i = record {
   no-dec = λ m k. i .no-rule 5 (record { args = enc x y & y & nil; result = x }) refl (values m k);
   no-fst = λ a b. i .no-rule 8 (record { args = pair x y & nil; result = x }) refl (values a b);
   no-snd = λ a b. i .no-rule 9 (record { args = pair x y & nil; result = y }) refl (values a b);
+  no-adec = λ m k. i .no-rule 30 (record { args = aenc x (pk y) & y & nil; result = x }) refl (values m k);
+  no-verify = λ m k. i .no-rule 33 (record { args = sign x y & x & pk y & nil; result = yes }) refl (values m k);
   no-exp = i .no-exp;
   no-exp-one = i .no-exp-one;
 }

@@ -1,27 +1,26 @@
 -- One rule number after another.
-use Prim.Native.Nat.{ℕ, _+_, _*_, _-_, _≤_, _<_}
-use mathlib.Core.List.{List, _++_, append-assoc}
+use Prim.Native.Nat.{ℕ, _+_, _*_, _≤_, _<_}
+use mathlib.Core.List.{List}
 use mathlib.Core.Option.{none}
 use mathlib.Core.Path.{_≡_, refl, ap, ap₂, sym, _∙_, subst}
 use native.Mathlib.Omega.{arith}
-use lib.ListN.{length, getD, take, drop, replicate, length-replicate}
-use lib.Seq.{length-take-le, drop-drop}
-use borrow.Rule.Slice.PartMut.{putMid, midOf, mid-len, same-len-mid}
+use lib.ListN.{length, getD, take}
+use lib.Seq.{length-take-le}
 use Rattle.lists.specs.Choice.{by-size}
 use Rattle.octets.specs.Splice.{splice}
 use Rattle.octets.specs.Splice.Laws.{length-splice, splice-before}
 use Rattle.protocol.specs.Protocol.{Protocol, encodeRule}
 use Rattle.protocol.specs.Protocol.Exact.{rule-exact, rule-inside, few-arities}
 use Rattle.rules.specs.Numbered.{ruleOf}
-use Rattle.lists.specs.Lists.Laws.{at-outside, zeros-at}
-use Rattle.rules.specs.Numbered.Found.{WrittenAs, PlacedAs, Finds, of-own}
+use Rattle.rules.specs.Numbered.Found.{WrittenAs, PlacedAs, Finds}
 use Rattle.rules.specs.declared.numbered.FoundRule.{FoundRule}
 use Rattle.rules.specs.declared.numbered.FoundRule.the-variants as fd
 use Rattle.rules.specs.Numbered.{ruleRoom}
-use Rattle.prepared.specs.Sections.{builtinCount, ruleCount, placesAt, rulesAt, fileAt, cellAt, builtinAt, bodyLength, placeBase, placeLimit}
+use Rattle.rules.specs.Numbered.Slots.{slotOf, slot-rises, slot-few}
+use Rattle.prepared.specs.Sections.{ruleCount, fileAt, cellAt, writtenAt, bodyLength, placeBase, placeLimit}
 use Rattle.prepared.specs.Prepared.{placeAt}
 use Rattle.prepared.specs.Pairs.{paired-other, pair-read}
-use Rattle.prepared.specs.Filling.{Source, placed, Row, written, in-file, missing, Unplaced, NoPlaces, Kept, Enters, Rows}
+use Rattle.prepared.specs.Filling.{Source, placed, Row, written, in-file, missing, Kept, Enters, Rows}
 use Rattle.prepared.specs.Filling.Lists.{splice-lies, lies-kept}
 
 -- ── a place written ──
@@ -32,47 +31,18 @@ module _ (p : List ℕ) (n v : ℕ) (small : n < ruleCount) (long : length p ≡
   place-kept : Kept p (placed p n v) n
   place-kept = record {
     low = λ i h. paired-other p (cellAt n) v i (λ e. omega arith) (λ e. omega arith);
-    between = λ i h k. paired-other p (cellAt n) v i (λ e. omega arith) (λ e. omega arith);
     high = λ i h k. paired-other p (cellAt n) v i (λ e. omega arith) (λ e. omega arith);
   }
-
--- ── no place ──
-module _ (p zeros : List ℕ) (long : length p ≡ bodyLength) (cleared : zeros ≡ replicate (length (midOf placesAt (rulesAt - placesAt) p)) 0) where
-  zeros-many : length zeros ≡ rulesAt - placesAt
-  zeros-many =
-      ap length cleared ∙ length-replicate {A = ℕ} (length (midOf placesAt (rulesAt - placesAt) p)) 0 ∙ mid-len placesAt rulesAt p (omega arith)
-
-  pub cleared-long : length (putMid placesAt (rulesAt - placesAt) p zeros) ≡ bodyLength
-  cleared-long = same-len-mid placesAt (rulesAt - placesAt) p zeros (zeros-many ∙ sym (mid-len placesAt rulesAt p (omega arith))) ∙ long
-
-  as-splice : putMid placesAt (rulesAt - placesAt) p zeros ≡ splice p placesAt zeros
-  unfolding splice
-  as-splice =
-      let z : placesAt + (rulesAt - placesAt) ≡ placesAt + length zeros = omega (arith, zeros-many) in
-      sym (append-assoc (take placesAt p) zeros (drop (rulesAt - placesAt) (drop placesAt p)))
-      ∙ ap (λ (l : List ℕ). (take placesAt p ++ zeros) ++ l) (drop-drop (rulesAt - placesAt) placesAt p ∙ ap (λ (k : ℕ). drop k p) z)
-
-  pub places-cleared : NoPlaces p (putMid placesAt (rulesAt - placesAt) p zeros)
-  places-cleared =
-      subst (NoPlaces p) (sym as-splice)
-      record {
-        before = λ i l. splice-before p placesAt zeros (omega (arith, zeros-many)) 0 i l;
-        zeros = λ i l m.
-            let z : placesAt + (i - placesAt) ≡ i = omega arith in
-            subst (λ (k : ℕ). getD (splice p placesAt zeros) k 0 ≡ 0) z
-            (splice-lies p placesAt zeros (omega (arith, zeros-many)) (i - placesAt) (omega (arith, zeros-many))
-            ∙ ap (λ (l : List ℕ). getD l (i - placesAt) 0) cleared
-            ∙ zeros-at (length (midOf placesAt (rulesAt - placesAt) p)) (i - placesAt));
-      }
 
 -- ── rows stay ──
 module _ {arities places : List ℕ} {nr : ℕ} (f : Source arities places nr) where
   pub row-kept :
       (p p′ : List ℕ) (m : ℕ) → getD p′ (cellAt m) 0 ≡ getD p (cellAt m) 0 → getD p′ (cellAt m + 1) 0 ≡ getD p (cellAt m + 1) 0
-      → ((j : ℕ) → m < builtinCount → j < ruleRoom → getD p′ (builtinAt m + j) 0 ≡ getD p (builtinAt m + j) 0) → Row f p m → Row f p′ m
+      → ((j : ℕ) → slotOf m < slotOf (m + 1) → j < ruleRoom → getD p′ (writtenAt (slotOf m) + j) 0 ≡ getD p (writtenAt (slotOf m) + j) 0) → Row f p m → Row f
+      p′ m
   row-kept p p′ m a b c (written u is small e few l) =
       written u is small (ap₂ (λ (x y : ℕ). x * placeBase + y) a b ∙ e) few
-      (lies-kept p (builtinAt m) (encodeRule u) p′ (λ j h. c j small (omega arith)) l)
+      (lies-kept p (writtenAt (slotOf m)) (encodeRule u) p′ (λ j h. c j small (omega arith)) l)
   row-kept p p′ m a b c (in-file u k d is e inside s) = in-file u k d is (ap₂ (λ (x y : ℕ). x * placeBase + y) a b ∙ e) inside s
   row-kept p p′ m a b c (missing is e) = missing is (ap₂ (λ (x y : ℕ). x * placeBase + y) a b ∙ e)
 
@@ -84,28 +54,14 @@ module _ {arities places : List ℕ} {nr : ℕ} (f : Source arities places nr) w
     each = λ m h.
         by-size m n
         (λ l. row-kept p₁ p₂ m (e .kept .low (cellAt m) (omega arith)) (e .kept .low (cellAt m + 1) (omega arith))
-        (λ j _ k. e .kept .high (builtinAt m + j) (omega arith) (omega arith)) (r .each m l))
+        (λ j s k. e .kept .high (writtenAt (slotOf m) + j) (omega arith) (omega (arith, slot-rises (m + 1) n (omega arith), s))) (r .each m l))
         (λ l. let z : n ≡ m = omega arith in subst (Row f p₂) z (e .row));
     before = λ i h. e .kept .low i (omega arith) ∙ r .before i h;
   }
 
-  pub unplaced-more : (p₁ p₂ : List ℕ) (n : ℕ) → Unplaced p₁ n → Enters f p₁ p₂ n → Unplaced p₂ (n + 1)
-  unplaced-more p₁ p₂ n z e i h k = e .kept .between i (omega arith) k ∙ z i (omega arith) k
-
-  -- the file has no rules behind its own
-  none-behind : (m : ℕ) → builtinCount + nr ≤ m → ruleOf (f .entries .is) m ≡ none
-  none-behind m h =
-      of-own (f .entries .is) m (omega arith) ∙ at-outside (f .entries .is .rules) (m - builtinCount) (omega (arith, f .entries .placed .count))
-
-  pub rows-all : (p p₁ p₂ : List ℕ) (n : ℕ) → builtinCount + nr ≤ n → NoPlaces p p₁ → Rows f p₁ p₂ n → Unplaced p₂ n → Rows f p p₂ ruleCount
-  rows-all p p₁ p₂ n all c r z = record {
-    each = λ m h.
-        by-size m n
-        (λ l. r .each m l)
-        (λ l. missing (none-behind m (omega arith))
-        (ap₂ (λ (x y : ℕ). x * placeBase + y) (z (cellAt m) (omega arith) (omega arith)) (z (cellAt m + 1) (omega arith) (omega arith))));
-    before = λ i h. r .before i h ∙ c .before i h;
-  }
+  -- all of them
+  pub rows-end : (p p₁ : List ℕ) (n : ℕ) → n ≡ ruleCount → Rows f p p₁ n → Rows f p p₁ ruleCount
+  rows-end p p₁ n e r = subst (Rows f p p₁) e r
 
   -- ── what was found ──
   module _ (n : ℕ) (small : n < ruleCount) where
@@ -140,25 +96,26 @@ module _ {arities places : List ℕ} {nr : ℕ} (f : Source arities places nr) w
 
       pub enters-written :
           (len : ℕ) (out : List ℕ) → length out ≡ ruleRoom → (w : WrittenAs (f .entries .is) n len out)
-          → p′ ≡ placed (splice p (builtinAt n) (take len out)) n (builtinAt n) → Enters f p p′ n
+          → p′ ≡ placed (splice p (writtenAt (slotOf n)) (take len out)) n (writtenAt (slotOf n)) → Enters f p p′ n
       enters-written len out room w h =
           let q : List ℕ = encodeRule (w .its) in
+          let at : ℕ = writtenAt (slotOf n) in
           let b : take len out ≡ q = w .holds .bytes in
           let l : length q ≤ ruleRoom = omega (arith, ap length b, w .holds .short, length-take-le len out (w .holds .short)) in
-          let p₁ : List ℕ = splice p (builtinAt n) q in
-          let n₁ : length p₁ ≡ bodyLength = length-splice p (builtinAt n) q (omega arith) ∙ long in
-          let z : p′ ≡ placed p₁ n (builtinAt n) = h ∙ ap (λ (r : List ℕ). placed (splice p (builtinAt n) r) n (builtinAt n)) b in
-          let k = place-kept p₁ n (builtinAt n) small n₁ in
+          let s : slotOf n < 37 = omega (arith, slot-few (n + 1) (omega arith), w .has-slot) in
+          let p₁ : List ℕ = splice p at q in
+          let n₁ : length p₁ ≡ bodyLength = length-splice p at q (omega arith) ∙ long in
+          let z : p′ ≡ placed p₁ n at = h ∙ ap (λ (r : List ℕ). placed (splice p at r) n at) b in
+          let k = place-kept p₁ n at small n₁ in
           subst (λ (r : List ℕ). Enters f p r n) (sym z)
           record {
-            row = written (w .its) (w .is) (w .low) (place-read p₁ n (builtinAt n) small n₁) l
-                (lies-kept p₁ (builtinAt n) q (placed p₁ n (builtinAt n))
-                (λ j m. paired-other p₁ (cellAt n) (builtinAt n) (builtinAt n + j) (λ e. omega arith) (λ e. omega arith))
-                (splice-lies p (builtinAt n) q (omega arith)));
+            row = written (w .its) (w .is) (w .has-slot) (place-read p₁ n at small n₁) l
+                (lies-kept p₁ at q (placed p₁ n at)
+                (λ j m. paired-other p₁ (cellAt n) at (at + j) (λ e. omega arith) (λ e. omega arith))
+                (splice-lies p at q (omega arith)));
             kept = record {
-              low = λ i m. k .low i m ∙ splice-before p (builtinAt n) q (omega arith) 0 i (omega arith);
-              between = λ i m j. k .between i m j ∙ splice-before p (builtinAt n) q (omega arith) 0 i (omega arith);
-              high = λ i m j. k .high i m j ∙ splice-before p (builtinAt n) q (omega arith) 0 i j;
+              low = λ i m. k .low i m ∙ splice-before p at q (omega arith) 0 i (omega arith);
+              high = λ i m j. k .high i m j ∙ splice-before p at q (omega arith) 0 i j;
             };
           }
 

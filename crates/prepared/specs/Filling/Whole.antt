@@ -21,9 +21,10 @@ use Rattle.rules.specs.Fit.Laws.{Indexes}
 use Rattle.rules.specs.declared.fit.FitVerdict.{FitVerdict}
 use Rattle.rules.specs.declared.fit.FitVerdict.the-variants as jd
 use Rattle.rules.specs.Numbered.{ruleOf}
+use Rattle.rules.specs.Numbered.Slots.{slotOf, slot-few}
 use Rattle.rules.specs.Numbered.Limits.{rule-within}
 use Rattle.protocol.specs.Figures.{symbolCount}
-use Rattle.prepared.specs.Sections.{slotCount, ruleCount, aritiesAt, linearsAt, placesAt, fileAt, fileLimit, cellAt, builtinAt, bodyLength}
+use Rattle.prepared.specs.Sections.{slotCount, ruleCount, aritiesAt, linearsAt, placesAt, fileAt, fileLimit, cellAt, writtenAt, bodyLength}
 use Rattle.prepared.specs.Prepared.{slotsOf, aritiesOf, linearsOf, linears, linear, placeAt, RuleAt, Some, Entry, Body}
 use Rattle.prepared.specs.Prepared.Laws.{padded-in, arities-length}
 use Rattle.prepared.specs.Filling.{Laid, Lies, Row, written, in-file, missing, Rows, BodyAs}
@@ -162,7 +163,7 @@ module _ {file arities ars flags places : List ℕ} {nr : ℕ} (l : Laid file ar
   row : (n : ℕ) → n < ruleCount → Row (l .source) p₅ n
   row n h =
       row-kept (l .source) p₄ p₅ n (kept₅ (cellAt n) (omega arith)) (kept₅ (cellAt n + 1) (omega arith))
-      (λ j m k. kept₅ (builtinAt n + j) (omega arith)) (fourth .each n h)
+      (λ j m k. kept₅ (writtenAt (slotOf n) + j) (omega (arith, slot-few (n + 1) (omega arith), m))) (fourth .each n h)
 
   -- the file stands at its place, and each rule of it
   in-file-there : (k e : ℕ) (q : List ℕ) → k ≤ length (l .source .file) → Stands (l .source .file) k q e → (rest : List ℕ) × (drop (fileAt + k) p₅ ≡ q ++ rest)
@@ -176,14 +177,16 @@ module _ {file arities ars flags places : List ℕ} {nr : ℕ} (l : Laid file ar
             ∙ append-assoc q (drop e (l .source .file)) tail,
       )
 
-  entry : (n : ℕ) → Row (l .source) p₅ n → Entry p₅ n (ruleOf P n)
-  entry n (written u is small e few lies) =
-      entry-some P (l .source .entries .within) p₅ bytes long₅ slotted tabled n u is (builtinAt n) (drop (builtinAt n + length (encodeRule u)) p₅)
-      (lies-there p₅ (builtinAt n) (encodeRule u) (omega (arith, long₅)) lies) e (omega arith)
-  entry n (in-file u k d is e inside s) =
+  entry : (n : ℕ) → n < ruleCount → Row (l .source) p₅ n → Entry p₅ n (ruleOf P n)
+  entry n inside (written u is small e few lies) =
+      let at : ℕ = writtenAt (slotOf n) in
+      let s : slotOf n < 37 = omega (arith, slot-few (n + 1) (omega arith), small) in
+      entry-some P (l .source .entries .within) p₅ bytes long₅ slotted tabled n u is at (drop (at + length (encodeRule u)) p₅)
+      (lies-there p₅ at (encodeRule u) (omega (arith, long₅)) lies) e (omega arith)
+  entry n _ (in-file u k d is e inside s) =
       let (rest, there) = in-file-there k d (encodeRule u) inside s in
       entry-some P (l .source .entries .within) p₅ bytes long₅ slotted tabled n u is (fileAt + k) rest there e (omega arith)
-  entry n (missing is e) = subst (Entry p₅ n) (sym is) e
+  entry n _ (missing is e) = subst (Entry p₅ n) (sym is) e
 
   pub body-laid : Body p₅ (l .source .entries .is)
   body-laid = record {
@@ -192,7 +195,7 @@ module _ {file arities ars flags places : List ℕ} {nr : ℕ} (l : Laid file ar
     slotted = slotted;
     tabled = tabled;
     flagged = flagged;
-    rules = λ n h. entry n (row n h);
+    rules = λ n h. entry n h (row n h);
   }
 
 -- ── the lengths of what is asked ──

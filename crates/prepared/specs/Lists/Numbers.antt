@@ -1,27 +1,25 @@
 -- The entries of one rule number after another.
-use Prim.Native.Nat.{ℕ, _+_, _-_, _*_, _/_, _%_, _≤_, _<_}
+use Prim.Native.Nat.{ℕ, _+_, _-_, _*_, _/_, _%_, _<_}
 use mathlib.Core.List.{List}
 use mathlib.Core.Option.{Option, some, none, Option·none-ne-some}
 use mathlib.Core.Path.{_≡_, refl, ap, ap₂, sym, _∙_, subst, subst₂}
 use native.Mathlib.Omega.{arith}
 use lib.ListN.{length}
-use Rattle.protocol.specs.Figures.{listCount, mostRules}
+use Rattle.protocol.specs.Figures.{listCount}
 use Rattle.lists.specs.Asks.{Asks}
 use Rattle.lists.specs.Choice.{by-size}
-use Rattle.lists.specs.Lists.Laws.{at-outside}
 use Rattle.octets.specs.Head.{Bytes}
 use Rattle.protocol.specs.Protocol.{Rule, Protocol, listOf}
 use Rattle.protocol.specs.Places.{At, listPlace, placeOf}
 use Rattle.protocol.specs.Places.Laws.{list-law, list-next, rule-layout}
 use Rattle.rules.specs.Numbered.{ruleOf}
-use Rattle.rules.specs.Numbered.Found.{of-own}
 use Rattle.prepared.specs.declared.finding.Found.{Found}
 use Rattle.prepared.specs.declared.finding.Found.the-variants as fd
-use Rattle.prepared.specs.Sections.{ruleCount, builtinCount, bodyLength, entryCount, factRow}
-use Rattle.prepared.specs.Prepared.{slotsOf, aritiesOf, placeAt, Entry, Body, bodyOf, entryAt, preparedFacts, ListAt, factPlaceIn}
+use Rattle.prepared.specs.Sections.{bodyLength, factRow}
+use Rattle.prepared.specs.Prepared.{slotsOf, aritiesOf, Body, bodyOf, entryAt, preparedFacts, ListAt, factPlaceIn}
 use Rattle.prepared.specs.Prepared.Laws.{list-few}
 use Rattle.prepared.specs.Finding.{Finds, found-here}
-use Rattle.prepared.specs.Lists.{ListsOf, RulesIn, ListEntered, ListIn, Listing, NumberEntered}
+use Rattle.prepared.specs.Lists.{ListsOf, ListEntered, ListIn, Listing, NumberEntered}
 
 -- ── where the lists of a rule stand ──
 -- at a place, in whatever protocol
@@ -131,26 +129,3 @@ lists-none p n h = record {
       (λ b. l j b P u f is)
       (λ b. let d : j / 3 ≡ n = omega arith in absurd (Option·none-ne-some u (sym (ap (ruleOf P) d ∙ h P f) ∙ is)));
 }
-
--- ── the numbers behind the rules of the file have no rule ──
-no-place : (q : List ℕ) (m : ℕ) (u : Option Rule) → Entry q m u → placeAt q m ≡ 0 → u ≡ none
-no-place q m (some u) e z = absurd (omega (arith, e .there))
-no-place q m none e z = refl
-
-module _ (q : List ℕ) (nr : ℕ) (ready : Asks (RulesIn q nr)) where
-  pub rules-few : nr ≤ mostRules
-  rules-few = omega (arith, ready .1 .count, ready .1 .body .within .few-rules)
-
-  none-more : (m : ℕ) → builtinCount + nr ≤ m → m < ruleCount → (P : Protocol) → Body q P → ruleOf P m ≡ none
-  none-more m h l P f =
-      let (Q, g) = ready in
-      let none-there : ruleOf Q m ≡ none = of-own Q m (omega arith) ∙ at-outside (Q .rules) (m - builtinCount) (omega (arith, g .count)) in
-      no-place q m (ruleOf P m) (f .rules m l) (subst (Entry q m) none-there (g .body .rules m l))
-
-  pub listing-all : (p : List ℕ) (n : ℕ) → bodyOf p ≡ q → builtinCount + nr ≤ n → Listing p (listCount * n) → Listing p entryCount
-  listing-all p n e all l j h P u f is =
-      by-size j (3 * n)
-      (λ b. l j b P u f is)
-      (λ b.
-      let f′ : Body q P = subst (λ (c : List ℕ). Body c P) e f in
-      absurd (Option·none-ne-some u (sym (none-more (j / 3) (omega arith) (omega arith) P f′) ∙ is)))

@@ -14,10 +14,10 @@ use Rattle.rules.specs.Numbered.{ruleOf}
 use Rattle.rules.specs.declared.fit.FitVerdict.{FitVerdict}
 use Rattle.rules.specs.declared.fit.FitVerdict.the-variants as jd
 use Rattle.prepared.specs.Sections.{ruleCount, bodyLength, preparedLength, entryCount}
-use Rattle.prepared.specs.Prepared.{bodyOf, listEntry, factEntry, ListAt, factPlaceIn}
+use Rattle.prepared.specs.Prepared.{Body, bodyOf, listEntry, factEntry, ListAt, factPlaceIn}
 use Rattle.prepared.specs.Prepared.Longer.{body-longer, list-longer, fact-longer}
 use Rattle.prepared.specs.Filling.{BodyAs, WhereBody}
-use Rattle.prepared.specs.Lists.{RulesIn, ListIn, Listing, PreparedAs}
+use Rattle.prepared.specs.Lists.{ListIn, Listing, PreparedAs}
 
 module _ (file p : List ℕ) (long : length p ≡ preparedLength) (bytes : Bytes p) {nr : ℕ} (w : BodyAs file nr (bodyOf p)) (table : Listing p entryCount) where
   abbrev P : Protocol
@@ -64,5 +64,5 @@ module _ (q p : List ℕ) (len : length q ≡ bodyLength) (long : length p ≡ p
     pub joined-as : BodyAs file nr (bodyOf (q ++ drop bodyLength p))
     joined-as = subst (BodyAs file nr) (sym joined) (subst (λ (x : FitVerdict). WhereBody file x q) e w)
 
-    pub joined-ready : Asks (RulesIn (bodyOf (q ++ drop bodyLength p)) nr)
-    joined-ready = (joined-as .its, record { body = joined-as .is; count = joined-as .count })
+    pub joined-ready : Asks (Body (bodyOf (q ++ drop bodyLength p)))
+    joined-ready = (joined-as .its, joined-as .is)

@@ -16,7 +16,8 @@ use Rattle.number.specs.Reading.Laws.{then-got, then-fault}
 use Rattle.number.specs.Reading.Many.{Came, many-snoc, many-length}
 use Rattle.number.specs.declared.Number.{Number}
 use Rattle.number.specs.declared.Number.the-variants as num
-use Rattle.term.specs.Arity.{builtin, padded, tagArities}
+use Rattle.term.specs.Arity.{builtin, signing, padded, tagArities}
+use Rattle.term.specs.Arity.Laws.{length-padded}
 use Rattle.protocol.specs.declared.index.OwnRead.{OwnRead}
 use Rattle.protocol.specs.declared.index.OwnRead.the-variants as ow
 use Rattle.protocol.specs.Protocol.{Own, own-of, factArities, factFlags, own}
@@ -51,11 +52,18 @@ padded-more (suc n) [] (suc j) v h k = absurd (omega arith)
 padded-more (suc n) (a ∷ l) zero v h k = absurd (omega arith)
 padded-more (suc n) (a ∷ l) (suc j) v h k = ap (λ (r : List ℕ). a ∷ r) (padded-more n l j v (omega arith) (omega arith))
 
+set-before : (xs ys : List ℕ) (j v : ℕ) → j < length xs → set (xs ++ ys) j v ≡ set xs j v ++ ys
+set-before [] ys j v h = absurd (omega arith)
+set-before (x ∷ xs) ys zero v h = refl
+set-before (x ∷ xs) ys (suc j) v h = ap (λ (l : List ℕ). x ∷ l) (set-before xs ys j v (omega arith))
+
 -- one function more
 pub slots-more : (fs : List ℕ) (j v : ℕ) → length fs ≡ j → j < 16 → set (tagArities fs) (13 + j) v ≡ tagArities (fs ++ (v ∷ []))
 unfolding tagArities
 slots-more fs j v h k =
-    set-behind builtin (padded 16 fs) (13 + j) j v (omega arith) ∙ ap (λ (l : List ℕ). builtin ++ l) (padded-more 16 fs j v h k)
+    set-behind builtin (padded 16 fs ++ signing) (13 + j) j v (omega arith)
+    ∙ ap (λ (l : List ℕ). builtin ++ l)
+    (set-before (padded 16 fs) signing j v (omega (arith, length-padded 16 fs)) ∙ ap (λ (l : List ℕ). l ++ signing) (padded-more 16 fs j v h k))
 
 -- a whole list replaced
 pub splice-all : (l vs : List ℕ) → length l ≡ length vs → splice l 0 vs ≡ vs
@@ -67,7 +75,7 @@ splice-all l vs h =
 pub slots-none :
     tagArities [] ≡ 255 ∷ 255 ∷ 255 ∷ 0 ∷ 2 ∷ 2 ∷ 1 ∷ 2 ∷ 1 ∷ 1 ∷ 2 ∷ 1 ∷ 2 ∷ 255 ∷ 255 ∷ 255 ∷ 255 ∷ 255 ∷ 255 ∷ 255 ∷ 255 ∷ 255 ∷ 255 ∷ 255 ∷ 255 ∷ 255 ∷ 255
     ∷
-    255 ∷ 255 ∷ []
+    255 ∷ 255 ∷ 2 ∷ 2 ∷ 1 ∷ 2 ∷ 3 ∷ 0 ∷ []
 unfolding tagArities
 slots-none = refl
 

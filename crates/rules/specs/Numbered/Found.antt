@@ -4,7 +4,7 @@ use mathlib.Core.List.{List}
 use mathlib.Core.Option.{some, none}
 use mathlib.Core.Path.{_≡_, ap, sym, _∙_, subst}
 use native.Mathlib.Omega.{arith}
-use lib.ListN.{length, getD, getElem?}
+use lib.ListN.{length, getD}
 use lib.Dec.{ltb}
 use borrow.Author.Tests.{lt-ltb, le-ltb}
 use Rattle.lists.specs.Choice.{pick, by-size}
@@ -17,7 +17,9 @@ use Rattle.protocol.specs.Places.{Here}
 use Rattle.protocol.specs.Index.{Placed}
 use Rattle.rules.specs.declared.numbered.FoundRule.{FoundRule}
 use Rattle.rules.specs.declared.numbered.FoundRule.the-variants as fd
-use Rattle.rules.specs.Numbered.{fixed, applies, applied, ruleOf, firstOwnRule}
+use Rattle.rules.specs.Numbered.{fixed, applies, applied, Numbered, aFixed, anApply, anOwn, numbered, ruleAs, ruleOf}
+use Rattle.rules.specs.Numbered.Slots.{slotOf}
+use Rattle.rules.specs.Numbered.Map.{number-fixed}
 use Rattle.rules.specs.Numbered.Limits.{Slot, takes, empty, slot-at}
 use Rattle.rules.specs.Numbered.Writing.{Holds}
 
@@ -65,7 +67,7 @@ module _ (places : List ℕ) (n k : ℕ) where
 pub record WrittenAs (p : Protocol) (n len : ℕ) (out : List ℕ) : Type 0 where
   pub its : Rule
   pub is : ruleOf p n ≡ some its
-  pub low : n < firstOwnRule
+  pub has-slot : slotOf n < slotOf (n + 1)
   pub holds : Holds out len (encodeRule its)
 
 pub record PlacedAs (p : Protocol) (file arities ars : List ℕ) (n place : ℕ) : Type 0 where
@@ -79,38 +81,33 @@ Finds p file arities ars n (fd.At place) out = PlacedAs p file arities ars n pla
 Finds p file arities ars n fd.Nothing out = ruleOf p n ≡ none
 
 module _ (p : Protocol) (n : ℕ) where
+  -- what its number stands for
+  pub of-number : (k : Numbered) → numbered n ≡ k → ruleOf p n ≡ ruleAs p k
+  unfolding ruleOf
+  of-number k e = ap (ruleAs p) e
+
   pub of-fixed : n < 5 → ruleOf p n ≡ some (fixed n)
-  unfolding ruleOf
-  of-fixed h = simp (lt-ltb n 5 h)
-
-  pub of-applied : (t : ℕ) → n ≡ t + 2 → 5 ≤ n → n < 31 → ruleOf p n ≡ applied t (arity (tagArities (p .functions)) t)
-  unfolding ruleOf
-  of-applied t e h k =
-      let z : n - 2 ≡ t = omega arith in
-      simp (le-ltb n 5 h, lt-ltb n 31 k, z)
-
-  pub of-own : 31 ≤ n → ruleOf p n ≡ getElem? (p .rules) (n - 31)
-  unfolding ruleOf
-  of-own h = simp (le-ltb n 5 (omega arith), le-ltb n 31 h)
+  of-fixed h = of-number (aFixed n) (number-fixed n h)
 
   module _ (file slots′ ars out : List ℕ) where
     pub finds-applied :
-        (t : ℕ) → n ≡ t + 2 → 5 ≤ n → n < 31 → (r : FoundRule) → Applies (tagArities (p .functions)) t r out → Finds p file slots′ ars n r out
-    finds-applied t e h k (fd.Written len) a =
-        record { its = applies t (a .arguments); is = of-applied t e h k ∙ ap (applied t) (a .declared); low = k; holds = a .holds }
-    finds-applied t e h k (fd.At place) a = absurd a
-    finds-applied t e h k fd.Nothing a = of-applied t e h k ∙ ap (applied t) a
+        (t : ℕ) → numbered n ≡ anApply t → slotOf n < slotOf (n + 1) → (r : FoundRule) → Applies (tagArities (p .functions)) t r out
+        → Finds p file slots′ ars n r out
+    finds-applied t e k (fd.Written len) a =
+        record { its = applies t (a .arguments); is = of-number (anApply t) e ∙ ap (applied t) (a .declared); has-slot = k; holds = a .holds }
+    finds-applied t e k (fd.At place) a = absurd a
+    finds-applied t e k fd.Nothing a = of-number (anApply t) e ∙ ap (applied t) a
 
     pub finds-own :
-        (places : List ℕ) (nr : ℕ) → Placed (rule file slots′ ars) emptyRule places (p .rules) nr → 31 ≤ n → (r : FoundRule)
+        (places : List ℕ) (nr : ℕ) → Placed (rule file slots′ ars) emptyRule places (p .rules) nr → numbered n ≡ anOwn (n - 31) → (r : FoundRule)
         → r ≡ placeFound places nr (n - 31) → Finds p file slots′ ars n r out
     finds-own places nr q h r e =
         by-size (n - 31) nr
         (λ l. subst (λ (x : FoundRule). Finds p file slots′ ars n x out) (sym (e ∙ place-found places nr (n - 31) l))
         record {
           its = getD (p .rules) (n - 31) emptyRule;
-          is = of-own h ∙ at-inside emptyRule (p .rules) (n - 31) (omega (arith, q .count));
+          is = of-number (anOwn (n - 31)) h ∙ at-inside emptyRule (p .rules) (n - 31) (omega (arith, q .count));
           here = q .each (n - 31) l;
         })
         (λ l. subst (λ (x : FoundRule). Finds p file slots′ ars n x out) (sym (e ∙ place-none places nr (n - 31) l))
-        (of-own h ∙ at-outside (p .rules) (n - 31) (omega (arith, q .count))))
+        (of-number (anOwn (n - 31)) h ∙ at-outside (p .rules) (n - 31) (omega (arith, q .count))))

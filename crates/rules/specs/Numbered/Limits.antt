@@ -14,13 +14,14 @@ use Rattle.lists.specs.All.Laws.{all-append, all-nth}
 use borrow.Author.Tests.{lt-ltb}
 use Rattle.lists.specs.Lists.{anyBy}
 use Rattle.term.specs.Term.{Term, leaf, app, variable, count, symbolss, Formeds, InRanges}
-use Rattle.term.specs.Arity.{arity, tagArities, builtin, padded, undeclared}
+use Rattle.term.specs.Arity.{arity, tagArities, builtin, signing, padded, undeclared}
 use Rattle.term.specs.Reader.{terms}
 use Rattle.term.specs.Walk.{holds, holdss}
 use Rattle.protocol.specs.Protocol.{Fact, Rule, Own, Protocol, fact-of, rule-of, factArities, leafIn, declared}
 use Rattle.protocol.specs.Protocol.Limits.{RuleWithin, Within}
 use Rattle.protocol.specs.Protocol.Limits.Parts.{TermWithin, FactWithin, FactsWithin}
-use Rattle.rules.specs.Numbered.{first, fixed, variables, known, applies, applied, ruleOf}
+use Rattle.rules.specs.Numbered.{first, fixed, variables, known, applies, applied, Numbered, numbered, ruleAs, ruleOf}
+use Rattle.rules.specs.Numbered.Map.{View, is-fixed, is-apply, is-own, is-nothing, numbered-view}
 
 -- ── arities are at most 4 ──
 -- what a slot holds
@@ -62,11 +63,15 @@ builtin-slots = (
   ),
 )
 
+signing-slots : All Slot signing
+signing-slots =
+    (takes (omega arith), (takes (omega arith), (takes (omega arith), (takes (omega arith), (takes (omega arith), (takes (omega arith), tt))))))
+
 pub slot-at : (fs : List ℕ) → All (λ a. a < 5) fs → (t : ℕ) → Slot (getD (tagArities fs) t undeclared)
 unfolding tagArities
 slot-at fs h t =
-    all-at Slot undeclared (builtin ++ padded 16 fs) t (empty refl)
-    (all-append Slot builtin (padded 16 fs) builtin-slots (padded-slots 16 fs h))
+    all-at Slot undeclared (builtin ++ (padded 16 fs ++ signing)) t (empty refl)
+    (all-append Slot builtin (padded 16 fs ++ signing) builtin-slots (all-append Slot (padded 16 fs) signing (padded-slots 16 fs h) signing-slots))
 
 small-slot : (a k : ℕ) → Slot a → (a ≡ undeclared → ⊥) → some a ≡ some k → k ≤ 4
 small-slot a k (takes h) n e = let z : a ≡ k = cc in omega arith
@@ -222,9 +227,10 @@ module _ (p : Protocol) (w : Within p) where
 
   pub rule-within : (n : ℕ) (r : Rule) → ruleOf p n ≡ some r → Good r
   unfolding ruleOf
-  rule-within n r e =
-      cut-lt _ _ _ n 5 e
-      (λ l e. let z : fixed n ≡ r = cc in subst Good z (fixed-within (tagArities (p .functions)) (p .symbols) n))
-      (λ l e. cut-lt _ _ _ n 31 e
-      (λ m e. from-arity (n - 2) r (arity (tagArities (p .functions)) (n - 2)) (omega arith) refl e)
-      (λ m e. all-nth Good (p .rules) (w .rules) (suc (n - 31)) r e))
+  rule-within n r e = go (numbered n) (numbered-view n) e
+    where
+      go : (k : Numbered) → View n k → ruleAs p k ≡ some r → Good r
+      go _ (is-fixed l) e = let z : fixed n ≡ r = cc in subst Good z (fixed-within (tagArities (p .functions)) (p .symbols) n)
+      go _ (is-apply t l) e = from-arity t r (arity (tagArities (p .functions)) t) (omega arith) refl e
+      go _ (is-own k l m) e = all-nth Good (p .rules) (w .rules) (suc k) r e
+      go _ (is-nothing l) e = clash (cc)

@@ -1,4 +1,4 @@
--- The machine's counts and set by any test that decides whether two well-formed facts are the same by the ten equations, so that who
+-- The machine's counts and set by any test that decides whether two well-formed facts are the same by the equations, so that who
 -- counts facts may use a test of its own.
 use Prim.Native.Nat.{ℕ, _+_, _-_}
 use mathlib.Core.List.{List, [], _∷_}

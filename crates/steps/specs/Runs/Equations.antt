@@ -1,5 +1,5 @@
 -- Runs, accepted graphs, the earliest sources and the rows of the table by the equations: two facts are the same where they are of one symbol and
--- the ten equations make their arguments equal. For nodes within the limits this is what the test of facts says, so that nobody has to believe
+-- the equations make their arguments equal. For nodes within the limits this is what the test of facts says, so that nobody has to believe
 -- canonical forms.
 use Prim.Native.Nat.{ℕ}
 use mathlib.Core.List.{List}

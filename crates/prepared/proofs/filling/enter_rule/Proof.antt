@@ -43,7 +43,7 @@ put-rule-requires c κs =
     let f = c11 .pre .4 in
     let w = as-written f (c11 .args .n) (c11 .pre .0) (c6 .find-rule .result) (c6 .find-rule .last .1 .1 .1 .1 .0)
     (c6 .find-rule .ensures (f .file) (f .ns) (f .ars) (f .flags) (f .entries)) (c3 .len .given .1) in
-    (w .low, c11 .pre .1, written-few w (c6 .find-rule .kept .1 .1 .1 .1 .0))
+    (c11 .pre .0, w .has-slot, c11 .pre .1, written-few w (c6 .find-rule .kept .1 .1 .1 .1 .0))
 
 enum-known-k : tie.Need-enum-known-k
 enum-known-k c = search needs

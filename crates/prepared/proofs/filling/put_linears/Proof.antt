@@ -1,4 +1,6 @@
 -- The table's first bytes are the turned flags, and they are written padded.
+use Rattle.prepared.specs.Sections.{linearsAt}
+use Rattle.protocol.specs.Figures.{symbolCount}
 use Rattle.prepared.specs.Filling.Lists.{linears-front}
 use Rattle.term.specs.Arity.{padded}
 use Rattle.octets.specs.Splice.{splice}
@@ -36,7 +38,7 @@ returns : tie.Need-returns
 returns c =
     let c6 = c .before .before .before .before .before .before in
     let c10 = c6 .before .before .before .before in
-    c .before .before .put-padded .ensures ∙ ap (λ (l : List ℕ). splice (now (c10 .args .p)) 65 (padded 36 l))
+    c .before .before .put-padded .ensures ∙ ap (λ (l : List ℕ). splice (now (c10 .args .p)) linearsAt (padded symbolCount l))
     (linears-front _ _ (now (c10 .args .flags)) (c6 .linears-into .ensures) (c10 .pre .1))
 
 pub put-linears-spec : {M : Type 1} → statement M
