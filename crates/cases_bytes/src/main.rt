@@ -13,6 +13,9 @@ const BUILT_IN: usize = term::FIRST_FREE;
 // Their arities.
 const ARITIES: [u8; BUILT_IN] = *b"\xff\xff\xff\x00\x02\x02\x01\x02\x01\x01\x02\x01\x02";
 
+// The arities of "29 aenc, 30 adec, 31 pk, 32 sign, 33 verify, 34 true", whose slots are behind those of the free functions.
+const SIGNING: [u8; 6] = *b"\x02\x02\x01\x02\x03\x00";
+
 // A slot for each tag.
 const SLOTS: usize = term::TAGS;
 
@@ -57,6 +60,7 @@ fn declare(free: &[u8]) -> [u8; SLOTS] {
     let mut arities = [term::UNDECLARED; SLOTS];
     octets::copy_into(&mut arities, 0, &ARITIES);
     octets::copy_into(&mut arities, BUILT_IN, slotted(free));
+    octets::copy_into(&mut arities, BUILT_IN + term::MOST_FUNCTIONS, &SIGNING);
     arities
 }
 

@@ -1,6 +1,6 @@
-//! "Equality is the least congruence of document 003, figure 2", decided by canonical forms.
+//! "Message equality is from then on the congruence of all twelve equations", decided by canonical forms.
 
-use crate::term::{Term, DEC, ENC, EXP, FST, INV, MUL, ONE, PAIR, SND};
+use crate::term::*;
 use std::collections::BTreeMap;
 
 /// The canonical form of a term without variables.
@@ -20,6 +20,12 @@ fn apply(tag: u32, arguments: Vec<Term>) -> Term {
         (DEC, [cipher, key]) => decrypt(cipher, key).unwrap_or(Term::Apply(tag, arguments)),
         (FST, [pair]) => project(pair, 0).unwrap_or(Term::Apply(tag, arguments)),
         (SND, [pair]) => project(pair, 1).unwrap_or(Term::Apply(tag, arguments)),
+        (ADEC, [cipher, key]) => {
+            decrypt_by_private_key(cipher, key).unwrap_or(Term::Apply(tag, arguments))
+        }
+        (VERIFY, [signature, message, key]) => {
+            verify(signature, message, key).unwrap_or(Term::Apply(tag, arguments))
+        }
         (EXP, [base, exponent]) => power(base, exponent),
         (INV, [factor]) => Product::of([(factor, -1)]).term(),
         (MUL, [left, right]) => Product::of([(left, 1), (right, 1)]).term(),
@@ -41,6 +47,29 @@ fn project(pair: &Term, part: usize) -> Option<Term> {
         Term::Apply(PAIR, parts) => Some(parts[part].clone()),
         _ => None,
     }
+}
+
+/// "adec(aenc(m,pk(k)),k)=m"
+fn decrypt_by_private_key(cipher: &Term, key: &Term) -> Option<Term> {
+    match cipher {
+        Term::Apply(AENC, parts) if parts[1] == public_key(key) => Some(parts[0].clone()),
+        _ => None,
+    }
+}
+
+/// "verify(sign(m,k),m,pk(k))=true"
+fn verify(signature: &Term, message: &Term, key: &Term) -> Option<Term> {
+    match signature {
+        Term::Apply(SIGN, parts) if parts[0] == *message && public_key(&parts[1]) == *key => {
+            Some(Term::apply(TRUE, []))
+        }
+        _ => None,
+    }
+}
+
+/// pk(k), canonical where k is.
+fn public_key(key: &Term) -> Term {
+    Term::apply(PK, [key.clone()])
 }
 
 /// "exp(exp(y,z),w)=exp(y,mul(z,w)); exp(y,one)=y"
@@ -158,6 +187,57 @@ mod tests {
     #[test]
     fn exp_does_not_spread_over_mul() {
         assert_eq!(form("exp(mul(n0,n1),n2)"), "exp(mul(n0,n1),n2)");
+    }
+
+    /// Each of these is its own canonical form.
+    fn stays(terms: &[&str]) {
+        terms.iter().for_each(|term| assert_eq!(form(term), *term));
+    }
+
+    #[test]
+    fn asymmetric_decryption() {
+        assert_eq!(form("adec(aenc(n0,pk(n1)),n1)"), "n0");
+        assert_eq!(form("adec(aenc(n0,pk(mul(n1,n2))),mul(n2,n1))"), "n0");
+        assert_eq!(
+            form("adec(fst(pair(aenc(n0,snd(pair(n2,pk(n1)))),n2)),n1)"),
+            "n0"
+        );
+        stays(&[
+            "adec(aenc(n0,pk(n1)),n2)",
+            "adec(aenc(n0,n1),n1)",
+            "adec(aenc(n0,pk(n1)),pk(n1))",
+            "adec(enc(n0,pk(n1)),n1)",
+            "dec(aenc(n0,n1),n1)",
+            "aenc(adec(n0,n1),pk(n1))",
+        ]);
+    }
+
+    #[test]
+    fn signatures() {
+        assert_eq!(form("verify(sign(n0,n1),n0,pk(n1))"), "true");
+        assert_eq!(
+            form("verify(sign(mul(n0,p0),n1),mul(p0,n0),pk(n1))"),
+            "true"
+        );
+        assert_eq!(form("verify(sign(n0,inv(inv(n1))),n0,pk(n1))"), "true");
+        stays(&[
+            "verify(sign(n0,n1),n2,pk(n1))",
+            "verify(sign(n0,n1),n0,pk(n2))",
+            "verify(sign(n0,n1),n0,n1)",
+            "verify(sign(n0,pk(n1)),n0,pk(n1))",
+            "verify(aenc(n0,n1),n0,pk(n1))",
+            "verify(n0,n0,pk(n1))",
+        ]);
+    }
+
+    #[test]
+    fn true_is_a_factor_like_others() {
+        stays(&["mul(n0,true)", "inv(true)", "exp(n0,true)", "exp(true,n0)"]);
+        assert_eq!(form("mul(true,inv(true))"), "one");
+        assert_eq!(
+            form("mul(true,mul(f15,mul(sign(n0,n1),n0)))"),
+            "mul(n0,mul(f15,mul(sign(n0,n1),true)))"
+        );
     }
 
     #[test]

@@ -1,4 +1,4 @@
-//! Document 01, with document 02's Changes 1 to 3, once more, written for reading and not for speed: trees, vectors and maps.
+//! Document 01, with document 02's Changes 1 to 4, once more, written for reading and not for speed: trees, vectors and maps.
 //!
 //! It is the other implementation beside which the proved one is tested, and shares no code with it.
 //! A comment in quotation marks gives the first words of the sentence of document 01 that the code
@@ -6,7 +6,7 @@
 
 // Messages.
 
-/// How many groups a number may have, and a term file's limit.
+/// How many groups a number may have, a term file's limit, and the arities of aenc to true.
 pub mod figures;
 
 /// Numbers in groups of seven bits, and a reader over a file's bytes.
@@ -15,7 +15,7 @@ pub mod number;
 /// Terms: tags, arities, reading and encoding.
 pub mod term;
 
-/// Canonical forms under the ten equations.
+/// Canonical forms under the twelve equations.
 pub mod canonical;
 
 // Files and their meaning.

@@ -1,11 +1,13 @@
 //! Terms in words: `x3` a variable, `p3` a public name, `n3` a fresh name, `one`, `enc(..)` and so on,
 //! `f3(..)` a free function; `f3` alone where it has no argument. And bytes, with such terms among them.
 
-use crate::term::{Fresh, Public, Term, FREE, ONE};
+use crate::term::{Fresh, Public, Term, AENC, FREE, ONE};
 
+/// The functions from tag 3 on, and those from tag 29 on.
 const NAMES: [&str; 10] = [
     "one", "enc", "dec", "h", "pair", "fst", "snd", "exp", "inv", "mul",
 ];
+const SIGNING: [&str; 6] = ["aenc", "adec", "pk", "sign", "verify", "true"];
 
 pub fn show(term: &Term) -> String {
     match term {
@@ -25,6 +27,7 @@ pub fn show(term: &Term) -> String {
 
 fn function_name(tag: u32) -> String {
     match tag {
+        AENC.. => SIGNING[(tag - AENC) as usize].to_string(),
         FREE.. => format!("f{}", tag - FREE),
         _ => NAMES[(tag - ONE) as usize].to_string(),
     }
@@ -53,8 +56,10 @@ fn parse_prefix(words: &str) -> (Term, &str) {
 }
 
 fn named(name: &str, arguments: Vec<Term>) -> Term {
-    if let Some(place) = NAMES.iter().position(|known| *known == name) {
-        return Term::Apply(ONE + place as u32, arguments);
+    for (first, names) in [(ONE, &NAMES[..]), (AENC, &SIGNING)] {
+        if let Some(place) = names.iter().position(|known| *known == name) {
+            return Term::Apply(first + place as u32, arguments);
+        }
     }
     let number: u32 = name[1..].parse().expect("a number");
     match &name[..1] {
@@ -111,6 +116,7 @@ mod tests {
             "f0",
             "f2(p300,one)",
             "exp(exp(p0,n1),inv(mul(n2,h(f1(n3)))))",
+            "verify(sign(f15,n1),true,pk(adec(aenc(p1,p2),x0)))",
         ] {
             assert_eq!(show(&parse(words)), words);
         }

@@ -1,7 +1,7 @@
 //! "Protocol (4,096 bytes)": its file, its limits, the conditions P1 to P5, and rules by their number.
 
 use crate::number::{self, Fault, Read, Reader};
-use crate::term::{Prefix, Signature, Term, FREE, ONE};
+use crate::term::{Prefix, Signature, Term, AENC};
 
 pub const MOST_FUNCTIONS: u32 = 16;
 pub const MOST_FUNCTION_ARITY: u32 = 4;
@@ -20,8 +20,42 @@ pub const OUT: u32 = 2;
 pub const K: u32 = 3;
 const OWN: u32 = 4;
 
-/// "a protocol rule r (from 0) is 31+r"
-const FIRST_PROTOCOL_RULE: u32 = 31;
+/// What a rule number stands for.
+#[derive(Clone, Copy, Debug, PartialEq, Eq)]
+pub enum Numbered {
+    /// "Rule 0 makes Fr(fresh)", and so on up to 4.
+    Fixed(u32),
+    /// The apply-rule of this tag.
+    Apply(u32),
+    /// The protocol's rule, from 0.
+    Own(u32),
+}
+
+/// The ranges of rule numbers, in their order: the least number that is in none of the ones before and not in this one, and what the
+/// numbers of the range stand for.
+const RANGES: [(u32, fn(u32) -> Numbered); 4] = [
+    (5, Numbered::Fixed),
+    // "Rule t+2 applies the function of tag t"
+    (31, |number| Numbered::Apply(number - 2)),
+    // "a protocol rule r (from 0) is 31+r"
+    (31 + MOST_RULES, |number| Numbered::Own(number - 31)),
+    // "Their apply-rules are 95 to 100, in that order"
+    (101, |number| Numbered::Apply(number - 95 + AENC)),
+];
+
+/// What this rule number stands for, whatever the protocol; nothing behind the last range.
+pub fn numbered(number: u32) -> Option<Numbered> {
+    let range = RANGES.iter().find(|(end, _)| number < *end);
+    range.map(|(_, meaning)| meaning(number))
+}
+
+/// The number that stands for this.
+pub fn number_of(meaning: Numbered) -> u32 {
+    let all = 0..RANGES[RANGES.len() - 1].0;
+    all.into_iter()
+        .find(|number| numbered(*number) == Some(meaning))
+        .expect("a rule number")
+}
 
 #[derive(Clone, Copy, Debug, PartialEq, Eq)]
 pub enum Sort {
@@ -152,21 +186,18 @@ impl Protocol {
 
     /// The rule of a number, built in or the protocol's own.
     pub fn rule(&self, number: u32) -> Option<Rule> {
-        match number {
-            0 => Some(made_of(Sort::Fresh, &[], &[], &[FR])),
-            1 => Some(made_of(Sort::Message, &[OUT], &[], &[K])),
-            2 => Some(made_of(Sort::Message, &[K], &[K], &[IN])),
-            3 => Some(made_of(Sort::Public, &[], &[], &[K])),
-            4 => Some(made_of(Sort::Fresh, &[FR], &[], &[K])),
-            5..FIRST_PROTOCOL_RULE => self.apply_rule(number - 2),
-            FIRST_PROTOCOL_RULE.. => {
-                let place = (number - FIRST_PROTOCOL_RULE) as usize;
-                self.rules.get(place).cloned()
-            }
+        match numbered(number)? {
+            Numbered::Fixed(0) => Some(made_of(Sort::Fresh, &[], &[], &[FR])),
+            Numbered::Fixed(1) => Some(made_of(Sort::Message, &[OUT], &[], &[K])),
+            Numbered::Fixed(2) => Some(made_of(Sort::Message, &[K], &[K], &[IN])),
+            Numbered::Fixed(3) => Some(made_of(Sort::Public, &[], &[], &[K])),
+            Numbered::Fixed(_) => Some(made_of(Sort::Fresh, &[FR], &[], &[K])),
+            Numbered::Apply(tag) => self.apply_rule(tag),
+            Numbered::Own(place) => self.rules.get(place as usize).cloned(),
         }
     }
 
-    /// "Rule t+2 applies the function of tag t to known messages, K to K".
+    /// "applies the function of tag t to known messages, K to K"; none where no function has the tag.
     fn apply_rule(&self, tag: u32) -> Option<Rule> {
         let arity = self.signature.arity(tag)?;
         let arguments: Vec<Term> = (0..arity as u32).map(Term::Variable).collect();
@@ -182,8 +213,6 @@ impl Protocol {
         })
     }
 }
-
-const _: () = assert!(ONE + 2 == 5 && FREE + 2 + MOST_FUNCTIONS == FIRST_PROTOCOL_RULE);
 
 /// A built-in rule of one variable, which is the only term of each of its facts.
 fn made_of(sort: Sort, premises: &[u32], actions: &[u32], conclusions: &[u32]) -> Rule {
@@ -284,4 +313,49 @@ impl Rule {
 
 fn has_symbol(facts: &[Fact], symbols: &[u32]) -> bool {
     facts.iter().any(|fact| symbols.contains(&fact.symbol))
+}
+
+#[cfg(test)]
+mod tests {
+    use super::*;
+    use crate::term::{FREE, ONE, TRUE};
+
+    /// Document 01's numbers and those of Change 4, one by one.
+    #[test]
+    fn numbers_and_their_rules() {
+        assert_eq!(
+            (0..5).map(numbered).collect::<Vec<_>>(),
+            [0, 1, 2, 3, 4].map(|rule| Some(Numbered::Fixed(rule)))
+        );
+        for tag in ONE..FREE + MOST_FUNCTIONS {
+            assert_eq!(numbered(tag + 2), Some(Numbered::Apply(tag)));
+        }
+        for rule in 0..64 {
+            assert_eq!(numbered(31 + rule), Some(Numbered::Own(rule)));
+        }
+        for tag in AENC..=TRUE {
+            assert_eq!(numbered(66 + tag), Some(Numbered::Apply(tag)));
+        }
+        assert!((101..300).all(|number| numbered(number).is_none()));
+        assert!((0..101).all(|number| number_of(numbered(number).unwrap()) == number));
+    }
+
+    #[test]
+    fn rules_of_six_functions_under_every_protocol() {
+        for rules in [0, 1, 64] {
+            let mut bytes = vec![0, 0, rules];
+            bytes.extend(vec![0; 4 * rules as usize]);
+            let protocol = Protocol::read(&bytes).unwrap();
+            let arity = |number| protocol.rule(number).map(|rule| rule.variables.len());
+            let applied: Vec<_> = (95..=101).map(arity).collect();
+            assert_eq!(
+                applied,
+                [Some(2), Some(2), Some(1), Some(2), Some(3), Some(0), None]
+            );
+            let own = |number: &u32| arity(*number) == Some(0);
+            let behind = 31 + u32::from(rules);
+            assert!((31..behind).all(|number| own(&number)));
+            assert!((behind..95).all(|number| arity(number).is_none()));
+        }
+    }
 }

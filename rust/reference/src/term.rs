@@ -1,5 +1,6 @@
 //! "A term is written in prefix order, tag first (tags are decimal)".
 
+use crate::figures::SIGNING;
 use crate::number::{self, Fault, Read, Reader};
 
 pub const VARIABLE: u32 = 0;
@@ -17,6 +18,13 @@ pub const INV: u32 = 11;
 pub const MUL: u32 = 12;
 /// Free function j has the tag `FREE + j`.
 pub const FREE: u32 = 13;
+/// "tags 29 aenc, 30 adec, 31 pk, 32 sign, 33 verify, 34 true", whichever free functions are declared.
+pub const AENC: u32 = 29;
+pub const ADEC: u32 = 30;
+pub const PK: u32 = 31;
+pub const SIGN: u32 = 32;
+pub const VERIFY: u32 = 33;
+pub const TRUE: u32 = 34;
 
 /// A public name; it never passes for a fresh one.
 #[derive(Clone, Copy, Debug, PartialEq, Eq, PartialOrd, Ord)]
@@ -50,7 +58,8 @@ impl Signature {
             ONE => Some(0),
             H | FST | SND | INV => Some(1),
             ENC | DEC | PAIR | EXP | MUL => Some(2),
-            FREE.. => self.free.get((tag - FREE) as usize).copied(),
+            FREE..AENC => self.free.get((tag - FREE) as usize).copied(),
+            AENC.. => SIGNING.get((tag - AENC) as usize).copied(),
         }
     }
 }
@@ -220,6 +229,22 @@ mod tests {
         assert_eq!(read(&[14, 3, 3, 3], &[0, 3]).unwrap().1, 4);
         assert_eq!(read(&[14, 3, 3], &[0, 3]), Err(Fault));
         assert_eq!(read(&[15, 3], &[0, 3]), Err(Fault));
+    }
+
+    #[test]
+    fn six_more_functions_and_no_seventh() {
+        for free in [0, 16] {
+            let arity = |tag| {
+                Signature {
+                    free: vec![1; free],
+                }
+                .arity(tag)
+            };
+            let arities: Vec<_> = (AENC..=TRUE).map(arity).collect();
+            assert_eq!(arities, [2, 2, 1, 2, 3, 0].map(Some));
+            assert_eq!(arity(AENC - 1).is_some(), free == 16);
+            assert_eq!(arity(TRUE + 1), None);
+        }
     }
 
     #[test]

@@ -72,7 +72,7 @@ fn drawn_graphs_have_the_earliest_sources() {
         choices += usize::from(edges_by(&protocol, &nodes, latest) != Some(edges));
         drawn += 1;
     }
-    assert_eq!((drawn, choices), (91, 25));
+    assert_eq!((drawn, choices), (121, 27));
 }
 
 /// The line for the three files of a folder, or for its steps where it has no graph.
@@ -99,7 +99,7 @@ fn real_folders() -> Vec<PathBuf> {
 #[test]
 fn every_real_protocol() {
     let folders = real_folders();
-    assert_eq!(folders.len(), 37);
+    assert_eq!(folders.len(), 55);
     for folder in folders {
         let expected = std::fs::read_to_string(folder.join("expected.txt")).unwrap();
         assert_eq!(line(&folder), expected.trim_end(), "{}", folder.display());
@@ -127,5 +127,5 @@ fn every_real_graph_is_drawn_again() {
         assert_eq!(output[..graph.len()], graph, "{}", folder.display());
         drawn += 1;
     }
-    assert_eq!(drawn, 29);
+    assert_eq!(drawn, 42);
 }

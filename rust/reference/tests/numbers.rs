@@ -60,6 +60,7 @@ fn fit_files(random: &mut Random) -> (Files, [(File, Numbers); 5]) {
         variables: 0,
         fresh_names: true,
         products: true,
+        signing: true,
     };
     let term = material.term(random, 12);
     let numbers = [
@@ -330,7 +331,7 @@ fn runs_have_wide_names() {
                 count("known", has_name(&steps, |rule| rule == 3, wide));
                 count(
                     "in a protocol rule",
-                    has_name(&steps, |rule| rule > 30, wide),
+                    has_name(&steps, |rule| (31..95).contains(&rule), wide),
                 );
                 count("the largest", has_name(&steps, |_| true, largest));
             }

@@ -2,7 +2,7 @@
 
 use super::damage::{damage_file, overfill};
 use super::numbers::{self, wide};
-use super::protocols::{break_condition, fit, stretch};
+use super::protocols::{break_condition, fit, signs, stretch};
 use super::terms::Material;
 use crate::calls::WORK_AREA;
 use crate::canonical::canonical_form;
@@ -11,7 +11,7 @@ use crate::protocol::Protocol;
 use crate::random::Random;
 use crate::refusal::File;
 use crate::steps::MOST_FILLED_IN_SYMBOLS;
-use crate::term::{Fresh, Public, Term, FREE, H};
+use crate::term::*;
 
 /// The longest that 256 symbols can be: 192 names of as many groups as there may be, each with its tag, and 64 functions, one of arity 3
 /// and the others of arity 4.
@@ -77,7 +77,8 @@ fn spoil(
             damage_file(random, &mut input.protocol, &numbers);
         }
         69..78 => damage_file(random, &mut input.term, &numbers::of_term(term)),
-        78..82 => input.term = with_variable(random, protocol),
+        78..81 => input.term = with_variable(random, protocol),
+        81 => input.term = unknown_tag(random, term),
         82..90 => input.term = large_term(random, protocol),
         _ => input.output = random.below(need),
     }
@@ -91,7 +92,11 @@ fn ground_term(random: &mut Random, protocol: &Protocol) -> Term {
         _ => 1 + random.below(20),
     };
     let products = random.percent(60);
-    material(protocol, 0, products).term(random, symbols)
+    let material = Material {
+        signing: signs(protocol) || random.percent(25),
+        ..material(protocol, 0, products)
+    };
+    material.term(random, symbols)
 }
 
 /// As many bytes as 256 symbols can have, all names wide. The protocol gets the functions for it.
@@ -139,6 +144,16 @@ fn with_variable(random: &mut Random, protocol: &Protocol) -> Vec<u8> {
     material(protocol, 3, true).term(random, symbols).encoded()
 }
 
+/// The term with a tag that no function has in place of a constant or of another tag.
+fn unknown_tag(random: &mut Random, term: &Term) -> Vec<u8> {
+    let tag = TRUE + 1 + random.below(3) as u32;
+    let parts = term.arguments().to_vec();
+    match random.percent(50) {
+        true => Term::Apply(tag, parts).encoded(),
+        false => Term::apply(PAIR, [term.clone(), Term::apply(tag, [])]).encoded(),
+    }
+}
+
 /// More than 256 symbols, and at most as many bytes as the file may have.
 fn large_term(random: &mut Random, protocol: &Protocol) -> Vec<u8> {
     let beyond = 1 + *random.choose(&[0, 0, 1, 40, 200]);
@@ -155,5 +170,6 @@ fn material(protocol: &Protocol, variables: u32, products: bool) -> Material<'_>
         variables,
         fresh_names: true,
         products,
+        signing: signs(protocol),
     }
 }

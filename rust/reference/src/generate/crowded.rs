@@ -17,23 +17,47 @@ const BARE: u32 = 6;
 const VARIABLES: [Sort; 2] = [Sort::Public, Sort::Public];
 
 /// The messages that all facts of a protocol are of, over the variables.
-fn messages(random: &mut Random) -> Vec<Term> {
+fn messages(random: &mut Random, signing: bool) -> Vec<Term> {
     let [x, y] = [0, 1].map(Term::Variable);
-    let all = [
+    let signed = Term::apply(SIGN, [x.clone(), y.clone()]);
+    let mut all = vec![
         x.clone(),
         Term::apply(MUL, [x.clone(), y.clone()]),
         Term::apply(EXP, [x.clone(), y.clone()]),
         Term::apply(INV, [x.clone()]),
-        Term::apply(PAIR, [x, y]),
+        Term::apply(PAIR, [x.clone(), y.clone()]),
     ];
+    if signing {
+        all.extend([
+            signed.clone(),
+            Term::apply(MUL, [signed, y]),
+            Term::apply(TRUE, []),
+            Term::apply(PK, [x]),
+        ]);
+    }
     (0..1 + random.below(2))
         .map(|_| random.choose(&all).clone())
         .collect()
 }
 
 /// The message, or another term that an equation makes equal to it.
-fn written(random: &mut Random, message: &Term) -> Term {
+fn written(random: &mut Random, message: &Term, signing: bool) -> Term {
     let (message, other) = (message.clone(), Term::Variable(1));
+    let public = || Term::apply(PK, [Term::Variable(1)]);
+    if signing && random.percent(15) {
+        let verified = Term::apply(
+            VERIFY,
+            [
+                Term::apply(SIGN, [message.clone(), other.clone()]),
+                message.clone(),
+                public(),
+            ],
+        );
+        return match message.has_tag(TRUE) {
+            true => verified,
+            false => Term::apply(ADEC, [Term::apply(AENC, [message, public()]), other]),
+        };
+    }
     match random.below(12) {
         0 => Term::apply(FST, [Term::apply(PAIR, [message, other])]),
         1 => Term::apply(SND, [Term::apply(PAIR, [other, message])]),
@@ -50,7 +74,12 @@ fn written(random: &mut Random, message: &Term) -> Term {
 }
 
 /// So many facts of these symbols; often one that is there already, perhaps written otherwise.
-fn facts(random: &mut Random, messages: &[Term], symbols: &[u32], count: usize) -> Vec<Fact> {
+fn facts(
+    random: &mut Random,
+    (messages, signing): (&[Term], bool),
+    symbols: &[u32],
+    count: usize,
+) -> Vec<Fact> {
     let mut chosen: Vec<(u32, Term)> = Vec::new();
     for _ in 0..count {
         let new = (*random.choose(symbols), random.choose(messages).clone());
@@ -66,14 +95,14 @@ fn facts(random: &mut Random, messages: &[Term], symbols: &[u32], count: usize) 
         symbol,
         terms: match symbol {
             BARE => vec![],
-            _ => vec![written(random, &message)],
+            _ => vec![written(random, &message, signing)],
         },
     };
     chosen.into_iter().map(fact).collect()
 }
 
 /// A rule with so many premises, which perhaps gives back what it takes.
-fn rule(random: &mut Random, messages: &[Term], premises: usize) -> Rule {
+fn rule(random: &mut Random, messages: (&[Term], bool), premises: usize) -> Rule {
     let count = usize::from(premises == 0) + random.below(4);
     let premises = facts(
         random,
@@ -106,18 +135,20 @@ fn rule(random: &mut Random, messages: &[Term], premises: usize) -> Rule {
 pub struct Crowded {
     pub protocol: Protocol,
     names: [Term; 2],
+    signing: bool,
     messages: Vec<Term>,
 }
 
 pub fn protocol(random: &mut Random) -> Crowded {
-    let messages = messages(random);
+    let signing = random.percent(40);
+    let messages = messages(random, signing);
     let own = |arity, persistent| FactSymbol { arity, persistent };
     let premises = [0, 0, 1, 2, random.below(4), 1 + random.below(3)];
     let protocol = Protocol {
         signature: Signature { free: vec![] },
         own: vec![own(1, false), own(1, true), own(0, false)],
         rules: premises
-            .map(|count| rule(random, &messages, count))
+            .map(|count| rule(random, (&messages, signing), count))
             .to_vec(),
     };
     let mut numbers = [0, 1];
@@ -132,6 +163,7 @@ pub fn protocol(random: &mut Random) -> Crowded {
     Crowded {
         protocol,
         names,
+        signing,
         messages: messages.map(|message| canonical_form(&message)).collect(),
     }
 }
@@ -139,6 +171,11 @@ pub fn protocol(random: &mut Random) -> Crowded {
 /// A run of at most so many nodes, each any that the machine can take.
 pub fn run<'a>(random: &mut Random, few: &'a Crowded, length: usize) -> Run<'a> {
     let mut run = Run::new(&few.protocol, 0);
+    let applies = |tag: u32| number_of(Numbered::Apply(tag));
+    let mut functions = vec![3, applies(MUL), applies(PAIR), applies(INV)];
+    if few.signing {
+        functions.extend([SIGN, PK, TRUE, AENC].map(applies));
+    }
     for _ in 0..6 * length {
         if run.steps.len() >= length {
             break;
@@ -146,8 +183,8 @@ pub fn run<'a>(random: &mut Random, few: &'a Crowded, length: usize) -> Run<'a> 
         let number = match random.below(10) {
             0 => 1,
             1 => 2,
-            2 => *random.choose(&[3, MUL + 2, PAIR + 2, INV + 2]),
-            _ => 31 + random.below(few.protocol.rules.len()) as u32,
+            2 => *random.choose(&functions),
+            _ => number_of(Numbered::Own(random.below(few.protocol.rules.len()) as u32)),
         };
         let rule = few.protocol.rule(number).expect("a rule");
         let values = rule.variables.iter().map(|sort| match sort {

@@ -1,15 +1,15 @@
 //! Damage to a file's bytes.
 
-use super::numbers::{spoiled, Numbers};
+use super::numbers::{retagged, spoiled, Numbers};
 use crate::figures::MOST_GROUPS;
 use crate::random::Random;
 
-/// Damages a file of these numbers: one of them is written otherwise, or its bytes are damaged wherever that is.
+/// Damages a file of these numbers: one of them is written otherwise, a tag is another, or its bytes are damaged wherever that is.
 pub fn damage_file(random: &mut Random, bytes: &mut Vec<u8>, numbers: &Numbers) {
-    if random.percent(40) {
-        *bytes = spoiled(random, numbers).0;
-    } else {
-        damage(random, bytes);
+    match random.below(10) {
+        0..4 => *bytes = spoiled(random, numbers).0,
+        4..6 => *bytes = retagged(random, numbers),
+        _ => damage(random, bytes),
     }
 }
 

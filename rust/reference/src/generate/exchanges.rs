@@ -2,7 +2,7 @@
 
 use crate::protocol::*;
 use crate::random::Random;
-use crate::term::{Public, Signature, Term, EXP, FREE, H, INV, MUL, PAIR};
+use crate::term::*;
 
 /// The own fact symbols.
 const LONG_TERM_KEY: u32 = 4;
@@ -48,11 +48,16 @@ fn rule(sorts: [Sort; 5], premises: Vec<Fact>, actions: Vec<Fact>, conclusions: 
     }
 }
 
-/// Agents have long-term keys, begin, answer and finish sessions; long-term and session keys are revealed; messages are repeated.
+/// Agents have long-term keys, begin, answer and finish sessions; long-term and session keys are revealed; messages are repeated. Perhaps
+/// they sign.
 pub fn exchange(random: &mut Random) -> Protocol {
     let own = |arity, persistent| FactSymbol { arity, persistent };
     let exponent = exponent(random);
     let key = key(random, &exponent);
+    let mut rules = rules(&exponent, &key);
+    if random.percent(30) {
+        sign(&mut rules, &exponent, &key);
+    }
     Protocol {
         signature: Signature { free: vec![1] },
         own: vec![
@@ -62,7 +67,36 @@ pub fn exchange(random: &mut Random) -> Protocol {
             own(3, false),
             own(1, false),
         ],
-        rules: rules(&exponent, &key),
+        rules,
+    }
+}
+
+/// Public keys are out, what is sent is signed, and the answering party's key is out, encrypted for it. A message is opened, or checked
+/// against a signature.
+fn sign(rules: &mut Vec<Rule>, exponent: &Term, key: &Term) {
+    let [agent, long, short, received] = [SELF, LONG, SHORT, RECEIVED].map(variable);
+    let public_key = Term::apply(PK, [long.clone()]);
+    let sent = power(generator(), exponent.clone());
+    let out = |tag: u32, terms: [&Term; 2]| fact(OUT, [Term::apply(tag, terms.map(Term::clone))]);
+    rules[0].conclusions.push(fact(OUT, [public_key.clone()]));
+    rules[1].conclusions.push(out(SIGN, [&sent, &long]));
+    rules[2].conclusions.push(out(SIGN, [&sent, &long]));
+    rules[2].conclusions.push(out(AENC, [key, &public_key]));
+    let owner = fact(LONG_TERM_KEY, [agent, long.clone()]);
+    let heard = |term: &Term| fact(IN, [term.clone()]);
+    let opened = Term::apply(ADEC, [received.clone(), long]);
+    let checked = Term::apply(VERIFY, [short.clone(), received.clone(), public_key]);
+    let opening = vec![owner.clone(), heard(&received)];
+    let checking = vec![owner, heard(&received), heard(&short)];
+    use Sort::{Message as M, Public as P};
+    for (premises, result) in [(opening, opened), (checking, checked)] {
+        let recorded = vec![fact(REVEALED, [result.clone()])];
+        rules.push(rule(
+            [P, P, M, M, M],
+            premises,
+            recorded,
+            vec![fact(OUT, [result])],
+        ));
     }
 }
 

@@ -7,23 +7,39 @@ use super::runs::Step;
 use crate::graph::{Edge, MOST_EDGES};
 use crate::number::LARGEST;
 use crate::property::{Formula, Quantifier, Sort, MOST_NESTING, MOST_NEW};
-use crate::protocol::{Protocol, K};
+use crate::protocol::{number_of, numbered, Numbered, Protocol, K, MOST_RULES};
 use crate::random::Random;
 use crate::steps::{MOST_NODES, MOST_VALUE_SYMBOLS};
 use crate::term::*;
 
-/// A rule number that no rule has: cause 6.
+/// A rule number that no rule has: cause 6. Behind the free functions; behind the protocol's rules, up to the apply-rules of aenc to true;
+/// behind these; or of as many groups as there may be.
 pub fn rule_number(random: &mut Random, protocol: &Protocol, steps: &mut [Step]) {
     if steps.is_empty() {
         return;
     }
     let place = random.below(steps.len());
-    let functions = protocol.signature.free.len() as u32;
-    let behind_functions = 15 + functions;
-    let behind_rules = 31 + protocol.rules.len() as u32;
+    let applies = |tag: u32| number_of(Numbered::Apply(tag));
+    let behind_functions = applies(FREE) + protocol.signature.free.len() as u32;
+    let behind_rules = number_of(Numbered::Own(0)) + protocol.rules.len() as u32;
+    let between = behind_rules + random.below(MOST_RULES as usize) as u32;
+    let behind_all = applies(TRUE) + 1;
     let wide = wide(random, steps[place].rule);
-    let none = [behind_functions, behind_rules, 30, 127, wide, wide];
-    steps[place].rule = *random.choose(&none);
+    let numbers = [
+        behind_functions,
+        applies(AENC - 1),
+        behind_rules,
+        between,
+        applies(AENC) - 1,
+        behind_all,
+        behind_all + random.below(27) as u32,
+        wide,
+        wide,
+    ];
+    let none = numbers
+        .into_iter()
+        .filter(|number| protocol.rule(*number).is_none());
+    steps[place].rule = *random.choose(&none.collect::<Vec<u32>>());
 }
 
 /// A value that is not right: cause 7.
@@ -35,7 +51,9 @@ pub fn value(random: &mut Random, steps: &mut [Step]) {
     let place = random.below(values.len());
     let value = values.into_iter().nth(place).expect("within");
     let old = value.clone();
-    *value = match random.below(7) {
+    let key = || Term::Public(Public(0));
+    let public_key = |key| Term::apply(PK, [key]);
+    *value = match random.below(10) {
         0 => Term::apply(INV, [Term::apply(INV, [old])]),
         1 => Term::apply(MUL, [old, Term::one()]),
         2 => Term::apply(FST, [Term::apply(PAIR, [old, Term::one()])]),
@@ -46,6 +64,18 @@ pub fn value(random: &mut Random, steps: &mut [Step]) {
         }
         4 => nested(MOST_VALUE_SYMBOLS + random.below(2)),
         5 => Term::apply(H, [old]),
+        7 => {
+            // Right where the keys differ.
+            let cipher = Term::apply(AENC, [old, public_key(key())]);
+            Term::apply(ADEC, [cipher, random.choose(&[key(), Term::one()]).clone()])
+        }
+        8 => {
+            let signature = Term::apply(SIGN, [old.clone(), key()]);
+            let shown = public_key(random.choose(&[key(), Term::one()]).clone());
+            Term::apply(VERIFY, [signature, old, shown])
+        }
+        // Right where no sort is asked.
+        9 => Term::apply(TRUE, []),
         _ => match old {
             Term::Fresh(Fresh(number)) => Term::Public(Public(number)),
             Term::Public(Public(number)) => Term::Fresh(Fresh(number)),
@@ -54,21 +84,29 @@ pub fn value(random: &mut Random, steps: &mut [Step]) {
     };
 }
 
-/// A node that applies enc to two values of 128 symbols: cause 8; or of 127 and 128, which is no fault.
+/// A node that applies a function of arity 2 to two values of 128 symbols, or verify to three, or to three that are one symbol too large:
+/// cause 8; or to values that are just not too large, which is no fault.
 pub fn large_node(random: &mut Random, steps: &mut Vec<Step>) {
+    const MOST: usize = MOST_VALUE_SYMBOLS;
     let fewer = usize::from(random.percent(20));
     let place = random.below(steps.len() + 1);
-    let values = vec![
-        nested(MOST_VALUE_SYMBOLS - fewer),
-        nested(MOST_VALUE_SYMBOLS),
-    ];
-    steps.insert(
-        place,
-        Step {
-            rule: ENC + 2,
-            values,
-        },
-    );
+    let tag = *random.choose(&[ENC, ENC, AENC, SIGN, VERIFY, VERIFY]);
+    let sizes = match (tag, random.below(3)) {
+        (VERIFY, 0) => vec![MOST; 3],
+        (VERIFY, 1) => vec![MOST, MOST - 1 - fewer, 1],
+        (VERIFY, _) => vec![MOST / 2, MOST / 2, MOST - fewer],
+        _ => vec![MOST - fewer, MOST],
+    };
+    let step = Step {
+        rule: number_of(Numbered::Apply(tag)),
+        values: sizes.into_iter().map(nested).collect(),
+    };
+    steps.insert(place, step);
+}
+
+/// Whether a node is of the protocol's rules.
+fn is_own(step: &Step) -> bool {
+    matches!(numbered(step.rule), Some(Numbered::Own(_)))
 }
 
 /// A name made again at the end: cause 9.
@@ -116,7 +154,7 @@ pub fn twin(random: &mut Random, steps: &mut Vec<Step>) {
         let (step, next) = (&steps[*place], &steps[place + 1]);
         let before = &steps[..*place];
         let again = |other: &Step| other.rule == 2 && other.values == step.values;
-        step.rule == 2 && next.rule >= 31 && before.iter().any(again)
+        step.rule == 2 && is_own(next) && before.iter().any(again)
     };
     let twins: Vec<usize> = (0..steps.len().saturating_sub(1)).filter(is_twin).collect();
     if twins.is_empty() {
@@ -202,7 +240,7 @@ pub fn edge_count(random: &mut Random, edges: &mut Vec<Edge>) {
 /// A node doubled, and the edges into it: cause 13, if one of its premises is linear.
 pub fn source_twice(random: &mut Random, steps: &mut Vec<Step>, edges: &mut Vec<Edge>) {
     // Rules 1 and 4 take a linear fact, protocol rules mostly do.
-    let takes_linear = |step: &Step| matches!(step.rule, 1 | 4 | 31..);
+    let takes_linear = |step: &Step| matches!(step.rule, 1 | 4) || is_own(step);
     let numbered = (1..).zip(&*steps);
     let targets: Vec<usize> = numbered
         .filter(|(_, step)| takes_linear(step))
@@ -254,6 +292,35 @@ pub fn scope(random: &mut Random, property: Formula) -> Formula {
         0 => unfit,
         1 => Formula::And(Box::new(unfit), Box::new(property)),
         _ => Formula::Or(Box::new(property), Box::new(unfit)),
+    }
+}
+
+/// One of aenc to true, or a tag that no function has, stands for a term, all its arguments there; or is a formula's tag: cause 3.
+pub fn function(random: &mut Random, property: Formula) -> Vec<u8> {
+    let tag = AENC + random.below((TRUE + 2 - AENC) as usize) as u32;
+    let arity = Signature::default().arity(tag).unwrap_or(0);
+    let name = || Term::Public(Public(0));
+    let term = Term::apply(tag, (0..arity).map(|_| name()));
+    let formula = match random.below(5) {
+        0 => Formula::Equal(term.clone(), term),
+        1 => Formula::Unequal(name(), term),
+        2 => Formula::Exists(Quantifier {
+            new: vec![Sort::Time],
+            guard: fact_of(K, term),
+            time: 0,
+            body: Box::new(property),
+        }),
+        3 => Formula::Exists(Quantifier {
+            new: vec![Sort::Time],
+            guard: fact_of(K, name()),
+            time: 0,
+            body: Box::new(Formula::NoAction(fact_of(K, term), 0)),
+        }),
+        _ => return vec![tag as u8],
+    };
+    match random.percent(50) {
+        true => formula.encoded(),
+        false => Formula::Or(Box::new(Formula::False), Box::new(formula)).encoded(),
     }
 }
 

@@ -89,7 +89,8 @@ fn checked(random: &mut Random, mut parts: Parts) -> CheckInput {
                 let numbers = numbers::of_property(&parts.property);
                 damage_file(random, &mut input.property, &numbers);
             }
-            93 => input.property = vec![*random.choose(&[13, 14, 127])],
+            93 if random.percent(30) => input.property = vec![*random.choose(&[13, 14, 127])],
+            93 => input.property = faults::function(random, parts.property.clone()),
             94.. => {
                 let numbers = numbers::of_graph(&parts.steps, &parts.edges);
                 damage_file(random, &mut input.graph, &numbers);
@@ -181,7 +182,7 @@ fn good(random: &mut Random) -> Parts {
 /// A key exchange, a run of it with edges, and a fit property.
 fn sessions(random: &mut Random) -> Parts {
     let protocol = exchanges::exchange(random);
-    let most = *random.choose(&[30, 60, 150]);
+    let most = *random.choose(&[40, 80, 150]);
     let length = 5 + random.below(most);
     let run = run(random, &protocol, length);
     with_edges(random, &protocol, &run)

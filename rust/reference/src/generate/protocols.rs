@@ -4,10 +4,11 @@ use super::terms::Material;
 use crate::protocol::*;
 use crate::random::Random;
 use crate::refusal::File;
-use crate::term::{Fresh, Public, Signature, Term, FREE, FST, H, PAIR};
+use crate::term::*;
 
-/// A protocol within the limits that meets P1 to P5.
+/// A protocol within the limits that meets P1 to P5; its rules perhaps have aenc to true.
 pub fn fit(random: &mut Random) -> Protocol {
+    let signing = random.percent(45);
     let functions = random.below(6);
     let free = (0..functions).map(|_| random.below(5)).collect();
     let symbols = 1 + random.below(6);
@@ -18,7 +19,7 @@ pub fn fit(random: &mut Random) -> Protocol {
         rules: Vec::new(),
     };
     for _ in 0..random.below(5) {
-        let rule = rule(random, &protocol);
+        let rule = rule(random, &protocol, signing);
         protocol.rules.push(rule);
     }
     protocol
@@ -31,10 +32,23 @@ fn own_symbol(random: &mut Random) -> FactSymbol {
     }
 }
 
-fn rule(random: &mut Random, protocol: &Protocol) -> Rule {
+/// Whether a rule has one of aenc to true.
+pub fn signs(protocol: &Protocol) -> bool {
+    let mut facts = protocol.rules.iter().flat_map(Rule::facts);
+    facts.any(|fact| fact.any(&is_signing))
+}
+
+/// Whether the term is one of aenc to true.
+pub fn is_signing(term: &Term) -> bool {
+    matches!(term, Term::Apply(AENC..=TRUE, _))
+}
+
+fn rule(random: &mut Random, protocol: &Protocol, signing: bool) -> Rule {
     let mut variables: Vec<Sort> = (0..random.below(5)).map(|_| sort(random)).collect();
     let count = variables.len() as u32;
-    let mut premises = facts(random, protocol, count, &[FR, IN]);
+    let facts =
+        |random: &mut Random, built_in: &[u32]| facts(random, protocol, (count, signing), built_in);
+    let mut premises = facts(random, &[FR, IN]);
     // Every variable stands in a premise or is public, so that it may stand in a conclusion and in an action.
     for (number, sort) in (0..).zip(&variables) {
         if *sort != Sort::Public || random.percent(60) {
@@ -50,8 +64,8 @@ fn rule(random: &mut Random, protocol: &Protocol) -> Rule {
     }
     Rule {
         premises,
-        actions: facts(random, protocol, count, &[FR, IN, OUT, K]),
-        conclusions: facts(random, protocol, count, &[OUT]),
+        actions: facts(random, &[FR, IN, OUT, K]),
+        conclusions: facts(random, &[OUT]),
         variables,
     }
 }
@@ -91,14 +105,19 @@ pub fn fact_of(symbol: u32, term: Term) -> Fact {
     }
 }
 
-/// At most three facts of these built-in symbols and of own ones.
-fn facts(random: &mut Random, protocol: &Protocol, variables: u32, built_in: &[u32]) -> Vec<Fact> {
+/// At most three facts of these built-in symbols and of own ones, over so many variables, perhaps with aenc to true.
+fn facts(
+    random: &mut Random,
+    protocol: &Protocol,
+    (variables, signing): (u32, bool),
+    built_in: &[u32],
+) -> Vec<Fact> {
     let own = 4..4 + protocol.own.len() as u32;
     let symbols: Vec<u32> = built_in.iter().copied().chain(own).collect();
     let fact = |random: &mut Random| {
         let symbol = *random.choose(&symbols);
         let arity = protocol.fact_symbol(symbol).expect("declared").arity;
-        let terms = (0..arity).map(|_| rule_term(random, protocol, variables));
+        let terms = (0..arity).map(|_| rule_term(random, protocol, variables, signing));
         Fact {
             symbol,
             terms: terms.collect(),
@@ -107,21 +126,25 @@ fn facts(random: &mut Random, protocol: &Protocol, variables: u32, built_in: &[u
     (0..random.below(4)).map(|_| fact(random)).collect()
 }
 
-fn rule_term(random: &mut Random, protocol: &Protocol, variables: u32) -> Term {
+fn rule_term(random: &mut Random, protocol: &Protocol, variables: u32, signing: bool) -> Term {
     let material = Material {
         signature: &protocol.signature,
         variables,
         fresh_names: false,
         products: random.percent(70),
+        signing,
     };
-    let symbols = 1 + random.below(7);
+    let symbols = match signing && random.percent(20) {
+        true => 8 + random.below(8),
+        false => 1 + random.below(7),
+    };
     material.term(random, symbols)
 }
 
 /// A rule to be damaged; there is always one.
 fn some_rule<'a>(random: &mut Random, protocol: &'a mut Protocol) -> &'a mut Rule {
     if protocol.rules.is_empty() {
-        let rule = rule(random, protocol);
+        let rule = rule(random, protocol, false);
         protocol.rules.push(rule);
     }
     let place = random.below(protocol.rules.len());
@@ -238,14 +261,23 @@ fn use_undeclared(random: &mut Random, protocol: &mut Protocol, above: usize) {
     let functions = protocol.signature.free.len() as u32;
     let symbols = protocol.own.len() as u32;
     let rule = some_rule(random, protocol);
-    let fact = match random.below(4) {
+    let fact = match random.below(5) {
         0 => fact_of(K, Term::Variable(rule.variables.len() as u32)),
-        1 => fact_of(K, Term::apply(FREE + functions, [])),
+        1 => fact_of(K, Term::apply(undeclared(functions), [])),
+        4 => fact_of(K, Term::apply(TRUE + 1 + random.below(2) as u32, [])),
         2 => fact_of(4 + symbols, Term::Public(Public(0))),
         _ => fact_of(K, nested(MOST_RULE_SYMBOLS + above)),
     };
     rule.actions.truncate(MOST_FACTS as usize - 1);
     rule.actions.push(fact);
+}
+
+/// The tag behind those of so many free functions, or the first that no function can have.
+fn undeclared(functions: u32) -> u32 {
+    match functions {
+        MOST_FUNCTIONS.. => TRUE + 1,
+        _ => FREE + functions,
+    }
 }
 
 /// Nested h over a public name, so many symbols in all.

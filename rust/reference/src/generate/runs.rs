@@ -1,6 +1,6 @@
 //! Runs, built forward: every step is one that the machine can take.
 
-use super::protocols::fact_of;
+use super::protocols::{fact_of, signs};
 use super::terms::{name, Material};
 use crate::canonical::canonical_form;
 use crate::earliest::{fit_sources, premises, Source};
@@ -28,6 +28,8 @@ pub struct Run<'a> {
     protocol: &'a Protocol,
     machine: Machine<'a>,
     next_name: u32,
+    /// Whether the adversary uses aenc to true.
+    signing: bool,
     /// All conclusions so far, the consumed ones too, and among them the known messages.
     made: Vec<Fact>,
     known: Vec<Term>,
@@ -37,8 +39,9 @@ pub struct Run<'a> {
 
 /// A run of about so many nodes.
 pub fn run<'a>(random: &mut Random, protocol: &'a Protocol, length: usize) -> Run<'a> {
-    let first_name = first_name(random);
-    run_from(random, protocol, first_name, length)
+    let mut run = Run::new(protocol, first_name(random));
+    run.signing = signs(protocol) || random.percent(25);
+    run.grown(random, length)
 }
 
 /// Where the numbers of new names begin: low, or a little below the end of a number of groups.
@@ -47,21 +50,14 @@ fn first_name(random: &mut Random) -> u32 {
     *random.choose(&[0, 0, 64, end - 5, LARGEST - 5])
 }
 
-/// A run of about so many nodes whose new names are numbered from here.
+/// A run of about so many nodes without aenc to true, whose new names are numbered from here.
 pub fn run_from<'a>(
     random: &mut Random,
     protocol: &'a Protocol,
     first_name: u32,
     length: usize,
 ) -> Run<'a> {
-    let mut run = Run::new(protocol, first_name);
-    for _ in 0..4 * length {
-        if run.steps.len() >= length {
-            break;
-        }
-        run.grow(random);
-    }
-    run
+    Run::new(protocol, first_name).grown(random, length)
 }
 
 impl<'a> Run<'a> {
@@ -71,11 +67,23 @@ impl<'a> Run<'a> {
             protocol,
             machine: Machine::new(protocol),
             next_name: first_name,
+            signing: false,
             made: Vec::new(),
             known: Vec::new(),
             steps: Vec::new(),
             nodes: Vec::new(),
         }
+    }
+
+    /// With steps up to about so many nodes.
+    fn grown(mut self, random: &mut Random, length: usize) -> Run<'a> {
+        for _ in 0..4 * length {
+            if self.steps.len() >= length {
+                break;
+            }
+            self.grow(random);
+        }
+        self
     }
 
     /// Adds a step, and before it what supplies its premises; perhaps only some of these.
@@ -89,6 +97,7 @@ impl<'a> Run<'a> {
                     self.take(2, vec![message]);
                 }
             }
+            8..14 if self.signing && random.percent(30) => self.sign_or_seal(random),
             8..14 => self.apply_function(random),
             _ => self.protocol_step(random),
         }
@@ -138,7 +147,7 @@ impl<'a> Run<'a> {
             }
             Term::Apply(tag, arguments) => {
                 let parts_known = arguments.iter().all(|part| self.know(part));
-                parts_known && self.take(tag + 2, arguments.clone())
+                parts_known && self.apply(*tag, arguments.clone())
             }
         }
     }
@@ -165,9 +174,46 @@ impl<'a> Run<'a> {
         (!facts.is_empty()).then(|| (*random.choose(&facts)).clone())
     }
 
+    /// Applies the function of this tag.
+    fn apply(&mut self, tag: u32, values: Vec<Term>) -> bool {
+        self.take(number_of(Numbered::Apply(tag)), values)
+    }
+
+    /// Encrypts for a key, signs, and takes apart what is encrypted or signed, with the right key and message or with others.
+    fn sign_or_seal(&mut self, random: &mut Random) {
+        let known = [(); 4].map(|()| self.known_message(random));
+        let [Some(message), Some(key), Some(other_message), Some(other_key)] = known else {
+            return;
+        };
+        let public = Term::apply(PK, [key.clone()]);
+        let right_key = random.percent(70);
+        let right_message = random.percent(80);
+        let made = match random.percent(50) {
+            true => Term::apply(AENC, [message.clone(), public.clone()]),
+            false => Term::apply(SIGN, [message.clone(), key.clone()]),
+        };
+        let values = match (made.has_tag(AENC), right_key) {
+            (true, true) => vec![made, key],
+            (true, false) => vec![made, other_key],
+            (false, _) => {
+                let same = if right_message {
+                    message
+                } else {
+                    other_message
+                };
+                let shown = if right_key { public } else { other_key };
+                vec![made, same, shown]
+            }
+        };
+        if values.iter().all(|value| self.know(value)) && random.percent(80) {
+            self.apply(if values.len() == 2 { ADEC } else { VERIFY }, values);
+        }
+    }
+
     fn apply_function(&mut self, random: &mut Random) {
         let free = FREE..FREE + self.protocol.signature.free.len() as u32;
-        let all: Vec<u32> = (ONE..FREE).chain(free).collect();
+        let signing = AENC..if self.signing { TRUE + 1 } else { AENC };
+        let all: Vec<u32> = (ONE..FREE).chain(free).chain(signing).collect();
         let tag = if random.percent(75) {
             *random.choose(&[MUL, MUL, INV, EXP])
         } else {
@@ -176,7 +222,7 @@ impl<'a> Run<'a> {
         let arity = self.protocol.signature.arity(tag).expect("declared");
         let messages = (0..arity).map(|_| self.known_message(random));
         if let Some(values) = messages.collect() {
-            self.take(tag + 2, values);
+            self.apply(tag, values);
         }
     }
 
@@ -203,7 +249,7 @@ impl<'a> Run<'a> {
         let premises: Vec<Fact> = premises.collect();
         let mut prefixes = (1..=premises.len()).map(|count| &premises[..count]);
         if prefixes.all(|premises| self.supply(premises)) {
-            self.take(31 + number as u32, values);
+            self.take(number_of(Numbered::Own(number as u32)), values);
         }
     }
 
@@ -220,6 +266,7 @@ impl<'a> Run<'a> {
                     variables: 0,
                     fresh_names: true,
                     products: random.percent(70),
+                    signing: self.signing,
                 };
                 let symbols = 1 + random.below(6);
                 canonical_form(&material.term(random, symbols))

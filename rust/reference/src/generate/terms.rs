@@ -13,6 +13,8 @@ pub struct Material<'a> {
     pub fresh_names: bool,
     /// Whether products, inverses and exponents are to be frequent.
     pub products: bool,
+    /// Whether aenc to true are among the functions.
+    pub signing: bool,
 }
 
 /// Products of rare names have fewer symbols than this.
@@ -61,11 +63,15 @@ impl Material<'_> {
         }
     }
 
-    /// one, or a free function of arity 0.
+    /// one, true, or a free function of arity 0.
     fn constant(&self, random: &mut Random) -> Term {
         let free = (FREE..).zip(&self.signature.free);
         let constants = free.filter(|(_, arity)| **arity == 0).map(|(tag, _)| tag);
-        let tags: Vec<u32> = std::iter::once(ONE).chain(constants).collect();
+        let signing = self.signing.then_some(TRUE);
+        let tags: Vec<u32> = std::iter::once(ONE)
+            .chain(constants)
+            .chain(signing)
+            .collect();
         Term::apply(*random.choose(&tags), [])
     }
 
@@ -74,7 +80,8 @@ impl Material<'_> {
         let arity = |tag: u32| self.signature.arity(tag).unwrap_or(0);
         let fits = |tag: &u32| (1..=most).contains(&arity(*tag));
         let last = FREE + self.signature.free.len() as u32;
-        let all = ENC..last;
+        let signing = AENC..if self.signing { TRUE } else { AENC };
+        let all = (ENC..last).chain(signing);
         let tags: Vec<u32> = if self.products && random.percent(65) {
             [MUL, MUL, MUL, INV, EXP].into_iter().filter(fits).collect()
         } else {
@@ -85,6 +92,9 @@ impl Material<'_> {
 
     /// A term to which an equation applies at its root, perhaps only after its parts are normalised.
     fn reducible(&self, random: &mut Random, symbols: usize) -> Term {
+        if self.signing && symbols >= 7 && random.percent(60) {
+            return self.opened(random, symbols);
+        }
         let key_size = 1 + random.below((symbols - 3) / 2);
         let message_size = symbols - 2 - 2 * key_size;
         let key = self.term(random, key_size);
@@ -105,6 +115,71 @@ impl Material<'_> {
                 padded(Term::apply(DEC, [cipher, other_key]), symbols)
             }
         }
+    }
+}
+
+impl Material<'_> {
+    /// adec of aenc or verify of sign, whose keys and messages fit, perhaps only after they are normalised, or nearly fit.
+    fn opened(&self, random: &mut Random, symbols: usize) -> Term {
+        let decrypt = random.percent(50);
+        let messages = if decrypt { 1 } else { 2 };
+        let key_size = 1 + random.below((symbols - 3 - messages) / 2);
+        let message_size = (symbols - 3 - 2 * key_size) / messages;
+        let key = self.term(random, key_size);
+        let message = self.term(random, message_size);
+        let other_key = self.fitting(random, &key);
+        let opened = if decrypt {
+            decrypted(random, &message, &key, other_key)
+        } else {
+            let other_message = self.fitting(random, &message);
+            verified(random, &message, &key, other_message, other_key)
+        };
+        padded(opened, symbols)
+    }
+
+    /// A term that is equal to this one, mostly, and of the same size.
+    fn fitting(&self, random: &mut Random, term: &Term) -> Term {
+        match random.percent(80) {
+            true => shuffled(random, term),
+            false => self.term(random, term.symbols()),
+        }
+    }
+}
+
+fn public_key(key: Term) -> Term {
+    Term::apply(PK, [key])
+}
+
+/// adec(aenc(m,pk(k)),k'), mostly, which is m where k' is k; or pk stands elsewhere or nowhere, or a function is another one.
+fn decrypted(random: &mut Random, message: &Term, key: &Term, private: Term) -> Term {
+    let (message, key) = (message.clone(), key.clone());
+    let cipher = |tag: u32, public: Term| Term::apply(tag, [message, public]);
+    match random.below(12) {
+        0 => Term::apply(ADEC, [cipher(AENC, key), private]),
+        1 => Term::apply(ADEC, [cipher(AENC, key), public_key(private)]),
+        2 => Term::apply(DEC, [cipher(AENC, public_key(key)), private]),
+        3 => {
+            let other = *random.choose(&[ENC, SIGN, PAIR]);
+            Term::apply(ADEC, [cipher(other, public_key(key)), private])
+        }
+        _ => Term::apply(ADEC, [cipher(AENC, public_key(key)), private]),
+    }
+}
+
+/// verify(sign(m,k),m',pk(k')), mostly, which is true where m' is m and k' is k; or pk stands elsewhere or nowhere, or a function is
+/// another one.
+fn verified(random: &mut Random, message: &Term, key: &Term, same: Term, public: Term) -> Term {
+    let (message, key) = (message.clone(), key.clone());
+    let signature = |tag: u32, key: Term| Term::apply(tag, [message, key]);
+    match random.below(12) {
+        0 => Term::apply(VERIFY, [signature(SIGN, key), same, public]),
+        1 => Term::apply(VERIFY, [signature(SIGN, public_key(key)), same, public]),
+        2 => Term::apply(VERIFY, [same, signature(SIGN, key), public_key(public)]),
+        3 => {
+            let other = *random.choose(&[ENC, AENC, PAIR]);
+            Term::apply(VERIFY, [signature(other, key), same, public_key(public)])
+        }
+        _ => Term::apply(VERIFY, [signature(SIGN, key), same, public_key(public)]),
     }
 }
 
