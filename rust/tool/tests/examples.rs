@@ -119,7 +119,16 @@ fn none_is_left_out() {
     let shown: BTreeSet<&str> = rows.iter().map(|row| row.case.as_str()).collect();
     let real = std::fs::read_dir(root().join("tests/corpus/real")).unwrap();
     for case in real.map(|entry| entry.unwrap().file_name().into_string().unwrap()) {
-        let of_sources = ["nssk-", "otway-rees-", "yahalom-"];
+        let of_sources = [
+            "nssk-",
+            "otway-rees-",
+            "yahalom-",
+            "nspk-",
+            "nsl-",
+            "tmn-",
+            "jfkr-",
+            "jfki-",
+        ];
         if of_sources.iter().any(|system| case.starts_with(system)) {
             assert!(shown.contains(case.as_str()), "{case}");
         }
