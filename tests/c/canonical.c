@@ -1,5 +1,5 @@
 /* The calls from C, by the header alone: document 01's first case of canonical form, a short output, a short work area, a recorded
-   variable that no premise has; numbers of four groups and of five, and the term file's limit. */
+   variable that no premise has; numbers of four groups and of five, and the term file's limit; the equations of adec and verify. */
 #include "levtosziv.h"
 
 #include <stdio.h>
@@ -35,6 +35,13 @@ int main(void)
     /* Fresh names 129, 2,097,152 and 128, and as their bytes sort them. */
     const uint8_t product[] = {12, 2, 129, 1, 12, 2, 128, 128, 128, 1, 2, 128, 1};
     const uint8_t sorted[] = {12, 2, 128, 1, 12, 2, 128, 128, 128, 1, 2, 129, 1};
+    /* adec(aenc(n0,pk(mul(n1,n2))),mul(n2,n1)), and with n1 as the key; verify(sign(n0,n1),n0,pk(n1)); mul(true,n0); a tag that no function has */
+    const uint8_t decrypted[] = {30, 29, 2, 0, 31, 12, 2, 1, 2, 2, 12, 2, 2, 2, 1};
+    const uint8_t other_key[] = {30, 29, 2, 0, 31, 12, 2, 1, 2, 2, 2, 1};
+    const uint8_t verified[] = {33, 32, 2, 0, 2, 1, 2, 0, 31, 2, 1};
+    const uint8_t with_true[] = {12, 34, 2, 0};
+    const uint8_t true_behind[] = {12, 2, 0, 34};
+    const uint8_t no_function[] = {35};
     uint8_t output[16];
     int failed = 0;
 
@@ -65,6 +72,17 @@ int main(void)
     failed += fails("four groups that are not the shortest form", answer == ((uint64_t)3 << 32 | 4));
     answer = levtosziv_canonical(protocol, sizeof protocol, product, sizeof product, output, sizeof output, work, sizeof work);
     failed += fails("a product", answer == ((uint64_t)3 << 56 | sizeof sorted) && memcmp(output, sorted, sizeof sorted) == 0);
+
+    answer = levtosziv_canonical(protocol, sizeof protocol, decrypted, sizeof decrypted, output, sizeof output, work, sizeof work);
+    failed += fails("adec", answer == ((uint64_t)3 << 56 | 2) && output[0] == 2 && output[1] == 0);
+    answer = levtosziv_canonical(protocol, sizeof protocol, other_key, sizeof other_key, output, sizeof output, work, sizeof work);
+    failed += fails("adec with another key", answer == ((uint64_t)3 << 56 | sizeof other_key) && memcmp(output, other_key, sizeof other_key) == 0);
+    answer = levtosziv_canonical(protocol, sizeof protocol, verified, sizeof verified, output, sizeof output, work, sizeof work);
+    failed += fails("verify", answer == ((uint64_t)3 << 56 | 1) && output[0] == 34);
+    answer = levtosziv_canonical(protocol, sizeof protocol, with_true, sizeof with_true, output, sizeof output, work, sizeof work);
+    failed += fails("true as a factor", answer == ((uint64_t)3 << 56 | 4) && memcmp(output, true_behind, 4) == 0);
+    answer = levtosziv_canonical(protocol, sizeof protocol, no_function, sizeof no_function, output, sizeof output, work, sizeof work);
+    failed += fails("tag 35", answer == ((uint64_t)3 << 32 | 4));
 
     memset(nested, 6, sizeof nested);
     nested[LEVTOSZIV_TERM_BYTES - 2] = 2;

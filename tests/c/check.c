@@ -1,5 +1,5 @@
 /* Checking from C, by the header alone: document 01's printed case, without its last edge, no nodes at all, a short work area, a recorded
-   variable that no premise has; numbers of four groups. */
+   variable that no premise has; numbers of four groups; rules 100 and 101, and true in a property. */
 #include "levtosziv.h"
 
 #include <stdio.h>
@@ -31,6 +31,9 @@ int main(void)
     const uint8_t wide_rule[] = {1, 131, 128, 128, 1, 1, 0, 0};
     const uint8_t wide_target[] = {2, 3, 1, 0, 2, 1, 0, 1, 1, 1, 130, 128, 128, 1, 1};
     const uint8_t wide_name[] = {2, 3, 1, 255, 255, 255, 127, 2, 1, 255, 255, 255, 127, 1, 1, 1, 2, 1};
+    const uint8_t true_sent[] = {2, 100, 2, 34, 1, 1, 1, 2, 1};
+    const uint8_t no_rule[] = {1, 101, 0};
+    const uint8_t true_equal[] = {1, 34, 34};
     int failed = 0;
 
     memset(work, 0x5A, sizeof work);
@@ -63,6 +66,13 @@ int main(void)
     failed += fails("refused 10 1", answer == ((uint64_t)10 << 32 | 1));
     answer = levtosziv_check(protocol, sizeof protocol, never, sizeof never, wide_name, sizeof wide_name, work, sizeof work);
     failed += fails("attack 2 1 1", answer == ((uint64_t)1 << 56 | (uint64_t)2 << 32 | 1 << 16 | 1));
+
+    answer = levtosziv_check(protocol, sizeof protocol, never, sizeof never, true_sent, sizeof true_sent, work, sizeof work);
+    failed += fails("rule 100", answer == ((uint64_t)1 << 56 | (uint64_t)2 << 32 | 1 << 16 | 1));
+    answer = levtosziv_check(protocol, sizeof protocol, never, sizeof never, no_rule, sizeof no_rule, work, sizeof work);
+    failed += fails("rule 101", answer == ((uint64_t)6 << 32 | 1));
+    answer = levtosziv_check(protocol, sizeof protocol, true_equal, sizeof true_equal, nothing, sizeof nothing, work, sizeof work);
+    failed += fails("true in a property", answer == ((uint64_t)3 << 32 | 2));
     printf("C, checking: %d of %d as document 01 says\n", asked - failed, asked);
     return failed != 0;
 }

@@ -1,7 +1,7 @@
 /*
  * Drawing from C, by the header alone: the steps of document 01's printed case, whose graph is then checked; a short output, a step list that is
  * no run, a name made twice, a short work area, a recorded variable that no premise has; equal facts, of which the lowest are taken; numbers
- * of four groups.
+ * of four groups; rules 97 to 101.
  */
 #include "levtosziv.h"
 
@@ -39,6 +39,11 @@ int main(void)
     const uint8_t largest_twice[] = {2, 0, 2, 255, 255, 255, 127, 0, 2, 255, 255, 255, 127};
     const uint8_t wide_rule[] = {1, 133, 128, 128, 1};
     const uint8_t wide_variable[] = {1, 8, 0, 128, 128, 128, 1};
+    /* p0 signed by itself and verified. */
+    const uint8_t verified[] = {4, 3, 1, 0, 97, 1, 0, 98, 1, 0, 1, 0, 99, 32, 1, 0, 1, 0, 1, 0, 31, 1, 0};
+    const uint8_t sources[] = {6, 1, 1, 2, 1, 1, 1, 3, 1, 1, 1, 3, 2, 3, 1, 4, 1, 1, 1, 4, 2, 2, 1, 4, 3};
+    const uint8_t no_rule[] = {1, 101};
+    uint8_t large[sizeof verified + sizeof sources];
     uint8_t output[32], other[sizeof earliest];
     int failed = 0;
 
@@ -85,6 +90,12 @@ int main(void)
     failed += fails("a rule number of four groups", answer == ((uint64_t)6 << 32 | 1));
     answer = levtosziv_draw(protocol, sizeof protocol, wide_variable, sizeof wide_variable, output, sizeof output, work, sizeof work);
     failed += fails("a variable of four groups in a value", answer == ((uint64_t)7 << 32 | 1));
+
+    answer = levtosziv_draw(protocol, sizeof protocol, verified, sizeof verified, large, sizeof large, work, sizeof work);
+    failed += fails("a signature", answer == ((uint64_t)3 << 56 | sizeof large));
+    failed += fails("its sources", memcmp(large, verified, sizeof verified) == 0 && memcmp(large + sizeof verified, sources, sizeof sources) == 0);
+    answer = levtosziv_draw(protocol, sizeof protocol, no_rule, sizeof no_rule, output, sizeof output, work, sizeof work);
+    failed += fails("rule 101", answer == ((uint64_t)6 << 32 | 1));
     printf("C, drawing: %d of %d as document 01 says\n", asked - failed, asked);
     return failed != 0;
 }

@@ -12,7 +12,7 @@ use reference::property::{Formula, Quantifier, Sort as PropertySort, MOST_NESTIN
 use reference::protocol::{Protocol, Rule, Sort, IN, K, MOST_RULE_SYMBOLS, OUT};
 use reference::refusal::File;
 use reference::steps::{MOST_FILLED_IN_SYMBOLS, MOST_VALUE_SYMBOLS};
-use reference::term::{Fresh, Public, Signature, Term, ENC, FREE};
+use reference::term::*;
 
 /// One free function of the largest arity.
 fn signature() -> Signature {
@@ -26,6 +26,7 @@ type Place = (u32, usize);
 fn places() -> Vec<Place> {
     let arity = |tag| signature().arity(tag).expect("declared");
     (ENC..=FREE)
+        .chain(AENC..=VERIFY)
         .flat_map(|tag| (0..arity(tag)).map(move |place| (tag, place)))
         .collect()
 }
@@ -49,6 +50,26 @@ fn in_turn(places: [Place; 2], over: Term, symbols: usize) -> Term {
         term = Term::Apply(tag, arguments);
     }
     term
+}
+
+/// aenc and adec in turn under one key, up to so many symbols: every one is undone.
+fn undone(symbols: usize) -> Term {
+    let key = || Term::Public(Public(LEAST_WIDE));
+    let mut term = Term::Fresh(Fresh(0));
+    while term.symbols() + 5 <= symbols {
+        let cipher = Term::apply(AENC, [term, Term::apply(PK, [key()])]);
+        term = Term::apply(ADEC, [cipher, key()]);
+    }
+    term
+}
+
+/// verify of a signature of a message so that all is as large as it may be: it is true.
+fn verified(symbols: usize) -> Term {
+    let part =
+        |size: usize| (1..size).fold(Term::Fresh(Fresh(0)), |term, _| Term::apply(PK, [term]));
+    let size = (symbols - 3) / 4;
+    let signature = Term::apply(SIGN, [part(size), part(size)]);
+    Term::apply(VERIFY, [signature, part(size), part(size + 1)])
 }
 
 fn pairs() -> impl Iterator<Item = [Place; 2]> {
@@ -213,6 +234,8 @@ pub fn deepest() -> Vec<u8> {
         cases.check(&deep_node(pair));
         cases.draw(&deep_node(pair));
     }
+    cases.canonical(&undone(MOST_FILLED_IN_SYMBOLS));
+    cases.canonical(&verified(MOST_FILLED_IN_SYMBOLS));
     for first in 9..=12 {
         for second in 9..=12 {
             cases.check(&deep_property([first, second]));

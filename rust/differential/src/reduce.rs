@@ -5,7 +5,7 @@ use reference::generate::runs::{encoded, Step};
 use reference::graph::{read_edges, write_edges, Edge};
 use reference::number::Reader;
 use reference::property::{self, Formula};
-use reference::protocol::{Protocol, Rule};
+use reference::protocol::{numbered, Numbered, Protocol, Rule};
 use reference::term::{Fresh, Prefix, Public, Term};
 
 /// The files of a check or of drawing, as trees and lists.
@@ -227,8 +227,9 @@ fn rules(input: &mut Input) {
         let without = changed(input, |parts| {
             parts.protocol.rules.remove(rule);
             for step in &mut parts.steps {
-                if step.rule > 31 + rule as u32 {
-                    step.rule -= 1;
+                match numbered(step.rule) {
+                    Some(Numbered::Own(own)) if own > rule as u32 => step.rule -= 1,
+                    _ => {}
                 }
             }
             true

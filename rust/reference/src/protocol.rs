@@ -31,8 +31,7 @@ pub enum Numbered {
     Own(u32),
 }
 
-/// The ranges of rule numbers, in their order: the least number that is in none of the ones before and not in this one, and what the
-/// numbers of the range stand for.
+/// The ranges of rule numbers in their order, each with the number behind its last one and what its numbers stand for.
 const RANGES: [(u32, fn(u32) -> Numbered); 4] = [
     (5, Numbered::Fixed),
     // "Rule t+2 applies the function of tag t"

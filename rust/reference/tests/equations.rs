@@ -1,6 +1,7 @@
-//! Canonical forms against document 01's own words: the paragraph "Canonical form", and figure 2.
+//! Canonical forms against the documents' own words: the paragraph "Canonical form", figure 2, and Change 4's two equations.
 
 use reference::canonical::canonical_form;
+use reference::generate::terms::shares;
 use reference::notation::show;
 use reference::random::Random;
 use reference::term::*;
@@ -8,32 +9,41 @@ use reference::term::*;
 /// A term over few names and all functions, with about `size` symbols.
 fn term(random: &mut Random, size: usize) -> Term {
     if size <= 1 {
-        return match random.below(8) {
+        return match random.below(9) {
             0 => Term::one(),
+            8 => Term::apply(TRUE, []),
             1 => Term::Public(Public(random.below(2) as u32)),
             2 => Term::Fresh(Fresh(*random.choose(&[127, 128, 129, 256]))),
             _ => Term::Fresh(Fresh(random.below(3) as u32)),
         };
     }
     let products = [MUL, MUL, INV, EXP];
-    let others = [ENC, DEC, H, PAIR, FST, SND, FREE, FREE + 1];
     let tag = if random.percent(60) {
         *random.choose(&products)
     } else {
-        *random.choose(&others)
+        *random.choose(&OTHERS)
     };
     let arity = signature().arity(tag).unwrap();
-    let left = if arity < 2 {
-        size - 1
-    } else {
-        1 + random.below(size - 1)
-    };
-    let mut arguments = vec![term(random, left)];
-    if arity == 2 {
-        arguments.push(term(random, size - left));
-    }
-    Term::Apply(tag, arguments)
+    let sizes = shares(random, size.max(arity), arity);
+    Term::apply(tag, sizes.into_iter().map(|size| term(random, size)))
 }
+
+/// The functions of one argument or more, mul, inv and exp apart.
+const OTHERS: [u32; 13] = [
+    ENC,
+    DEC,
+    H,
+    PAIR,
+    FST,
+    SND,
+    FREE,
+    FREE + 1,
+    AENC,
+    ADEC,
+    PK,
+    SIGN,
+    VERIFY,
+];
 
 fn signature() -> Signature {
     Signature { free: vec![1, 2] }
@@ -43,7 +53,7 @@ fn call(tag: u32, arguments: &[&Term]) -> Term {
     Term::apply(tag, arguments.iter().map(|part| (*part).clone()))
 }
 
-/// The two sides of equation `number` of figure 2 at the terms x, y and z.
+/// The two sides of equation `number` at the terms x, y and z: 1 to 10 are those of figure 2.
 fn equation(number: usize, x: &Term, y: &Term, z: &Term) -> (Term, Term) {
     let one = Term::one();
     match number {
@@ -62,32 +72,41 @@ fn equation(number: usize, x: &Term, y: &Term, z: &Term) -> (Term, Term) {
             call(EXP, &[&call(EXP, &[x, y]), z]),
             call(EXP, &[x, &call(MUL, &[y, z])]),
         ),
-        _ => (call(EXP, &[x, &one]), x.clone()),
+        10 => (call(EXP, &[x, &one]), x.clone()),
+        11 => (
+            call(ADEC, &[&call(AENC, &[x, &call(PK, &[y])]), y]),
+            x.clone(),
+        ),
+        _ => (
+            call(VERIFY, &[&call(SIGN, &[x, y]), x, &call(PK, &[y])]),
+            call(TRUE, &[]),
+        ),
     }
 }
 
 /// A term around each of the two sides, the same around both.
 fn context(random: &mut Random, sides: (Term, Term)) -> (Term, Term) {
-    let other = term(random, 4);
-    let tag = *random.choose(&[ENC, DEC, H, PAIR, FST, SND, EXP, INV, MUL, FREE, FREE + 1]);
-    let around = |side: Term, first: bool| match (signature().arity(tag).unwrap(), first) {
-        (1, _) => Term::apply(tag, [side]),
-        (_, true) => Term::apply(tag, [side, other.clone()]),
-        (_, false) => Term::apply(tag, [other.clone(), side]),
+    let tag = *random.choose(&[&OTHERS[..], &[EXP, INV, MUL]].concat());
+    let arity = signature().arity(tag).unwrap();
+    let others: Vec<Term> = (1..arity).map(|_| term(random, 4)).collect();
+    let place = random.below(arity);
+    let around = |side: Term| {
+        let mut arguments = others.clone();
+        arguments.insert(place, side);
+        Term::Apply(tag, arguments)
     };
-    let first = random.percent(50);
-    (around(sides.0, first), around(sides.1, first))
+    (around(sides.0), around(sides.1))
 }
 
 #[test]
 fn both_sides_of_every_equation_have_one_canonical_form() {
     let mut random = Random::new(1);
-    for round in 0..40_000 {
+    for round in 0..48_000 {
         let [x, y, z] = [(); 3].map(|()| {
             let size = 1 + random.below(7);
             term(&mut random, size)
         });
-        let mut sides = equation(1 + round % 10, &x, &y, &z);
+        let mut sides = equation(1 + round % 12, &x, &y, &z);
         for _ in 0..random.below(4) {
             sides = context(&mut random, sides);
         }
@@ -96,11 +115,23 @@ fn both_sides_of_every_equation_have_one_canonical_form() {
     }
 }
 
-/// "Canonical form: no dec, fst or snd equation applies; …", at every place of the term.
+/// "Canonical form: no dec, fst or snd equation applies; …" and "In a canonical term neither new equation applies", at every place of the
+/// term.
 fn is_canonical(term: &Term) -> bool {
     let here = match term {
         Term::Apply(DEC, parts) => !(parts[0].has_tag(ENC) && parts[0].arguments()[1] == parts[1]),
         Term::Apply(FST | SND, parts) => !parts[0].has_tag(PAIR),
+        Term::Apply(ADEC, parts) => {
+            let (cipher, key) = (&parts[0], &parts[1]);
+            !(cipher.has_tag(AENC) && cipher.arguments()[1] == call(PK, &[key]))
+        }
+        Term::Apply(VERIFY, parts) => {
+            let [signature, message, key] = &parts[..] else {
+                panic!("verify of three arguments");
+            };
+            let signed = |key: &Term| call(SIGN, &[message, key]);
+            !(key.has_tag(PK) && *signature == signed(&key.arguments()[0]))
+        }
         Term::Apply(EXP, parts) => !parts[0].has_tag(EXP) && !parts[1].has_tag(ONE),
         Term::Apply(MUL | INV, _) => return is_product(term),
         _ => true,

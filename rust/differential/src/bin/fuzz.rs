@@ -3,10 +3,11 @@
 //!     fuzz MINUTES [--cores N] [--seed N]      as long as that
 //!     fuzz --inputs N [--cores N] [--seed N]   so many inputs
 //!     fuzz --hand                              the cases by hand alone
+//!     fuzz --random ..                         random inputs alone
 //!     fuzz --as-found ..                       the input as it was found, and not the smallest one
 //!     fuzz --call check|draw|canonical ..      inputs of that call alone
 //!
-//! The corpus and the cases by hand come first. An input whose property may take much longer than a second is skipped and counted, so that a run
+//! Else the corpus and the cases by hand come first. An input whose property may take much longer than a second is skipped and counted, so that a run
 //! ends when its time is over. Exits with 1 where the implementations differ.
 
 use differential::input::{Call, Input};
@@ -26,6 +27,7 @@ struct Plan {
     seed: u64,
     call: Option<Call>,
     by_hand: bool,
+    random: bool,
     as_found: bool,
 }
 
@@ -46,6 +48,7 @@ fn plan() -> Option<Plan> {
         seed: 1,
         call: None,
         by_hand: false,
+        random: false,
         as_found: false,
     };
     let words: Vec<String> = std::env::args().skip(1).collect();
@@ -59,6 +62,7 @@ fn plan() -> Option<Plan> {
             "--seed" => plan.seed = figure()?,
             "--call" => plan.call = Some(call(words.next()?)?),
             "--hand" => (plan.by_hand, plan.inputs) = (true, 0),
+            "--random" => plan.random = true,
             "--as-found" => plan.as_found = true,
             minutes => plan.time = Duration::from_secs_f64(60.0 * minutes.parse::<f64>().ok()?),
         }
@@ -149,9 +153,10 @@ fn main() {
         shares: Mutex::new(Shares::default()),
     };
     let wanted = |input: &Input| state.plan.call.is_none_or(|call| call == input.call);
-    let cases = match state.plan.by_hand {
-        true => Input::by_hand(),
-        false => Input::cases(),
+    let cases = match (state.plan.by_hand, state.plan.random) {
+        (true, _) => Input::by_hand(),
+        (_, true) => Vec::new(),
+        _ => Input::cases(),
     };
     for input in cases.into_iter().filter(wanted) {
         let mut shares = state.shares.lock().expect("shares");

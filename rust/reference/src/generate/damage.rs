@@ -8,7 +8,7 @@ use crate::random::Random;
 pub fn damage_file(random: &mut Random, bytes: &mut Vec<u8>, numbers: &Numbers) {
     match random.below(10) {
         0..4 => *bytes = spoiled(random, numbers).0,
-        4..6 => *bytes = retagged(random, numbers),
+        4..6 => *bytes = retagged(random, numbers).0,
         _ => damage(random, bytes),
     }
 }

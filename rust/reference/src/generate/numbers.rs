@@ -180,18 +180,18 @@ pub fn wide(random: &mut Random, number: u32) -> u32 {
     ])
 }
 
-/// The file with another tag in place of one: aenc to true, those beside them, or of a free function.
-pub fn retagged(random: &mut Random, numbers: &Numbers) -> Vec<u8> {
+/// The file with another tag in place of one, and which: of aenc to true, behind them, or of a free function.
+pub fn retagged(random: &mut Random, numbers: &Numbers) -> (Vec<u8>, u32) {
     let is_tag = |at: &usize| matches!(numbers[*at].0, Place::Tag | Place::FormulaTag);
     let tags: Vec<usize> = (0..numbers.len()).filter(is_tag).collect();
+    let free = FREE + random.below(16) as u32;
+    let signing = AENC + random.below(6) as u32;
+    let tag = *random.choose(&[free, signing, signing, TRUE + 1, TRUE + 2]);
     let mut numbers = numbers.clone();
     if !tags.is_empty() {
-        let at = *random.choose(&tags);
-        let free = FREE + random.below(16) as u32;
-        let signing = AENC + random.below(6) as u32;
-        numbers[at].1 = *random.choose(&[free, signing, signing, TRUE + 1, TRUE + 2]);
+        numbers[*random.choose(&tags)].1 = tag;
     }
-    encoded(&numbers)
+    (encoded(&numbers), tag)
 }
 
 /// The file with one of its numbers written otherwise, and which: any of the places that the file has, a number there, any form.
