@@ -127,6 +127,15 @@ run r: fresh(~k) A(~k)
 ";
     put(&folder, &[("t.lev", text.as_bytes())]);
     assert_eq!(said(&["build", "t.lev", "out"], &folder), "");
+    put(
+        &folder,
+        &[("u.lev", text.replace("my_sign", "seal").as_bytes())],
+    );
+    assert_eq!(said(&["build", "u.lev", "other"], &folder), "");
+    for name in ["protocol.bin", "graph.bin"] {
+        let bytes = |place: &str| std::fs::read(folder.join(place).join(name)).unwrap();
+        assert_eq!(bytes("out"), bytes("other"), "{name}");
+    }
     let clashing = text.replace("my_sign", "sign");
     put(&folder.join("out"), &[("theory.lev", clashing.as_bytes())]);
     let words = said(&["check", "out"], &folder);
@@ -152,6 +161,14 @@ run r [fill]: let pk = 'g'^~k let sign = 'm' Key(~k, 'A') See('A', pk, sign)
     let words = said(&["check", "t.lev"], &folder);
     assert!(words.starts_with("r / l: attack 5 2 4\n"), "{words}");
     assert!(words.contains("Seen('g'^('m'*~k), pk('m'))"), "{words}");
+    // Of `true` it is not left free, and whoever gives it a value is told.
+    let text = "rule A: [ In(true) ] --> [ ]\nlemma l: F\nrun r: A('x')\n";
+    put(&folder, &[("t.lev", text.as_bytes())]);
+    let words = said(&["check", "t.lev"], &folder);
+    assert!(
+        words.starts_with("error: `A` takes 0 values, here it has 1\n"),
+        "{words}"
+    );
 }
 
 #[test]
