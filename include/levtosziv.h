@@ -1,5 +1,6 @@
 /*
- * The calls of the checker. What their contracts prove is in crates/checker; what no contract can say is here.
+ * The calls of the checker. What their contracts prove is in crates/checker; what no contract can say is here. What the files hold, the
+ * tags of functions and the numbers of rules among it, is in docs/FORMATS.md.
  *
  * A slice is a pointer and a length; a length of 0 may come with any pointer. The slices of one call do not overlap, and nothing else
  * reads or writes them while the call runs. A work area of LEVTOSZIV_WORK_BYTES is long enough for every call.
@@ -89,7 +90,8 @@ uint64_t levtosziv_draw(const uint8_t *protocol, size_t protocol_length, const u
 /*
  * Writes the canonical form of the term file's term, read under the protocol, to the start of the output. An output of
  * LEVTOSZIV_TERM_BYTES is always long enough: a term has at most 256 symbols, and these take at most 1,024 bytes. So a term file that is
- * longer than that, though not over its limit, is refused with 3 or 8.
+ * longer than that, though not over its limit, is refused with 3 or 8. The functions of tags 3 to 12, and those of public keys and
+ * signatures, 29 to 34, are there under every protocol; tags 13 to 28 are those that it declares.
  */
 uint64_t levtosziv_canonical(const uint8_t *protocol, size_t protocol_length, const uint8_t *term, size_t term_length,
                              uint8_t *output, size_t output_length, uint8_t *work, size_t work_length);

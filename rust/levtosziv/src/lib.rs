@@ -214,6 +214,18 @@ pub fn draw(
 /// assert_eq!(output[..length], [3]);
 /// # Ok::<(), levtosziv::Refusal>(())
 /// ```
+///
+/// The functions of tags 3 to 12, and those of public keys and signatures, 29 to 34, are there under every protocol; tags 13 to 28 are
+/// those that it declares:
+///
+/// ```
+/// let mut work = levtosziv::Work::new();
+/// let mut output = [0; levtosziv::TERM_BYTES];
+/// let verified = [33, 32, 2, 1, 2, 0, 2, 1, 31, 2, 0]; // verify(sign(m, k), m, pk(k))
+/// let length = work.canonical_form(&[0, 0, 0], &verified, &mut output)?;
+/// assert_eq!(output[..length], [34]); // true
+/// # Ok::<(), levtosziv::Refusal>(())
+/// ```
 pub fn canonical_form(
     protocol: &[u8],
     term: &[u8],

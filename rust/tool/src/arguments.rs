@@ -3,6 +3,7 @@
 use crate::batch::arguments::{Batch, Merge};
 use crate::case::Choice;
 use crate::failure::{ATTACK, DONE, REFUSED};
+use crate::model::BUILT_IN;
 use clap::{Parser, Subcommand, ValueEnum};
 use std::path::PathBuf;
 
@@ -43,6 +44,13 @@ impl FailOn {
             () => DONE,
         }
     }
+}
+
+/// What a message is built of.
+fn functions() -> String {
+    let names: Vec<&str> = BUILT_IN.iter().map(|function| function.name).collect();
+    let names = names.join(" ");
+    format!("Of the functions {names}, those of a theory, public names 'a' and fresh ones ~a")
 }
 
 /// Which of a text's lemmas and runs.
@@ -162,6 +170,7 @@ pub enum Command {
     Draw(Draw),
     /// The canonical form of a message, such as "'g'^~a^inv(~a)"
     Term {
+        #[arg(help = functions())]
         term: String,
         /// A text with the functions and names
         #[arg(long)]

@@ -374,10 +374,7 @@ pub fn folder_names(
             folder.join(PROTOCOL_FILE).display()
         ),
         Err(failure) if names.is_some() => return Err(failure),
-        Err(_) => format!(
-            "{}: its names are not used, for it cannot be read",
-            path.display()
-        ),
+        Err(failure) => format!("{}; so the names of this text are not used", failure.line()),
     };
     if names.is_some() {
         return Err(Failure::File(message));

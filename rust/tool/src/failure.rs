@@ -118,6 +118,20 @@ impl Failure {
         Failure::File(format!("{}: {error}", path.display()))
     }
 
+    /// What happened, in one line.
+    pub fn line(&self) -> String {
+        match self {
+            Failure::Text(both) => {
+                let (source, error) = &**both;
+                let (line, column) = source.line_and_column(error.span.start);
+                format!("{}:{line}:{column}: {}", source.name, error.message)
+            }
+            Failure::Arguments(message)
+            | Failure::File(message)
+            | Failure::Disagreement(message) => message.clone(),
+        }
+    }
+
     /// Says what happened on standard error, and gives the exit code.
     pub fn report(&self) -> i32 {
         match self {

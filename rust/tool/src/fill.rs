@@ -200,29 +200,19 @@ impl<'a> Filler<'a> {
         sources.extend(waiting);
         sources.iter().any(|source| match way(source, term) {
             None => false,
-            Some(way) => self.all_or_none(|s| s.know(source) && s.walk(source, &way)),
+            Some(way) => self.all_or_none(|s| s.know(source) && way.iter().all(|o| s.open(o))),
         })
     }
 
-    fn walk(&mut self, from: &Term, way: &[u32]) -> bool {
-        let mut here = from.clone();
-        for tag in way {
-            let Term::Apply(_, arguments) = here.clone() else {
-                return false;
-            };
-            let (part, values) = match *tag {
-                DEC => (arguments[0].clone(), vec![here, arguments[1].clone()]),
-                FST => (arguments[0].clone(), vec![here]),
-                _ => (arguments[1].clone(), vec![here]),
-            };
-            if !self.known.contains(&part) {
-                if *tag == DEC && !self.know(&arguments[1]) {
-                    return false;
-                }
-                self.push_rule(apply_rule(*tag), values);
-            }
-            here = part;
+    fn open(&mut self, opening: &Opening) -> bool {
+        if self.known.contains(opening.part) {
+            return true;
         }
+        if opening.key.is_some_and(|key| !self.know(key)) {
+            return false;
+        }
+        let values = std::iter::once(opening.whole).chain(opening.key);
+        self.push_rule(apply_rule(opening.tag), values.cloned().collect());
         true
     }
 
@@ -274,23 +264,41 @@ fn product(term: &Term) -> Vec<Term> {
     }
 }
 
-/// Which of dec, fst and snd lead from a message to a part of it.
-fn way(from: &Term, to: &Term) -> Option<Vec<u32>> {
-    let Term::Apply(tag, arguments) = from else {
-        return None;
+/// A function that takes a part out of a message, and the key that it needs.
+#[derive(Clone, Copy)]
+struct Opening<'a> {
+    tag: u32,
+    whole: &'a Term,
+    key: Option<&'a Term>,
+    part: &'a Term,
+}
+
+/// What can be taken out of a message. A signature gives nothing away, and what is encrypted for a public key needs the key behind it.
+fn openings(whole: &Term) -> Vec<Opening<'_>> {
+    let Term::Apply(tag, arguments) = whole else {
+        return Vec::new();
     };
-    let ways: &[(u32, usize)] = match *tag {
-        PAIR => &[(FST, 0), (SND, 1)],
-        ENC => &[(DEC, 0)],
-        _ => &[],
+    let opening = |tag, key, part| Opening {
+        tag,
+        whole,
+        key,
+        part,
     };
-    ways.iter().find_map(|(step, place)| {
-        let part = &arguments[*place];
-        if part == to {
-            return Some(vec![*step]);
+    match (*tag, &arguments[..]) {
+        (PAIR, [first, second]) => vec![opening(FST, None, first), opening(SND, None, second)],
+        (ENC, [message, key]) => vec![opening(DEC, Some(key), message)],
+        (AENC, [message, Term::Apply(PK, key)]) => vec![opening(ADEC, key.first(), message)],
+        _ => Vec::new(),
+    }
+}
+
+/// What leads from a message to a part of it.
+fn way<'a>(from: &'a Term, to: &Term) -> Option<Vec<Opening<'a>>> {
+    openings(from).into_iter().find_map(|opening| {
+        let mut openings = vec![opening];
+        if opening.part != to {
+            openings.extend(way(opening.part, to)?);
         }
-        let mut rest = way(part, to)?;
-        rest.insert(0, *step);
-        Some(rest)
+        Some(openings)
     })
 }

@@ -188,7 +188,8 @@ impl Writer {
             }
             Some(Token::Sign("\"")) => self.quoted,
             Some(Token::Sign("[")) => self.head,
-            Some(Token::Sign("<")) => !ends_term(before_last),
+            // It compares in a formula alone; elsewhere it begins a tuple.
+            Some(Token::Sign("<")) => !(formula && ends_term(before_last)),
             Some(Token::Sign("=")) => self.depth > 0 && !formula,
             Some(Token::Sign(".")) => self.item == "graph",
             _ => false,

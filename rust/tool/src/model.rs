@@ -1,7 +1,7 @@
 //! What the files hold, as trees, with names beside the numbers.
 
 use std::collections::BTreeMap;
-use std::ops::Range;
+use std::ops::{Range, RangeInclusive};
 
 /// Bytes of a text, from and to.
 pub type Span = Range<usize>;
@@ -73,7 +73,7 @@ pub const K: u32 = 3;
 pub const FIRST_OWN_FACT: u32 = 4;
 pub const GIVEN_FACTS: [&str; 4] = ["Fr", "In", "Out", "K"];
 
-pub const FIRST_TAG: u32 = 3;
+pub const ONE: u32 = 3;
 pub const ENC: u32 = 4;
 pub const DEC: u32 = 5;
 pub const PAIR: u32 = 7;
@@ -82,19 +82,49 @@ pub const SND: u32 = 9;
 pub const EXP: u32 = 10;
 pub const MUL: u32 = 12;
 pub const FIRST_FREE: u32 = 13;
-/// Name and arity of the built-in functions, from `FIRST_TAG`.
-pub const BUILT_IN: [(&str, u32); 10] = [
-    ("one", 0),
-    ("enc", 2),
-    ("dec", 2),
-    ("h", 1),
-    ("pair", 2),
-    ("fst", 1),
-    ("snd", 1),
-    ("exp", 2),
-    ("inv", 1),
-    ("mul", 2),
+pub const AENC: u32 = 29;
+pub const ADEC: u32 = 30;
+pub const PK: u32 = 31;
+pub const TRUE: u32 = 34;
+
+/// A function that is there under every protocol.
+pub struct BuiltIn {
+    pub tag: u32,
+    pub name: &'static str,
+    pub arity: u32,
+}
+
+const fn function(tag: u32, name: &'static str, arity: u32) -> BuiltIn {
+    BuiltIn { tag, name, arity }
+}
+
+pub const BUILT_IN: [BuiltIn; 16] = [
+    function(ONE, "one", 0),
+    function(ENC, "enc", 2),
+    function(DEC, "dec", 2),
+    function(6, "h", 1),
+    function(PAIR, "pair", 2),
+    function(FST, "fst", 1),
+    function(SND, "snd", 1),
+    function(EXP, "exp", 2),
+    function(11, "inv", 1),
+    function(MUL, "mul", 2),
+    function(AENC, "aenc", 2),
+    function(ADEC, "adec", 2),
+    function(PK, "pk", 1),
+    function(32, "sign", 2),
+    function(33, "verify", 3),
+    function(TRUE, "true", 0),
 ];
+
+pub fn built_in(tag: u32) -> Option<&'static BuiltIn> {
+    BUILT_IN.iter().find(|function| function.tag == tag)
+}
+
+/// Behind the tags of all functions.
+pub const FIRST_LETTER: u32 = TRUE + 1;
+/// What a property's terms are, and what is said of others.
+pub const ONLY_PLAIN: &str = "only variables and public names stand in a property";
 /// Names that Tamarin uses for the same.
 pub const ALIASES: [(&str, &str); 2] = [("senc", "enc"), ("sdec", "dec")];
 
@@ -106,9 +136,29 @@ pub const PUB: u32 = 3;
 pub const INTRUDER: [&str; 5] = ["fresh", "irecv", "isend", "pub", "ifresh"];
 pub const FIRST_RULE: u32 = 31;
 
-/// The rule that applies the function of this tag: "Rule t+2".
+/// Tags, and the rule that applies the function of the first: "Rule t+2 applies the function of tag t", and of document 02's six
+/// "Their apply-rules are 95 to 100, in that order".
+const APPLY_RULES: [(RangeInclusive<u32>, u32); 2] = [(ONE..=28, 5), (AENC..=TRUE, 95)];
+
+/// The rule that applies the function of this tag.
 pub fn apply_rule(tag: u32) -> u32 {
-    tag + 2
+    let found = APPLY_RULES.iter().find(|(tags, _)| tags.contains(&tag));
+    let (tags, first) = found.expect("a function has such a tag");
+    first + tag - tags.start()
+}
+
+/// The tag of the function that a rule applies.
+fn applied(rule: u32) -> Option<u32> {
+    APPLY_RULES.iter().find_map(|(tags, first)| {
+        let tag = tags.start() + rule.checked_sub(*first)?;
+        tags.contains(&tag).then_some(tag)
+    })
+}
+
+/// The place, from 0, of the protocol's rule that has this number.
+pub fn own_rule(number: u32) -> Option<usize> {
+    let place = number.checked_sub(FIRST_RULE)?;
+    (place < limits::RULES).then_some(place as usize)
 }
 
 pub const SORT_MESSAGE: u32 = 0;
@@ -252,6 +302,8 @@ pub struct Names {
     pub rules: Vec<String>,
     /// Of each rule, its variables.
     pub variables: Vec<Vec<String>>,
+    /// What a picture writes for a whole term, as functions of the tags from `FIRST_LETTER`, which no file has.
+    pub letters: Vec<String>,
     pub public: BTreeMap<u32, String>,
     pub fresh: BTreeMap<u32, String>,
 }
@@ -274,10 +326,19 @@ impl Names {
     }
 
     pub fn function(&self, tag: u32) -> &str {
-        match tag.checked_sub(FIRST_FREE) {
-            None => BUILT_IN[(tag - FIRST_TAG) as usize].0,
-            Some(i) => &self.functions[i as usize],
+        self.function_if_there(tag)
+            .expect("its tag is a function's")
+    }
+
+    fn function_if_there(&self, tag: u32) -> Option<&str> {
+        if let Some(function) = built_in(tag) {
+            return Some(function.name);
         }
+        let name = match tag.checked_sub(FIRST_LETTER) {
+            Some(i) => self.letters.get(i as usize),
+            None => self.functions.get(tag.checked_sub(FIRST_FREE)? as usize),
+        };
+        name.map(String::as_str)
     }
 
     pub fn fact(&self, symbol: u32) -> &str {
@@ -288,25 +349,22 @@ impl Names {
     }
 
     pub fn rule(&self, number: u32) -> String {
-        let first_apply = apply_rule(FIRST_TAG);
-        let name = match number {
-            0..=4 => Some(INTRUDER[number as usize].to_string()),
-            5..=14 => Some(format!("c_{}", BUILT_IN[(number - first_apply) as usize].0)),
-            15..=30 => {
-                let function = self
-                    .functions
-                    .get((number - apply_rule(FIRST_FREE)) as usize);
-                function.map(|name| format!("c_{name}"))
-            }
-            _ => self.rules.get((number - FIRST_RULE) as usize).cloned(),
-        };
-        name.unwrap_or_else(|| format!("?{number}"))
+        if let Some(name) = INTRUDER.get(number as usize) {
+            return name.to_string();
+        }
+        let function = applied(number).and_then(|tag| self.function_if_there(tag));
+        let own = own_rule(number).and_then(|i| self.rules.get(i));
+        match (function, own) {
+            (Some(name), _) => format!("c_{name}"),
+            (None, Some(name)) => name.clone(),
+            (None, None) => format!("?{number}"),
+        }
     }
 
     /// The names of a rule's variables.
     pub fn rule_variables(&self, number: u32, count: usize) -> Vec<String> {
-        match number.checked_sub(FIRST_RULE) {
-            Some(i) => self.variables[i as usize].clone(),
+        match own_rule(number) {
+            Some(i) => self.variables[i].clone(),
             None => numbered("x", count),
         }
     }
@@ -329,11 +387,9 @@ impl Names {
 impl Protocol {
     /// The arity of a function; none of a variable's or name's tag, nor of an undeclared function.
     pub fn arity(&self, tag: u32) -> Option<u32> {
-        match tag {
-            0..=2 => None,
-            3..=12 => Some(BUILT_IN[(tag - FIRST_TAG) as usize].1),
-            _ => self.functions.get((tag - FIRST_FREE) as usize).copied(),
-        }
+        let free = tag.checked_sub(FIRST_FREE);
+        let free = || self.functions.get(free? as usize).copied();
+        built_in(tag).map(|function| function.arity).or_else(free)
     }
 
     /// Arity of a fact symbol, and whether it is persistent.
@@ -371,8 +427,10 @@ impl Protocol {
             2 => rule(SORT_MESSAGE, fact(K, x()), fact(K, x()), fact(IN, x())),
             3 => rule(SORT_PUBLIC, vec![], vec![], fact(K, x())),
             4 => rule(SORT_FRESH, fact(FR, x()), vec![], fact(K, x())),
-            5..=30 => self.applying(number - 2),
-            _ => self.rules.get((number - FIRST_RULE) as usize).cloned(),
+            _ => match applied(number) {
+                Some(tag) => self.applying(tag),
+                None => self.rules.get(own_rule(number)?).cloned(),
+            },
         }
     }
 
@@ -394,7 +452,7 @@ impl Protocol {
 
     /// The numbers of all rules that there are.
     pub fn rule_numbers(&self) -> Vec<u32> {
-        (0..FIRST_RULE + self.rules.len() as u32)
+        (0..=apply_rule(TRUE))
             .filter(|number| self.rule(*number).is_some())
             .collect()
     }

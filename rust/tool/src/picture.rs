@@ -179,8 +179,8 @@ impl<'a> Picture<'a> {
         if self.witness.contains(&n) {
             return (WITNESS_COLOUR, blamed);
         }
-        match rule.checked_sub(FIRST_RULE) {
-            Some(own) => (OWN_COLOURS[own as usize % OWN_COLOURS.len()], ""),
+        match own_rule(rule) {
+            Some(own) => (OWN_COLOURS[own % OWN_COLOURS.len()], ""),
             None if rule == FRESH => (MAKING_COLOUR, grey),
             None => (INTRUDER_COLOUR, grey),
         }
@@ -238,8 +238,6 @@ struct Short {
     terms: Vec<Term>,
     /// Those of the alphabet that name no function and no fact.
     letters: Vec<String>,
-    /// A shortened term is a function without arguments, of a tag behind those of the protocol.
-    first_tag: u32,
 }
 
 const LEAST_SYMBOLS: usize = 4;
@@ -268,7 +266,6 @@ impl Short {
         often.sort_by_key(|(symbols, term, _)| (*symbols, *term));
         Short {
             terms: often.into_iter().map(|(_, term, _)| term.clone()).collect(),
-            first_tag: FIRST_FREE + names.functions.len() as u32,
             letters,
         }
     }
@@ -276,7 +273,7 @@ impl Short {
     /// The term with letters in it; `whole` leaves it, and only its parts have letters.
     fn shorten(&self, term: &Term, whole: bool) -> Term {
         match self.terms.iter().position(|short| short == term) {
-            Some(i) if !whole => Term::Apply(self.first_tag + i as u32, Vec::new()),
+            Some(i) if !whole => Term::Apply(FIRST_LETTER + i as u32, Vec::new()),
             _ => match term {
                 Term::Apply(tag, arguments) => {
                     let parts = arguments.iter().map(|part| self.shorten(part, false));
@@ -287,11 +284,11 @@ impl Short {
         }
     }
 
-    /// The names with the letters as functions.
     fn names(&self, names: &Names) -> Names {
-        let mut names = names.clone();
-        names.functions.extend(self.letters.iter().cloned());
-        names
+        Names {
+            letters: self.letters.clone(),
+            ..names.clone()
+        }
     }
 }
 

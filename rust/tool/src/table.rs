@@ -1,6 +1,6 @@
 //! The refusal table in words.
 
-use crate::model::limits;
+use crate::model::{apply_rule, limits, AENC, FIRST_RULE, ONE, TRUE};
 use crate::print::grouped;
 use levtosziv::{Cause, WORK_BYTES};
 
@@ -44,7 +44,7 @@ pub const ROWS: [Row; 15] = [
         item: FILE,
         advice: || {
             format!(
-                "A count over its limit, a number over {} or not in its shortest form, an undeclared symbol or rule variable, bytes missing or left over.",
+                "A count over its limit, a number over {} or not in its shortest form, an undeclared symbol or rule variable, a function in a property, bytes missing or left over.",
                 grouped(limits::LARGEST_NUMBER)
             )
         },
@@ -67,8 +67,15 @@ pub const ROWS: [Row; 15] = [
     Row {
         cause: Cause::NoSuchRule,
         item: "the node, from 1",
-        advice: || "Rules are numbered 0 to 4, 5 up for each function, 31 up for the protocol's own. \
-            In a text a rule has a name, so only bytes can be refused so.".into(),
+        advice: || {
+            format!(
+                "Rules are numbered 0 to 4, {} up for each function, {FIRST_RULE} up for the protocol's own, {} to {} for the functions of public keys and signatures. \
+                In a text a rule has a name, so only bytes can be refused so.",
+                apply_rule(ONE),
+                apply_rule(AENC),
+                apply_rule(TRUE)
+            )
+        },
         example: "",
     },
     Row {

@@ -233,6 +233,13 @@ run sent [fill]: A(~k) isend(~k)
     );
     let sent = stdout(&levtosziv(&["check", "t.lev", "--run", "sent"], &folder));
     assert!(sent.starts_with("sent / secret: attack 4 2 3\n"), "{sent}");
+    // Lowe's attack up to what it is for.
+    let case = root().join("tests/corpus/real/nspk-lowe-not-sent");
+    let heard = stdout(&levtosziv(&["check", "."], &case));
+    assert!(
+        heard.contains("It knows ~n124 (step 22) and never sends it"),
+        "{heard}"
+    );
 }
 
 #[test]

@@ -151,5 +151,5 @@ fn texts_of_examples_give_their_bytes() {
         }
         count += 1;
     }
-    assert_eq!(count, 7);
+    assert_eq!(count, 9);
 }

@@ -119,11 +119,45 @@ fn none_is_left_out() {
     let shown: BTreeSet<&str> = rows.iter().map(|row| row.case.as_str()).collect();
     let real = std::fs::read_dir(root().join("tests/corpus/real")).unwrap();
     for case in real.map(|entry| entry.unwrap().file_name().into_string().unwrap()) {
-        let of_sources = ["nssk-", "otway-rees-", "yahalom-"];
+        let of_sources = [
+            "nssk-",
+            "otway-rees-",
+            "yahalom-",
+            "nspk-",
+            "nsl-",
+            "tmn-",
+            "jfkr-",
+            "jfki-",
+        ];
         if of_sources.iter().any(|system| case.starts_with(system)) {
             assert!(shown.contains(case.as_str()), "{case}");
         }
     }
+}
+
+/// The attack on the handset that does not verify, tried on the one that does.
+#[test]
+fn a_forged_offer_is_no_step_of_the_handset_that_verifies() {
+    let folder = folder("examples-forged");
+    let read = |name: &str| {
+        let text = root().join("examples").join(name).join("theory.lev");
+        std::fs::read_to_string(text).unwrap()
+    };
+    let (verifying, unverified) = (
+        read("signed-pairing-run"),
+        read("signed-pairing-unverified-attack"),
+    );
+    let (protocol, _) = verifying.split_once("run honest:").unwrap();
+    let (_, steps) = unverified.split_once("run forged_offer:").unwrap();
+    let text = format!("{protocol}run forged_offer [fill]: Truth() {steps}");
+    put(&folder, &[("t.lev", text.as_bytes())]);
+    let said = stdout(&levtosziv(&["check", "t.lev"], &folder));
+    assert!(
+        said.starts_with("forged_offer / paired: refused 14 14\n"),
+        "{said}"
+    );
+    let missing = "step 14 (Handset) needs !Holds(verify(sign(<'pair', 'g'^~e>, ~e), <'pair', 'g'^~e>, pk(~sk))): in the state: !Holds(true) (step 1)";
+    assert!(said.contains(missing), "{said}");
 }
 
 #[test]

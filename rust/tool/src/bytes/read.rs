@@ -122,7 +122,7 @@ impl<'a> Reader<'a> {
             open -= 1;
             match protocol.arity(tag) {
                 Some(arity) => open += arity,
-                None if tag < FIRST_TAG => {
+                None if tag < ONE => {
                     self.number()?;
                 }
                 None => {
@@ -269,10 +269,11 @@ impl<'a> Reader<'a> {
         match self.number()? {
             0 => Ok(Term::Variable(self.number()?)),
             1 => Ok(Term::Public(self.number()?)),
-            tag => self.fault(
-                start,
-                format!("tag {tag}: only variables and public names stand in a property"),
-            ),
+            tag => {
+                let name = built_in(tag).map_or(String::new(), |f| format!(" ({})", f.name));
+                let what = format!("tag {tag}{name}: {ONLY_PLAIN}");
+                self.fault(start, what)
+            }
         }
     }
 

@@ -4,7 +4,7 @@ use super::lex::Token;
 use super::parser::Parser;
 use super::syntax::*;
 use super::{error, Parse};
-use crate::model::{SORT_MESSAGE, SORT_TIME};
+use crate::model::{Span, ONLY_PLAIN, SORT_MESSAGE, SORT_TIME};
 
 /// Words that begin a formula, so no fact has such a name.
 pub const FORMULA_WORDS: [&str; 6] = ["F", "T", "All", "Ex", "not", "last"];
@@ -103,7 +103,7 @@ impl Parser<'_> {
             return Ok(Written::Action(fact, self.primary()?));
         }
         if self.is("=") || self.is("^") || self.is("*") {
-            return no_function(&fact.name, fact.span);
+            return no_function(&format!("{}(..)", fact.name), fact.span);
         }
         self.unexpected("`@` and a time after the fact")
     }
@@ -128,10 +128,8 @@ fn is_time(raw: &Raw) -> bool {
     matches!(raw.term, RawTerm::Time(_) | RawTerm::Numbered(_, true))
 }
 
-pub fn no_function<T>(name: &str, span: crate::model::Span) -> Parse<T> {
-    error(
-        span,
-        format!("`{name}(..)`: only variables and public names stand in a property"),
-        "",
-    )
+/// The error of a function, written so, in a property.
+pub fn no_function<T>(written: &str, span: Span) -> Parse<T> {
+    let label = "a rule can record it in an action";
+    error(span, format!("`{written}`: {ONLY_PLAIN}"), label)
 }

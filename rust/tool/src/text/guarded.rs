@@ -129,7 +129,7 @@ impl Resolver {
     fn plain(&mut self, raw: &Raw, scope: &Scope) -> Parse<Term> {
         match &raw.term {
             RawTerm::Public(_) => self.term(raw, &mut |_, _| unreachable!("a name is no leaf")),
-            RawTerm::Apply(name, _) => no_function(name, raw.span.clone()),
+            RawTerm::Apply(name, _) => no_function(&format!("{name}(..)"), raw.span.clone()),
             RawTerm::Word(name)
                 if in_scope(name, scope).is_none() && self.constant(name).is_some() =>
             {

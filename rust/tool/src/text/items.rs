@@ -305,9 +305,10 @@ impl Parser<'_> {
         match word.as_str() {
             "let" => {
                 self.next();
+                let at = self.span();
                 let name = self.word("a name after `let`")?;
                 self.expect("=", "after the name")?;
-                Ok(Some(RawStep::Let(name, self.term()?)))
+                Ok(Some(RawStep::Let(name, at, self.term()?)))
             }
             "know" => {
                 self.next();

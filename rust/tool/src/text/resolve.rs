@@ -4,7 +4,7 @@ use super::items::names_a_fact;
 use super::lex::Token;
 use super::names::{by_form, near, Numbering};
 use super::syntax::*;
-use super::{error, Lemma, Parse, Theory};
+use super::{error, Error, Lemma, Parse, Theory};
 use crate::model::*;
 
 #[derive(Default)]
@@ -107,13 +107,7 @@ impl Resolver {
 
     fn declarations(&mut self, raw: &RawTheory) -> Parse<()> {
         for function in &raw.functions {
-            let name = &function.name;
-            if self.tag(name).is_some() {
-                let message = format!("the function `{name}` is there already");
-                return error(function.span.clone(), message, "");
-            }
-            self.names.functions.push(name.clone());
-            self.protocol.functions.push(function.arity);
+            self.declare_function(function)?;
         }
         self.facts_closed = raw.facts.is_some();
         for fact in raw.facts.iter().flatten() {
@@ -123,6 +117,24 @@ impl Resolver {
             }
             self.declare_fact(&fact.name, fact.arity, fact.persistent, &fact.span)?;
         }
+        Ok(())
+    }
+
+    /// The files have a tag for so many functions alone, and each word stands for one of them.
+    fn declare_function(&mut self, function: &Declared) -> Parse<()> {
+        let (name, at) = (&function.name, function.span.clone());
+        match self.tag(name) {
+            Some(tag) if built_in(tag).is_some() => return is_built_in(name, at),
+            Some(_) => return error(at, format!("the function `{name}` is there already"), ""),
+            None => {}
+        }
+        if self.protocol.functions.len() as u32 == limits::FUNCTIONS {
+            let most = limits::FUNCTIONS;
+            let label = "the files have no tag for it";
+            return error(at, format!("more than {most} functions"), label);
+        }
+        self.names.functions.push(name.clone());
+        self.protocol.functions.push(function.arity);
         Ok(())
     }
 
@@ -140,10 +152,10 @@ impl Resolver {
     pub fn tag(&self, name: &str) -> Option<u32> {
         let alias = ALIASES.iter().find(|(alias, _)| *alias == name);
         let name = alias.map_or(name, |(_, name)| name);
-        let built_in = BUILT_IN.iter().position(|(known, _)| *known == name);
+        let built_in = BUILT_IN.iter().find(|function| function.name == name);
         let free = || self.names.functions.iter().position(|known| known == name);
         built_in
-            .map(|i| FIRST_TAG + i as u32)
+            .map(|function| function.tag)
             .or_else(|| free().map(|i| FIRST_FREE + i as u32))
     }
 
@@ -182,7 +194,7 @@ impl Resolver {
         leaf: &mut Leaf,
     ) -> Parse<Term> {
         let Some(tag) = self.tag(name) else {
-            let built_in = BUILT_IN.iter().map(|(name, _)| *name);
+            let built_in = BUILT_IN.iter().map(|function| function.name);
             let known = built_in.chain(self.names.functions.iter().map(String::as_str));
             let message = format!("there is no function `{name}`");
             return error(span.clone(), message, near(name, known));
@@ -259,6 +271,11 @@ impl Resolver {
                 let message = format!("`{name}` is a name of a built-in rule");
                 return error(rule.span.clone(), message, "");
             }
+            if self.names.rules.len() as u32 == limits::RULES {
+                let message = format!("more than {} rules", limits::RULES);
+                let label = "the files have no number for it";
+                return error(rule.span.clone(), message, label);
+            }
             self.names.rules.push(name.clone());
         }
         for rule in raw {
@@ -271,7 +288,12 @@ impl Resolver {
     fn rule(&mut self, raw: &RawRule) -> Parse<Rule> {
         let mut variables = Variables::default();
         for parameter in raw.parameters.iter().flatten() {
-            variables.parameter(parameter)?;
+            match &parameter.term {
+                RawTerm::Word(name) if self.constant(name).is_some() => {
+                    return is_function(name, &parameter.span);
+                }
+                _ => variables.parameter(parameter)?,
+            }
         }
         variables.closed = raw.parameters.is_some();
         let mut part = |facts: &[RawFact]| {
@@ -291,6 +313,23 @@ impl Resolver {
             conclusions,
         })
     }
+}
+
+/// The error of a declaration in the place of a built-in function.
+fn is_built_in<T>(name: &str, span: Span) -> Parse<T> {
+    let note = "a function of your own needs another name; the files have numbers for names, so that changes no byte";
+    Err(Error {
+        span,
+        message: format!("the function `{name}` is built in"),
+        label: "leave it out here".into(),
+        notes: vec![note.into()],
+    })
+}
+
+/// The error of a name for something else, where the word alone is a function's.
+pub fn is_function<T>(name: &str, span: &Span) -> Parse<T> {
+    let label = "it takes no arguments, so this word alone stands for it";
+    error(span.clone(), format!("`{name}` is a function"), label)
 }
 
 /// That nothing before has this name.

@@ -2,7 +2,7 @@
 
 use super::lex::Token;
 use super::names::near;
-use super::resolve::{once, Resolver};
+use super::resolve::{is_function, once, Resolver};
 use super::syntax::*;
 use super::{error, Parse, Run, Step};
 use crate::bytes;
@@ -44,10 +44,10 @@ impl Resolver {
         let mut steps = Vec::new();
         for step in &raw.steps {
             match step {
-                RawStep::Let(name, term) if self.tag(name).is_some() => {
-                    return error(term.span.clone(), format!("`{name}` is a function"), "");
+                RawStep::Let(name, at, _) if self.constant(name).is_some() => {
+                    return is_function(name, at);
                 }
-                RawStep::Let(name, term) => {
+                RawStep::Let(name, _, term) => {
                     let term = self.value(term, &scope)?;
                     scope.lets.insert(name.clone(), term);
                 }
@@ -136,8 +136,7 @@ impl Resolver {
         if let Some(i) = INTRUDER.iter().position(|rule| *rule == name) {
             return Some(i as u32);
         }
-        let tag = self.tag(name.strip_prefix("c_")?)?;
-        (apply_rule(tag) < FIRST_RULE).then_some(apply_rule(tag))
+        self.tag(name.strip_prefix("c_")?).map(apply_rule)
     }
 
     fn value(&mut self, raw: &Raw, scope: &Scope) -> Parse<Term> {

@@ -89,7 +89,8 @@ pub struct RawRun {
 }
 
 pub enum RawStep {
-    Let(String, Raw),
+    /// A name, its place, and what it stands for.
+    Let(String, Span, Raw),
     Know(Raw, Span),
     Step(RawNode),
 }
