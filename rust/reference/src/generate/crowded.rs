@@ -20,6 +20,7 @@ const VARIABLES: [Sort; 2] = [Sort::Public, Sort::Public];
 fn messages(random: &mut Random, signing: bool) -> Vec<Term> {
     let [x, y] = [0, 1].map(Term::Variable);
     let signed = Term::apply(SIGN, [x.clone(), y.clone()]);
+    let public_key = Term::apply(PK, [y.clone()]);
     let mut all = vec![
         x.clone(),
         Term::apply(MUL, [x.clone(), y.clone()]),
@@ -29,10 +30,10 @@ fn messages(random: &mut Random, signing: bool) -> Vec<Term> {
     ];
     if signing {
         all.extend([
-            signed.clone(),
+            Term::apply(INV, [signed.clone()]),
             Term::apply(MUL, [signed, y]),
+            Term::apply(MUL, [public_key, x]),
             Term::apply(TRUE, []),
-            Term::apply(PK, [x]),
         ]);
     }
     (0..1 + random.below(2))

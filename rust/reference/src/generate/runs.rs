@@ -157,6 +157,14 @@ impl<'a> Run<'a> {
         (message.symbols() <= MOST_BUILT_UPON).then(|| message.clone())
     }
 
+    /// A known message that holds a product, if one of three does.
+    fn known_product(&mut self, random: &mut Random) -> Option<Term> {
+        let some: Vec<Term> = (0..3).filter_map(|_| self.known_message(random)).collect();
+        let is_product = |term: &Term| matches!(term, Term::Apply(MUL | INV | EXP, _));
+        let product = some.iter().find(|message| message.any(&is_product));
+        product.or(some.first()).cloned()
+    }
+
     /// The adversary receives a message that is out.
     fn receive(&mut self, random: &mut Random) {
         if let Some(fact) = self.available(random, OUT) {
@@ -181,7 +189,7 @@ impl<'a> Run<'a> {
 
     /// Encrypts for a key, signs, and takes apart what is encrypted or signed, with the right key and message or with others.
     fn sign_or_seal(&mut self, random: &mut Random) {
-        let known = [(); 4].map(|()| self.known_message(random));
+        let known = [(); 4].map(|()| self.known_product(random));
         let [Some(message), Some(key), Some(other_message), Some(other_key)] = known else {
             return;
         };
@@ -214,7 +222,8 @@ impl<'a> Run<'a> {
         let free = FREE..FREE + self.protocol.signature.free.len() as u32;
         let signing = AENC..if self.signing { TRUE + 1 } else { AENC };
         let all: Vec<u32> = (ONE..FREE).chain(free).chain(signing).collect();
-        let tag = if random.percent(75) {
+        let products = if self.signing { 85 } else { 75 };
+        let tag = if random.percent(products) {
             *random.choose(&[MUL, MUL, INV, EXP])
         } else {
             *random.choose(&all)

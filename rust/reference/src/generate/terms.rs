@@ -123,8 +123,10 @@ impl Material<'_> {
     fn opened(&self, random: &mut Random, symbols: usize) -> Term {
         let decrypt = random.percent(50);
         let messages = if decrypt { 1 } else { 2 };
-        let key_size = 1 + random.below((symbols - 3 - messages) / 2);
-        let message_size = (symbols - 3 - 2 * key_size) / messages;
+        let rewritten = symbols >= 9 && random.percent(40);
+        let size = symbols - if rewritten { 2 } else { 0 };
+        let key_size = 1 + random.below((size - 3 - messages) / 2);
+        let message_size = (size - 3 - 2 * key_size) / messages;
         let key = self.term(random, key_size);
         let message = self.term(random, message_size);
         let other_key = self.fitting(random, &key);
@@ -133,6 +135,10 @@ impl Material<'_> {
         } else {
             let other_message = self.fitting(random, &message);
             verified(random, &message, &key, other_message, other_key)
+        };
+        let opened = match rewritten {
+            true => inverted_twice(random, opened),
+            false => opened,
         };
         padded(opened, symbols)
     }
@@ -144,6 +150,21 @@ impl Material<'_> {
             false => self.term(random, term.symbols()),
         }
     }
+}
+
+/// The term with one of its arguments, or the last argument of the first one, below two inv.
+fn inverted_twice(random: &mut Random, term: Term) -> Term {
+    let Term::Apply(tag, mut parts) = term else {
+        return term;
+    };
+    let count = parts.len();
+    let place = random.below(count + 1);
+    let part = match (place == count, &mut parts[place % count]) {
+        (true, Term::Apply(_, inner)) if !inner.is_empty() => inner.last_mut().expect("one"),
+        (_, part) => part,
+    };
+    *part = Term::apply(INV, [Term::apply(INV, [part.clone()])]);
+    Term::Apply(tag, parts)
 }
 
 fn public_key(key: Term) -> Term {
