@@ -64,6 +64,8 @@ pub mod Third
 pub mod Earliest
 -- document 02, Change 3: old files
 pub mod Older
+-- document 02, Change 4: files without the six functions
+pub mod Signatures
 
 -- the trace of right nodes makes the property true, over all messages and all times
 abbrev pub NodesHold : (p : Protocol) → Within p → Formula → (xs : List Node) → All (NodeWithin p) xs → All (NodeRight p) xs → Type 0

@@ -12,6 +12,8 @@ use Rattle.steps.specs.Facts.Laws.{fact-refl, fact-sym, fact-trans, fact
 pub mod Theorems
 -- runs, accepted graphs, the earliest sources and the table's rows by the equations
 pub mod Equations
+-- of document 01's functions alone they are what the ten equations give
+pub mod Older
 -- the machine's counts by any test of facts that decides the equations
 pub mod AnyTest
 

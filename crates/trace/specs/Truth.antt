@@ -12,6 +12,8 @@ use Rattle.property.specs.Judge.{judge}
 use Rattle.trace.specs.Terms.{terms}
 -- of a fit protocol and right nodes it is the truth over all messages and whole numbers
 pub mod Laws
+-- of document 01's functions alone it is the truth over document 01's messages
+pub mod Older
 
 abbrev pub termFact : protocol.Fact → Fact Term
 termFact f = record { symbol = f .symbol; messages = f .terms }

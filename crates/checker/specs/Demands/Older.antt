@@ -116,7 +116,7 @@ protocol-file file is-bytes p h =
 
 -- ── with a smaller limit they are what they are with that of today ──
 module _ (limit : ℕ) (smaller : limit ≤ numberLimit) (p : Protocol) where
-  protocol-now : (file : List ℕ) → Bytes file → ProtocolFile limit file p → FitFile file p
+  pub protocol-now : (file : List ℕ) → Bytes file → ProtocolFile limit file p → FitFile file p
   protocol-now file is-bytes h = record {
     short = h .short;
     reads = protocol-exact file is-bytes p .1 (protocol-wider limit numberLimit smaller p (h .within), h .bytes);

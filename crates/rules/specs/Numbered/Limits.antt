@@ -90,7 +90,7 @@ small-range : (n : ℕ) → n < 256 → n < numberLimit
 unfolding numberLimit
 small-range n h = omega arith
 
-variables-count : (i n : ℕ) → count (terms (variables i n)) ≡ n
+pub variables-count : (i n : ℕ) → count (terms (variables i n)) ≡ n
 variables-count i zero = refl
 variables-count i (suc n) = ap suc (variables-count (suc i) n)
 
@@ -130,7 +130,7 @@ applies-declared t k =
     simp (known-below n numberLimit 0 k all, variables-below n numberLimit 0 k all)
 
 module _ (arities : List ℕ) where
-  variables-formed : (i n : ℕ) → Formeds (arity arities) (terms (variables i n))
+  pub variables-formed : (i n : ℕ) → Formeds (arity arities) (terms (variables i n))
   variables-formed i zero = tt
   variables-formed i (suc n) = (tt, variables-formed (suc i) n)
 

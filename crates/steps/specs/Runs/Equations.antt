@@ -9,7 +9,7 @@ use mathlib.Core.Path.{_≡_, refl, sym, _∙_, ap}
 use Rattle.lists.specs.Lists.{nth}
 use Rattle.lists.specs.Lists.Laws.{map-nth}
 use Rattle.lists.specs.All.{All}
-use Rattle.lists.specs.All.Laws.{all-nth, map-all}
+use Rattle.lists.specs.All.Laws.{all-map, all-nth, map-all}
 use Rattle.rewriting.specs.Graph as graph
 use Rattle.rewriting.specs.Graph.{Place, Edge, inNode, premiseAt, conclusionAt}
 use Rattle.rewriting.specs.Graph.Laws.{Implies, accepted-as}
@@ -62,26 +62,36 @@ module _ (p : Protocol) (xs : List Node) where
   abbrev pub EarliestSame : List Edge → Type 0
   EarliestSame edges = Earliest (EqualFacts p) (isLinear p) (rewrittens p xs) edges
 
--- ── the two say the same ──
-module _ (p : Protocol) (fit : Within p) (xs : List Node) (within : All (NodeWithin p) xs) where
-  -- a fact at a place is well formed
-  at-formed :
+-- ── what holds of all facts of the nodes holds of a fact at a place ──
+module _ (p : Protocol) (xs : List Node) (Q : Fact → Type 0) (each : All (λ x. (list : ℕ) → All Q (factsOf p list x)) xs) where
+  at-holds :
       (facts : graph.Node Fact → List Fact) (list : ℕ) → ((x : Node) → facts (rewritten p x) ≡ factsOf p list x) → (a : Place) (f : Fact)
-      → graph.factAt facts (rewrittens p xs) a ≡ some f → FactFormed p f
-  at-formed facts list same a f h = go (nth (rewrittens p xs) (a .node)) refl h
+      → graph.factAt facts (rewrittens p xs) a ≡ some f → Q f
+  at-holds facts list same a f h = go (nth (rewrittens p xs) (a .node)) refl h
     where
-      go : (o : Option (graph.Node Fact)) → nth (rewrittens p xs) (a .node) ≡ o → inNode facts (a .index) o ≡ some f → FactFormed p f
+      go : (o : Option (graph.Node Fact)) → nth (rewrittens p xs) (a .node) ≡ o → inNode facts (a .index) o ≡ some f → Q f
       go none e q = absurd (Option·none-ne-some f q)
       go (some y) e q =
           let (x, i, j) = map-nth (rewritten p) xs (a .node) y e in
           let k : nth (factsOf p list x) (a .index) ≡ some f = ap (λ (l : List Fact). nth l (a .index)) (sym (same x) ∙ ap facts j) ∙ q in
-          all-nth (FactFormed p) (factsOf p list x) (facts-formed p fit x (all-nth (NodeWithin p) xs within (a .node) x i) list) (a .index) f k
+          all-nth Q (factsOf p list x) (all-nth _ xs each (a .node) x i list) (a .index) f k
+
+  pub source-holds : (a : Place) (f : Fact) → conclusionAt (rewrittens p xs) a ≡ some f → Q f
+  source-holds = at-holds (λ y. y .conclusions) conclusionList (λ x. refl)
+
+  pub target-holds : (a : Place) (f : Fact) → premiseAt (rewrittens p xs) a ≡ some f → Q f
+  target-holds = at-holds (λ y. y .premises) premiseList (λ x. refl)
+
+-- ── the two say the same ──
+module _ (p : Protocol) (fit : Within p) (xs : List Node) (within : All (NodeWithin p) xs) where
+  formed-each : All (λ x. (list : ℕ) → All (FactFormed p) (factsOf p list x)) xs
+  formed-each = all-map (NodeWithin p) _ (λ x w list. facts-formed p fit x w list) xs within
 
   source-formed : (a : Place) (f : Fact) → conclusionAt (rewrittens p xs) a ≡ some f → FactFormed p f
-  source-formed = at-formed (λ y. y .conclusions) conclusionList (λ x. refl)
+  source-formed = source-holds p xs (FactFormed p) formed-each
 
   target-formed : (a : Place) (f : Fact) → premiseAt (rewrittens p xs) a ≡ some f → FactFormed p f
-  target-formed = at-formed (λ y. y .premises) premiseList (λ x. refl)
+  target-formed = target-holds p xs (FactFormed p) formed-each
 
   -- the test of facts decides between the conclusions and the premises
   tested-equal : Implies (rewrittens p xs) (Tested (protocolFacts p)) (EqualFacts p)

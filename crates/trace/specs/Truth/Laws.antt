@@ -31,7 +31,7 @@ use Rattle.trace.specs.Truth.{termFact, termTrace, truth}
 -- ── the trace of messages and the trace of their terms ──
 -- what is made of each element, beside the element
 module _ {A B : Type 0} (Q : A → Type 0) (make : (x : A) → Q x → B) (R : B → A → Type 0) (f : (x : A) (h : Q x) → R (make x h) x) where
-  pairs-each : (xs : List A) (h : All Q xs) → Pairs R (each Q make xs h) xs
+  pub pairs-each : (xs : List A) (h : All Q xs) → Pairs R (each Q make xs h) xs
   pairs-each [] h = nothing
   pairs-each (x ∷ xs) h = more (f x (h .0)) (pairs-each xs (h .1))
 
