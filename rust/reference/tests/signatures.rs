@@ -100,30 +100,19 @@ const KINDS: [Kind; 10] = [
     }),
 ];
 
+/// The canonical forms of a function's arguments.
+fn forms(term: &Term) -> Vec<Term> {
+    term.arguments().iter().map(canonical_form).collect()
+}
+
 /// Whether a part of the term is this function of such arguments, once these are canonical.
 fn has_kind(term: &Term, (_, tag, test): &Kind) -> bool {
-    term.any(&|part| {
-        let forms = || {
-            part.arguments()
-                .iter()
-                .map(canonical_form)
-                .collect::<Vec<_>>()
-        };
-        part.has_tag(*tag) && test(&forms())
-    })
+    term.any(&|part| part.has_tag(*tag) && test(&forms(part)))
 }
 
 /// Whether a part of the term is this function, which applies only once its arguments are canonical.
 fn opens_only_by_equations(term: &Term, tag: u32) -> bool {
-    term.any(&|part| {
-        let forms = || {
-            part.arguments()
-                .iter()
-                .map(canonical_form)
-                .collect::<Vec<_>>()
-        };
-        part.has_tag(tag) && !opens(tag, part.arguments()) && opens(tag, &forms())
-    })
+    term.any(&|part| part.has_tag(tag) && !opens(tag, part.arguments()) && opens(tag, &forms(part)))
 }
 
 /// The factors of a canonical product or inverse.
@@ -194,11 +183,9 @@ fn terms_are_sealed_and_signed() {
         for kind in &KINDS {
             counts.add(kind.0, has_kind(&term, kind));
         }
-        for tag in [ADEC, VERIFY] {
-            counts.add(
-                format!("{tag} only by the equations"),
-                opens_only_by_equations(&term, tag),
-            );
+        for (name, tag) in [("adec", ADEC), ("verify", VERIFY)] {
+            let only = opens_only_by_equations(&term, tag);
+            counts.add(format!("{name}, only by the equations"), only);
         }
     }
     counts.at_least(5, INPUTS);
