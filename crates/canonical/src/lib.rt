@@ -296,7 +296,7 @@ fn rewrite(
     e
 }
 
-// The same, where the byte of the first function tells most others.
+// The same; where another function stands in place of the first pattern's, its byte tells so before anything is set up.
 fn by_rule(
     out: &mut [u8],
     o: usize,

@@ -32,6 +32,6 @@ padded zero l = []
 padded (suc n) [] = undeclared ∷ padded n []
 padded (suc n) (a ∷ l) = a ∷ padded n l
 
--- document 01's table, for the declared arities of the free functions: "13+j free function j (j from 0)", 16 at most
+-- document 01's table, for the declared arities of the free functions: "13+j free function j (j from 0)", 16 at most; behind them Change 4's
 unfoldable pub tagArities : List ℕ → List ℕ
 tagArities free = builtin ++ (padded mostFunctions free ++ signing)

@@ -7,14 +7,15 @@ use mathlib.Core.Path.{_≡_, refl, ap, sym, _∙_, subst}
 use native.Mathlib.Omega.{arith}
 use lib.ListN.{length, getD, replicate, length-map, length-replicate}
 use lib.Dec.{eqb}
-use Rattle.lists.specs.Choice.{pick, cut-lt, cut-eq, clash}
+use Rattle.lists.specs.Choice.{pick, clash}
 use Rattle.number.specs.Groups.{numberLimit}
 use Rattle.lists.specs.All.{All}
-use Rattle.lists.specs.All.Laws.{all-append, all-nth}
+use Rattle.lists.specs.All.Laws.{all-map, all-at, all-append, all-nth}
 use borrow.Author.Tests.{lt-ltb}
 use Rattle.lists.specs.Lists.{anyBy}
 use Rattle.term.specs.Term.{Term, leaf, app, variable, count, symbolss, Formeds, InRanges}
 use Rattle.term.specs.Arity.{arity, tagArities, builtin, signing, padded, undeclared}
+use Rattle.term.specs.Arity.Laws.{arity-most}
 use Rattle.term.specs.Reader.{terms}
 use Rattle.term.specs.Walk.{holds, holdss}
 use Rattle.protocol.specs.Protocol.{Fact, Rule, Own, Protocol, fact-of, rule-of, factArities, leafIn, declared}
@@ -28,11 +29,6 @@ use Rattle.rules.specs.Numbered.Map.{View, is-fixed, is-apply, is-own, i
 pub data Slot (a : ℕ) : Type 0 where
   takes : a ≤ 4 → Slot a
   empty : a ≡ undeclared → Slot a
-
-pub all-at : {A : Type 0} (P : A → Type 0) (d : A) (xs : List A) (i : ℕ) → P d → All P xs → P (getD xs i d)
-all-at P d [] i h a = h
-all-at P d (x ∷ xs) zero h a = a .0
-all-at P d (x ∷ xs) (suc i) h a = all-at P d xs i h (a .1)
 
 padded-slots : (n : ℕ) (fs : List ℕ) → All (λ a. a < 5) fs → All Slot (padded n fs)
 padded-slots zero fs h = tt
@@ -70,20 +66,11 @@ signing-slots =
 pub slot-at : (fs : List ℕ) → All (λ a. a < 5) fs → (t : ℕ) → Slot (getD (tagArities fs) t undeclared)
 unfolding tagArities
 slot-at fs h t =
-    all-at Slot undeclared (builtin ++ (padded 16 fs ++ signing)) t (empty refl)
-    (all-append Slot builtin (padded 16 fs ++ signing) builtin-slots (all-append Slot (padded 16 fs) signing (padded-slots 16 fs h) signing-slots))
-
-small-slot : (a k : ℕ) → Slot a → (a ≡ undeclared → ⊥) → some a ≡ some k → k ≤ 4
-small-slot a k (takes h) n e = let z : a ≡ k = cc in omega arith
-small-slot a k (empty h) n e = absurd (n h)
+    all-at Slot undeclared (empty refl) (builtin ++ (padded 16 fs ++ signing))
+    (all-append Slot builtin (padded 16 fs ++ signing) builtin-slots (all-append Slot (padded 16 fs) signing (padded-slots 16 fs h) signing-slots)) t
 
 pub arity-small : (fs : List ℕ) → All (λ a. a < 5) fs → (t k : ℕ) → arity (tagArities fs) t ≡ some k → k ≤ 4
-unfolding arity
-arity-small fs h t k e =
-    cut-lt _ _ _ t 3 e (λ l e. clash (cc))
-    (λ l e. cut-eq _ _ _ (getD (tagArities fs) t undeclared) undeclared e
-    (λ z e. clash (cc))
-    (λ z e. small-slot (getD (tagArities fs) t undeclared) k (slot-at fs h t) z e))
+arity-small fs h t k e = arity-most 4 (omega arith) fs (all-map (λ a. a < 5) (λ a. a ≤ 4) (λ a l. omega arith) fs h) t k e
 
 -- ── variables ──
 small-range : (n : ℕ) → n < 256 → n < numberLimit
