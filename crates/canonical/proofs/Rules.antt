@@ -20,7 +20,7 @@ use Rattle.message.specs.Substitution.{sub}
 use Rattle.message.specs.Functions.{enc, pair, aenc, pk, sign, yes}
 use Rattle.message.specs.Rules as message
 use Rattle.message.specs.Table.{x, y, rules}
-use Rattle.message.specs.Table.Laws.{figure-fit}
+use Rattle.message.specs.Table.Laws.{rows-fit}
 use Rattle.message.specs.Canon.{apply}
 use Rattle.message.specs.Made.{made-rule, made-stays, made-bytes}
 use Rattle.factors.specs.Laid.{Laid, OneAt}
@@ -201,7 +201,7 @@ module _ (arities out : List ℕ) (o e : ℕ) (patterns result : List ℕ) where
         → Given out o result from′ to′ (encode (sub (solved f us R .η) (R .row .rule .result)))
     given f us R =
         let r = R .row in
-        let W = figure-fit (arity arities) (group arities (R .built .table)) f (r .rule) (r .is) in
+        let W = rows-fit (arity arities) (group arities (R .built .table)) f (r .rule) (r .is) in
         go (r .rule .result) (r .gives) (W .result) (W .bound)
       where
         go :

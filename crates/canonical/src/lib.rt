@@ -12,7 +12,6 @@ ghost use Rattle.canonical.specs.First.{FirstAt};
 ghost use Rattle.message.specs.Filled.{filleds};
 ghost use Rattle.message.specs.Substitution.{sub, subs};
 ghost use Rattle.term.specs.Tags.{decTag, fstTag, sndTag, expTag, adecTag, verifyTag};
-ghost use Rattle.term.specs.Arity.{arity};
 ghost use Rattle.term.specs.Sizes.{termRoom};
 ghost use Rattle.term.specs.Term.{Kind, Term, Terms, leaf, encode, encodes};
 ghost use Rattle.lists.specs.Asks.{Asks, Asks₂, Asks₃, Promises, Promises₂, Promises₃};

@@ -18,7 +18,7 @@ use Rattle.message.specs.Product.{empty, part, order}
 use Rattle.message.specs.Canonical.{Settled, Canonical, product, noFactor, factor, name, node, noArg, arg}
 use Rattle.message.specs.Canonical.Laws.{factor-canonical, free-settled}
 use Rattle.message.specs.Rules.{Theory, tower, SameIn}
-use Rattle.message.specs.Table.Laws.{theory, tabled-figure}
+use Rattle.message.specs.Table.Laws.{theory, tabled-twelve}
 use Rattle.message.specs.Parts.Ascending.{order-flip}
 use Rattle.message.specs.Parts.Laws.{order-eq, formed-exp}
 use Rattle.message.specs.Canon.{canon}
@@ -120,7 +120,7 @@ module _ (free : List ℕ) where
         (tower g (mul a b) (inv a)) in
         let c : SameIn σ (mul (mul a b) (inv a)) b = transitive (⊗-comm σ AB (i σ A)) (⊗-cancel σ A B) in
         record {
-          same = widen tabled-figure (transitive (cge σ d (rf σ (i σ A))) (transitive e (cge σ (reflexive tt) c)));
+          same = widen tabled-twelve (transitive (cge σ d (rf σ (i σ A))) (transitive e (cge σ (reflexive tt) c)));
           canonical = two-canonical 10 g b (omega arith) (omega arith) (omega arith) (leaf-canonical public gi) (leaf-canonical fresh bi)
               (exp-settled public fresh gi bi);
         }
@@ -129,7 +129,7 @@ module _ (free : List ℕ) where
     inverse n =
         let d : SameIn σ (inv (mul a (inv b))) (mul (inv a) b) = transitive (i-⊗ σ A (i σ B)) (cg σ (rf σ (i σ A)) (i-i σ B)) in
         record {
-          same = widen tabled-figure (transitive d (⊗-comm σ (i σ A) B));
+          same = widen tabled-twelve (transitive d (⊗-comm σ (i σ A) B));
           canonical = over-canonical bi ai (order b a) refl (λ e. n (let q : b ≡ a = order-eq σ b a tt tt e in cc));
         }
 
@@ -140,7 +140,7 @@ module _ (free : List ℕ) where
         let v : Formed (σ .arity) (dec (enc m (mul a b)) (mul b a)) = (refl, (w, (_⊗_ σ B A .1, tt))) in
         let u : Formed (σ .arity) (dec (enc m (mul a b)) (mul a b)) = (refl, (w, (_⊗_ σ A B .1, tt))) in
         record {
-          same = transitive (congruent v (same-more (reflexive w) (same-more (widen tabled-figure (⊗-comm σ B A)) same-none)))
+          same = transitive (congruent v (same-more (reflexive w) (same-more (widen tabled-twelve (⊗-comm σ B A)) same-none)))
               (equation u tt (figure (dec-enc m (mul a b))));
           canonical = leaf-canonical fresh mi;
         }
@@ -158,4 +158,4 @@ module _ (free : List ℕ) where
         }
 
   pub inverse-one : Form (inv one) one
-  inverse-one = record { same = widen tabled-figure (i-one σ); canonical = product empty refl tt noFactor }
+  inverse-one = record { same = widen tabled-twelve (i-one σ); canonical = product empty refl tt noFactor }

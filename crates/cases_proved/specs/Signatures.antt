@@ -18,7 +18,7 @@ use Rattle.message.specs.Equations.Laws.{widen}
 use Rattle.message.specs.Product.{empty, part}
 use Rattle.message.specs.Canonical.{Settled, Canonical, Canonicals, Factor, product, noFactor, factor, name, node, noArg, arg}
 use Rattle.message.specs.Canonical.Laws.{factor-canonical, free-settled}
-use Rattle.message.specs.Table.Laws.{tabled-figure}
+use Rattle.message.specs.Table.Laws.{tabled-twelve}
 use Rattle.message.specs.Canon.Views.{tag}
 use Rattle.message.specs.Canon.Group.{_⊗_, ⊗-comm}
 use Rattle.cases_proved.specs.Messages.{fn, leaf-canonical, σ, Form}
@@ -131,7 +131,7 @@ module _ (free : List ℕ) (ai bi mi : ℕ) where
       record {
         same = transitive
             (congruent (adec-formed c (mul b a) w (BA .1))
-            (same-more (reflexive w) (same-more (widen tabled-figure (⊗-comm (σ free) (b, tt) (a, tt))) same-none)))
+            (same-more (reflexive w) (same-more (widen tabled-twelve (⊗-comm (σ free) (b, tt) (a, tt))) same-none)))
             (equation (adec-formed c (mul a b) w (AB .1)) tt (adec-aenc m (mul a b)));
         canonical = leaf-canonical fresh mi;
       }

@@ -9,7 +9,7 @@ use Rattle.term.specs.Term.{Term, app, Terms, nil, _&_, Formed, encode}
 use Rattle.message.specs.Substitution.{sub, subs}
 use Rattle.message.specs.Rules.{Rule, Ordinary, FitArities}
 use Rattle.message.specs.Table.{rules}
-use Rattle.message.specs.Table.Laws.{figure-fit, theory, Ruleless, no-rule}
+use Rattle.message.specs.Table.Laws.{rows-fit, theory, Ruleless, no-rule}
 use Rattle.message.specs.Parts.{Role}
 use Rattle.message.specs.Canon.{asBinary, reduceAt, applyAt, apply}
 use Rattle.message.specs.Canon.Views.{ordinary-role, reduce-hit, Plainly, stays, reduces, plainly}
@@ -23,11 +23,11 @@ module _ (ar : ℕ → Option ℕ) (g : FitArities ar) where
     made-plain : (ts : Terms) → apply rules f ts ≡ reduceAt (some r) f ts
     unfolding apply
     made-plain ts =
-        ap (λ (k : Role). applyAt rules k f ts) (ordinary-role f (figure-fit ar g f r e .head))
+        ap (λ (k : Role). applyAt rules k f ts) (ordinary-role f (rows-fit ar g f r e .head))
         ∙ ap (λ (z : Option Rule). reduceAt z f ts) e
 
     pub made-rule : (θ : ℕ → Term) → apply rules f (subs θ (r .args)) ≡ sub θ (r .result)
-    made-rule θ = made-plain (subs θ (r .args)) ∙ reduce-hit r f θ (figure-fit ar g f r e .bound)
+    made-rule θ = made-plain (subs θ (r .args)) ∙ reduce-hit r f θ (rows-fit ar g f r e .bound)
 
     pub made-stays : (ts : Terms) → ((θ : ℕ → Term) → ts ≢ subs θ (r .args)) → apply rules f ts ≡ app f ts
     made-stays ts h = made-plain ts ∙ ap (λ (z : Option Rule). reduceAt z f ts) (sym e) ∙ go (reduceAt (rules f) f ts) (plainly rules f ts)

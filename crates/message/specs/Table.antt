@@ -27,8 +27,8 @@ abbrev pub y : Term
 y = leaf variable 1
 
 -- dec(enc(x,y),y) = x; fst(pair(x,y)) = x; snd(pair(x,y)) = y; adec(aenc(x,pk(y)),y) = x; verify(sign(x,y),x,pk(y)) = true
-abbrev pub figure : Table
-figure =
+abbrev pub table : Table
+table =
     row decTag (enc x y & y & nil) x
     (row fstTag (pair x y & nil) x
     (row sndTag (pair x y & nil) y
@@ -37,4 +37,4 @@ figure =
     end))))
 
 abbrev pub rules : ℕ → Option Rule
-rules = lookup figure
+rules = lookup table

@@ -3,7 +3,7 @@ use Prim.Native.Nat.{ℕ, _≤_}
 use mathlib.Core.Path.{_≡_, refl, ap, subst}
 use mathlib.Core.Logic.{_↔_}
 use mathlib.Core.List.{List}
-use mathlib.Core.Option.{Option, some}
+use mathlib.Core.Option.{Option}
 use native.Mathlib.Omega.{arith}
 use lib.ListN.{length}
 use Rattle.term.specs.Term.{Term, Formed, InRange, encode, symbols}
@@ -16,7 +16,7 @@ use Rattle.message.specs.Canonical.{Canonical}
 use Rattle.message.specs.Canonical.Laws.{canonical-map}
 use Rattle.message.specs.Substitution.{Ground}
 use Rattle.message.specs.Rules.{FitArities, Theory}
-use Rattle.message.specs.Table.Laws.{theory, figure-tabled, tabled-figure, settled-irreducible, irreducible-settled}
+use Rattle.message.specs.Table.Laws.{theory, twelve-tabled, tabled-twelve, settled-irreducible, irreducible-settled}
 use Rattle.message.specs.Canon.{canon}
 use Rattle.message.specs.Canon.Keeps.{canon-formed, canon-ground, canon-range}
 use Rattle.message.specs.Canon.Canonical.{canon-canonical}
@@ -31,15 +31,15 @@ module _ (ar : ℕ → Option ℕ) (g : FitArities ar) where
 
   -- ── equality ──
   pub same-canon : (t u : Term) → Formed ar t → Formed ar u → Same ar t u ↔ (canon t ≡ canon u)
-  same-canon t u w v = (λ d. complete σ (widen figure-tabled d), λ e. widen tabled-figure (decides σ t u w v .1 e))
+  same-canon t u w v = (λ d. complete σ (widen twelve-tabled d), λ e. widen tabled-twelve (decides σ t u w v .1 e))
 
   -- by the encoded bytes
   pub same-bytes : (t u : Term) → Formed ar t → Formed ar u → Same ar t u ↔ (encode (canon t) ≡ encode (canon u))
   same-bytes t u w v =
-      (λ d. decides-bytes σ t u w v .0 (widen figure-tabled d), λ e. widen tabled-figure (decides-bytes σ t u w v .1 e))
+      (λ d. decides-bytes σ t u w v .0 (widen twelve-tabled d), λ e. widen tabled-twelve (decides-bytes σ t u w v .1 e))
 
   pub canon-same : (t : Term) → Formed ar t → Same ar t (canon t)
-  canon-same t w = widen tabled-figure (sound σ t w)
+  canon-same t w = widen tabled-twelve (sound σ t w)
 
   -- ── canonical form ──
   pub canon-is-canonical : (t : Term) → Formed ar t → Canonical (canon t)
@@ -62,7 +62,7 @@ module _ (ar : ℕ → Option ℕ) (g : FitArities ar) where
   -- one to a class
   pub canonical-same : (t u : Term) → Formed ar t → Formed ar u → Canonical t → Canonical u → Same ar t u → t ≡ u
   canonical-same t u w v c d e =
-      canonical-unique σ t u w v (canonical-map settled-irreducible c) (canonical-map settled-irreducible d) (widen figure-tabled e)
+      canonical-unique σ t u w v (canonical-map settled-irreducible c) (canonical-map settled-irreducible d) (widen twelve-tabled e)
 
   -- ── what it keeps, and its size ──
   pub canon-is-formed : (t : Term) → Formed ar t → Formed ar (canon t)

@@ -18,8 +18,10 @@ add-if3 c =
 
 slice-read-if3 : tie.Need-slice-read-if3
 slice-read-if3 c =
-    let pre = c .before .before .before .before .before .before .before .before .pre in
-    function-inside _ _ _ _ _ _ _ _ (c .before .before .before .if1 .taken) (c .before .if2 .taken) (ruled-asks _ _ _ _ _ _ pre)
+    let c3 = c .before .before .before in
+    let c8 = c3 .before .before .before .before .before in
+    let pre = c8 .pre in
+    function-inside _ _ _ _ _ _ _ _ (c3 .if1 .taken) (c .before .if2 .taken) (ruled-asks _ _ _ _ _ _ pre)
 
 returns : tie.Need-returns
 returns c =

@@ -60,10 +60,14 @@ rows =
     ∷ checks (sends (0x21 ∷ 0x20 ∷ 0x00 ∷ 0x00 ∷ 0x00 ∷ 0x01 ∷ 0x00 ∷ 0x00 ∷ 0x1F ∷ 0x00 ∷ 0x01 ∷ [])) falsehood (hears (0x22 ∷ [])) (attack 2 0 1)
     ∷ checks (sends (0x06 ∷ 0x1E ∷ 0x1D ∷ 0x00 ∷ 0x00 ∷ 0x1F ∷ 0x00 ∷ 0x01 ∷ 0x00 ∷ 0x01 ∷ [])) falsehood (hears (0x06 ∷ 0x01 ∷ 0x01 ∷ [])) (attack 2 0 1)
     -- parts are normalised first: a key, a message and a signed message equal by the equations alone, a ciphertext only after fst
-    ∷ checks (sends (0x1E ∷ 0x1D ∷ 0x00 ∷ 0x00 ∷ 0x1F ∷ 0x0C ∷ 0x00 ∷ 0x01 ∷ 0x00 ∷ 0x02 ∷ 0x0C ∷ 0x00 ∷ 0x02 ∷ 0x00 ∷ 0x01 ∷ [])) falsehood (hears (0x01 ∷ 0x01 ∷ [])) (attack 2 0 1)
-    ∷ checks (sends (0x21 ∷ 0x20 ∷ 0x0C ∷ 0x00 ∷ 0x00 ∷ 0x00 ∷ 0x01 ∷ 0x00 ∷ 0x02 ∷ 0x0C ∷ 0x00 ∷ 0x01 ∷ 0x00 ∷ 0x00 ∷ 0x1F ∷ 0x00 ∷ 0x02 ∷ [])) falsehood (hears (0x22 ∷ [])) (attack 2 0 1)
-    ∷ checks (sends (0x21 ∷ 0x20 ∷ 0x00 ∷ 0x00 ∷ 0x0C ∷ 0x00 ∷ 0x01 ∷ 0x00 ∷ 0x02 ∷ 0x00 ∷ 0x00 ∷ 0x1F ∷ 0x0C ∷ 0x00 ∷ 0x02 ∷ 0x00 ∷ 0x01 ∷ [])) falsehood (hears (0x22 ∷ [])) (attack 2 0 1)
-    ∷ checks (sends (0x1E ∷ 0x08 ∷ 0x07 ∷ 0x1D ∷ 0x00 ∷ 0x00 ∷ 0x1F ∷ 0x00 ∷ 0x01 ∷ 0x00 ∷ 0x02 ∷ 0x00 ∷ 0x01 ∷ [])) falsehood (hears (0x01 ∷ 0x01 ∷ [])) (attack 2 0 1)
+    ∷ checks (sends (0x1E ∷ 0x1D ∷ 0x00 ∷ 0x00 ∷ 0x1F ∷ 0x0C ∷ 0x00 ∷ 0x01 ∷ 0x00 ∷ 0x02 ∷ 0x0C ∷ 0x00 ∷ 0x02 ∷ 0x00 ∷ 0x01 ∷ [])) falsehood
+    (hears (0x01 ∷ 0x01 ∷ [])) (attack 2 0 1)
+    ∷ checks (sends (0x21 ∷ 0x20 ∷ 0x0C ∷ 0x00 ∷ 0x00 ∷ 0x00 ∷ 0x01 ∷ 0x00 ∷ 0x02 ∷ 0x0C ∷ 0x00 ∷ 0x01 ∷ 0x00 ∷ 0x00 ∷ 0x1F ∷ 0x00 ∷ 0x02 ∷ [])) falsehood
+    (hears (0x22 ∷ [])) (attack 2 0 1)
+    ∷ checks (sends (0x21 ∷ 0x20 ∷ 0x00 ∷ 0x00 ∷ 0x0C ∷ 0x00 ∷ 0x01 ∷ 0x00 ∷ 0x02 ∷ 0x00 ∷ 0x00 ∷ 0x1F ∷ 0x0C ∷ 0x00 ∷ 0x02 ∷ 0x00 ∷ 0x01 ∷ [])) falsehood
+    (hears (0x22 ∷ [])) (attack 2 0 1)
+    ∷ checks (sends (0x1E ∷ 0x08 ∷ 0x07 ∷ 0x1D ∷ 0x00 ∷ 0x00 ∷ 0x1F ∷ 0x00 ∷ 0x01 ∷ 0x00 ∷ 0x02 ∷ 0x00 ∷ 0x01 ∷ [])) falsehood (hears (0x01 ∷ 0x01 ∷ []))
+    (attack 2 0 1)
     -- no others: another key, the public key on both sides, no pk, pk for the secret key; another message, another key, the secret key, no signature
     ∷ checks (sends (0x1E ∷ 0x1D ∷ 0x00 ∷ 0x00 ∷ 0x1F ∷ 0x00 ∷ 0x01 ∷ 0x00 ∷ 0x02 ∷ [])) falsehood (hears (0x01 ∷ 0x01 ∷ [])) (refused 11 1)
     ∷ checks (sends (0x1E ∷ 0x1D ∷ 0x00 ∷ 0x00 ∷ 0x1F ∷ 0x00 ∷ 0x01 ∷ 0x1F ∷ 0x00 ∷ 0x01 ∷ [])) falsehood (hears (0x01 ∷ 0x01 ∷ [])) (refused 11 1)
@@ -151,7 +155,11 @@ unfolding protocol rule layout facts fact own ruleTerm term termIn symbolAt arit
     many counted below readNumber readIn groups groupsIn numberLimit allBelow
     checkOutcome drawOutcome canonicalOutcome
 computed =
-    refl and refl and refl and refl and refl and refl and refl and refl and refl and refl and refl and refl and refl and refl and refl and refl and refl and refl and refl and refl and refl and refl and refl and refl and refl and refl and refl and refl and refl and refl and refl and refl and refl and refl and refl and refl and refl and refl and refl and refl and refl and refl and refl and refl and refl and refl and refl and refl and refl and refl and refl and refl and refl and refl and refl and refl and refl and refl and refl and refl and refl and refl and refl and refl and refl and refl and refl and refl and refl and refl and refl and refl and refl and refl and done
+    refl and refl and refl and refl and refl and refl and refl and refl and refl and refl and refl and refl and refl and refl and refl and refl and refl and
+    refl and refl and refl and refl and refl and refl and refl and refl and refl and refl and refl and refl and refl and refl and refl and refl and refl
+    and refl and refl and refl and refl and refl and refl and refl and refl and refl and refl and refl and refl and refl and refl and refl and refl and
+    refl and refl and refl and refl and refl and refl and refl and refl and refl and refl and refl and refl and refl and refl and refl and refl and refl
+    and refl and refl and refl and refl and refl and refl and refl and done
 
 pub rows-hold : All Holds rows
 rows-hold = all-hold rows computed

@@ -54,7 +54,8 @@ module _ (protocol term : List ℕ) (bytes : Bytes protocol) (term-bytes : Bytes
   output-enough t is small room =
       let short = term-short p (fit-within protocol bytes p fit) term t is small in
       let fewer = fewer-bytes (arity (tagArities (p .functions))) (declared (p .functions)) t (is .formed) in
-      canonical-back protocol term bytes term-bytes p fit t is small (omega (arith, short)) output work long (omega (arith, fewer, short, ap length (is .bytes)))
+      canonical-back protocol term bytes term-bytes p fit t is small (omega (arith, short)) output work long
+      (omega (arith, fewer, short, ap length (is .bytes)))
 
   -- a longer file holds none
   module _ (over : mostBytes < length term) (within : length term ≤ termLimit) where

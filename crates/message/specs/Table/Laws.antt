@@ -1,4 +1,4 @@
--- The table's rows are fit for the proofs, its equations are figure 2's, and no rule of it applies exactly where no dec, fst or snd
+-- The table's rows are fit for the proofs, its equations and those of products are the twelve, and no rule of it applies exactly where no dec, fst, snd, adec or verify
 -- equation does.
 use Prim.Native.Nat.{ℕ, zero, suc}
 use mathlib.Core.Path.{_≡_, refl, sym, _∙_, ap, subst}
@@ -11,13 +11,13 @@ use Rattle.term.specs.Tags.{oneTag, decTag, fstTag, sndTag, expTag, invTag, mul
 use Rattle.lists.specs.Choice.{pick, cut-eq, clash}
 use Rattle.term.specs.Term.{Term, app, nil, _&_}
 use Rattle.message.specs.Functions.{enc, pair, aenc, pk, sign, yes}
-use Rattle.message.specs.Equations.{Figure2, Twelve, figure as ten, adec-aenc, verify-sign, dec-enc, fst-pair, snd-pair}
+use Rattle.message.specs.Equations.{Figure2, Twelve, figure, adec-aenc, verify-sign, dec-enc, fst-pair, snd-pair}
 use Rattle.message.specs.Equations.{mul-assoc, mul-comm, mul-one, mul-inv, inv-inv, exp-exp, exp-one}
 use Rattle.message.specs.Substitution.{sub}
 use Rattle.message.specs.Canonical.{Settled}
 use Rattle.message.specs.Rules.{Rule, Ordinary, aVariable, aConstant, FitRule, FitArities, Theory, Tabled, reduce}
 use Rattle.message.specs.Rules.{assoc, comm, unit, cancel, double, tower, first, Irreducible}
-use Rattle.message.specs.Table.{Table, end, row, lookup, x, y, figure, rules}
+use Rattle.message.specs.Table.{Table, end, row, lookup, x, y, table, rules}
 
 -- ── what holds of every row ──
 abbrev Rows : (ℕ → Rule → Type 0) → Table → Type 0
@@ -51,7 +51,7 @@ pub record Ruleless (f : ℕ) : Type 0 where
   pub no-verify : f ≢ verifyTag
 
 pub no-rule : (f : ℕ) → Ruleless f → rules f ≡ Option.none
-no-rule f r = absent f figure (r .no-dec, (r .no-fst, (r .no-snd, (r .no-adec, (r .no-verify, tt)))))
+no-rule f r = absent f table (r .no-dec, (r .no-fst, (r .no-snd, (r .no-adec, (r .no-verify, tt)))))
 
 -- ── the rows are fit ──
 pub ordinary : (f : ℕ) → f ≢ oneTag → f ≢ expTag → f ≢ invTag → f ≢ mulTag → Ordinary f
@@ -114,14 +114,14 @@ module _ (ar : ℕ → Option ℕ) (g : FitArities ar) where
     bound = λ v o. inl (inr (inl o));
   }
 
-  pub figure-fit : (f : ℕ) (r : Rule) → rules f ≡ some r → FitRule ar rules f r
-  figure-fit f r e = of-row (FitRule ar rules) figure (fit-dec, (fit-fst, (fit-snd, (fit-adec, (fit-verify, tt))))) f r e
+  pub rows-fit : (f : ℕ) (r : Rule) → rules f ≡ some r → FitRule ar rules f r
+  rows-fit f r e = of-row (FitRule ar rules) table (fit-dec, (fit-fst, (fit-snd, (fit-adec, (fit-verify, tt))))) f r e
 
-  -- the theory of the figure, for an arity of each tag
+  -- the theory of the table, for an arity of each tag
   abbrev pub theory : Theory
-  theory = record { arity = ar; rule = rules; arities = g; fit = figure-fit }
+  theory = record { arity = ar; rule = rules; arities = g; fit = rows-fit }
 
--- ── the table's equations are the figure's ──
+-- ── the table's equations and those of products are the twelve ──
 abbrev pub values : Term → Term → ℕ → Term
 values a b zero = a
 values a b (suc n) = b
@@ -138,35 +138,35 @@ ten-tabled t u (inv-inv a) = double a
 ten-tabled t u (exp-exp a b c) = tower a b c
 ten-tabled t u (exp-one a) = first a
 
-pub figure-tabled : (t u : Term) → Twelve t u → Tabled rules t u
-figure-tabled t u (ten e) = ten-tabled t u e
-figure-tabled t u (adec-aenc m k) = reduce {f = 30} {r = record { args = aenc x (pk y) & y & nil; result = x }} refl (values m k)
-figure-tabled t u (verify-sign m k) = reduce {f = 33} {r = record { args = sign x y & x & pk y & nil; result = yes }} refl (values m k)
+pub twelve-tabled : (t u : Term) → Twelve t u → Tabled rules t u
+twelve-tabled t u (figure e) = ten-tabled t u e
+twelve-tabled t u (adec-aenc m k) = reduce {f = 30} {r = record { args = aenc x (pk y) & y & nil; result = x }} refl (values m k)
+twelve-tabled t u (verify-sign m k) = reduce {f = 33} {r = record { args = sign x y & x & pk y & nil; result = yes }} refl (values m k)
 
-abbrev InFigure : ℕ → Rule → Type 0
-InFigure f r = (θ : ℕ → Term) → Twelve (sub θ (app f (r .args))) (sub θ (r .result))
+abbrev InTwelve : ℕ → Rule → Type 0
+InTwelve f r = (θ : ℕ → Term) → Twelve (sub θ (app f (r .args))) (sub θ (r .result))
 
-pub tabled-figure : (t u : Term) → Tabled rules t u → Twelve t u
-tabled-figure t u (reduce {f = f} {r = r} e θ) =
-    of-row InFigure figure (
-      λ η. ten (dec-enc (η 0) (η 1)),
+pub tabled-twelve : (t u : Term) → Tabled rules t u → Twelve t u
+tabled-twelve t u (reduce {f = f} {r = r} e θ) =
+    of-row InTwelve table (
+      λ η. figure (dec-enc (η 0) (η 1)),
       (
-        λ η. ten (fst-pair (η 0) (η 1)),
-        (λ η. ten (snd-pair (η 0) (η 1)), (λ η. adec-aenc (η 0) (η 1), (λ η. verify-sign (η 0) (η 1), tt))),
+        λ η. figure (fst-pair (η 0) (η 1)),
+        (λ η. figure (snd-pair (η 0) (η 1)), (λ η. adec-aenc (η 0) (η 1), (λ η. verify-sign (η 0) (η 1), tt))),
       ),
     ) f r e θ
-tabled-figure t u (assoc a b c) = ten (mul-assoc a b c)
-tabled-figure t u (comm a b) = ten (mul-comm a b)
-tabled-figure t u (unit a) = ten (mul-one a)
-tabled-figure t u (cancel a) = ten (mul-inv a)
-tabled-figure t u (double a) = ten (inv-inv a)
-tabled-figure t u (tower a b c) = ten (exp-exp a b c)
-tabled-figure t u (first a) = ten (exp-one a)
+tabled-twelve t u (assoc a b c) = figure (mul-assoc a b c)
+tabled-twelve t u (comm a b) = figure (mul-comm a b)
+tabled-twelve t u (unit a) = figure (mul-one a)
+tabled-twelve t u (cancel a) = figure (mul-inv a)
+tabled-twelve t u (double a) = figure (inv-inv a)
+tabled-twelve t u (tower a b c) = figure (exp-exp a b c)
+tabled-twelve t u (first a) = figure (exp-one a)
 
 -- ── the table's rules are the words of the canonical form ──
 pub settled-irreducible : (t : Term) → Settled t → Irreducible rules t
 settled-irreducible t s = record {
-  no-rule = of-row (λ f r. (θ : ℕ → Term) → t ≢ sub θ (app f (r .args))) figure (
+  no-rule = of-row (λ f r. (θ : ℕ → Term) → t ≢ sub θ (app f (r .args))) table (
     λ η. s .no-dec (η 0) (η 1),
     (
       λ η. s .no-fst (η 0) (η 1),

@@ -211,7 +211,8 @@ module _ (file : List ℕ) (bytes : Bytes file) where
     equal-form : (tag at : ℕ) (a : Atom) (e : ℕ) → equalAt file at ≡ got a e → 1 ≤ tag → tag < 3 → AtomForm file ars tag at a e
     unfolding equalAt
     equal-form tag at a e h l k =
-        let m = made-form file (termAt file) (TermBelow numberLimit) encodeTerm term-exact (λ t. termAt file) (λ t. TermBelow numberLimit) encodeTerm (λ t. term-exact)
+        let m = made-form file (termAt file) (TermBelow numberLimit) encodeTerm term-exact (λ t. termAt file) (λ t. TermBelow numberLimit) encodeTerm
+        (λ t. term-exact)
         equal a at e h in
         subst (λ (a : Atom). AtomForm file ars tag at a e) (m .made)
         (record { within = (m .first, m .second); stands = m .stands; low = omega arith; high = omega arith })

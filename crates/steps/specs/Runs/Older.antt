@@ -12,11 +12,10 @@ use Rattle.lists.specs.Choice.{pick, by-size, clash}
 use Rattle.lists.specs.All.{All}
 use Rattle.lists.specs.All.Laws.{all-map, all-both, all-nth, all-at, map-all}
 use Rattle.lists.specs.Pairs.{Pairs, nothing, more, pairs-head, pairs-tail, pairs-length}
-use Rattle.term.specs.Term.{variable, Term, leaf, app, Formed, Formeds}
+use Rattle.term.specs.Term.{variable, Term, leaf, Formed}
 use Rattle.term.specs.Arity.{arity, tagArities}
 use Rattle.term.specs.Reader.{terms}
-use Rattle.message.specs.Equations.{Same}
-use Rattle.message.specs.Equations.Older.{olderArities, OlderSame, alike, now-formed, older-same}
+use Rattle.message.specs.Equations.Older.{olderArities, OlderSame, alike, older-same}
 use Rattle.message.specs.Substitution.{sub}
 use Rattle.message.specs.Substitution.Laws.{sub-formed}
 use Rattle.protocol.specs.Figures.{premiseList, conclusionList}
@@ -34,7 +33,7 @@ use Rattle.rewriting.specs.Rewriting.{Rewrites}
 use Rattle.rewriting.specs.Rewriting.Laws.{GoodNode}
 use Rattle.rewriting.specs.Rewriting.Laws as machines
 use Rattle.steps.specs.Nodes.{Node, NodeWithin}
-use Rattle.steps.specs.Facts.{valueAt, filledFact, filledList, factsOf, sameFact, Sames, SameFact, isLinear}
+use Rattle.steps.specs.Facts.{valueAt, filledFact, filledList, factsOf, sameFact, Sames, isLinear}
 use Rattle.steps.specs.Facts.Formed.{FactFormed, facts-formed, formed-decides}
 use Rattle.steps.specs.Runs.{protocolFacts, rewritten, rewrittens}
 use Rattle.steps.specs.Runs.Equations.{EqualFacts, RunSame, AcceptedSame, EarliestSame, source-holds, target-holds, run-exactly}

@@ -1,7 +1,7 @@
 -- Change 4 leaves document 01's truths as they were: where the actions of the nodes are without the six functions, the answer says whether the
 -- property holds over document 01's messages alone, equal by the ten equations.
 use Prim.Native.Nat.{ℕ}
-use mathlib.Core.List.{List, [], _∷_, map}
+use mathlib.Core.List.{List, [], map}
 use mathlib.Core.Bool.{true}
 use mathlib.Core.Logic.{_↔_}
 use mathlib.Core.Option.{Option}
@@ -34,7 +34,6 @@ use Rattle.property.specs.Fit.Laws.{fit-decides}
 use Rattle.property.specs.Meaning.{Messages, Fact, Trace, Holds}
 use Rattle.property.specs.Meaning.Alike.{LikeFact, LikeTrace}
 use Rattle.property.specs.Times.{integers}
-use Rattle.property.specs.Judge.{judge}
 use Rattle.property.specs.Judge.Decides.{judge-decides}
 use Rattle.property.specs.Judge.Natural.{Natural, judge-like}
 use Rattle.trace.specs.Terms.{terms}
