@@ -1,5 +1,5 @@
--- The table's rows are fit for the proofs, its equations and those of products are the twelve, and no rule of it applies exactly where no dec, fst, snd, adec or verify
--- equation does.
+-- The table's rows are fit for the proofs, its equations and those of products are the twelve, and no rule of it applies exactly where no dec, fst,
+-- snd, adec or verify equation does.
 use Prim.Native.Nat.{ℕ, zero, suc}
 use mathlib.Core.Path.{_≡_, refl, sym, _∙_, ap, subst}
 use mathlib.Core.Logic.{_≢_, inl, inr}
