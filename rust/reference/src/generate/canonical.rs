@@ -96,7 +96,25 @@ fn ground_term(random: &mut Random, protocol: &Protocol) -> Term {
         signing: signs(protocol) || random.percent(25),
         ..material(protocol, 0, products)
     };
-    material.term(random, symbols)
+    match random.below(30) {
+        0 => twins(random, &material),
+        _ => material.term(random, symbols),
+    }
+}
+
+/// A function times itself or its inverse with another argument at one place.
+fn twins(random: &mut Random, material: &Material) -> Term {
+    let tags = [ENC, PAIR, AENC, ADEC, PK, SIGN, VERIFY];
+    let tag = tags[random.below(if material.signing { tags.len() } else { 2 })];
+    let arity = material.signature.arity(tag).expect("a function");
+    let mut arguments: Vec<Term> = (0..arity).map(|_| material.term(random, 1)).collect();
+    let one = Term::Apply(tag, arguments.clone());
+    arguments[random.below(arity)] = material.term(random, 1);
+    let other = Term::Apply(tag, arguments);
+    match random.below(2) {
+        0 => Term::apply(MUL, [one, other]),
+        _ => Term::apply(MUL, [one, Term::apply(INV, [other])]),
+    }
 }
 
 /// As many bytes as 256 symbols can have, all names wide. The protocol gets the functions for it.
