@@ -3,7 +3,6 @@
 use reference::calls::{canonical_form, check, draw, Outcome, WORK_AREA};
 use reference::figures::{MOST_GROUPS, TERM_BYTES};
 use reference::generate::canonical::{self, LONGEST_TERM};
-use reference::generate::graphs::{check_input, draw_input};
 use reference::generate::numbers::*;
 use reference::generate::properties::Maker;
 use reference::generate::runs::{self, some_edges};
@@ -15,6 +14,9 @@ use reference::random::Random;
 use reference::refusal::{File, Refusal};
 use reference::term::{Fresh, Prefix, Public, Term, MUL};
 use std::collections::{BTreeMap, BTreeSet};
+
+mod ruled;
+use ruled::ruled;
 
 /// Fit files, whose numbers are spoiled one at a time.
 struct Files {
@@ -283,20 +285,6 @@ fn has_name(steps: &[Step], rules: impl Fn(u32) -> bool, name: impl Fn(u32) -> b
             .for_each(|value| names(value, &mut found));
         found.into_iter().any(&name)
     })
-}
-
-/// Checks a graph or draws steps; the protocol, the nodes and the outcome.
-fn ruled(random: &mut Random, checking: bool) -> ([Vec<u8>; 2], Outcome) {
-    if checking {
-        let input = check_input(random);
-        let mut work = vec![0; input.work];
-        let outcome = check(&input.protocol, &input.property, &input.graph, &mut work);
-        return ([input.protocol, input.graph], outcome);
-    }
-    let input = draw_input(random);
-    let (mut output, mut work) = (vec![0; input.output], vec![0; input.work]);
-    let outcome = draw(&input.protocol, &input.steps, &mut output, &mut work);
-    ([input.protocol, input.steps], outcome)
 }
 
 /// Accepted graphs and drawn steps make wide names, know them and take them into protocol rules, and a wide name is made twice: so many of

@@ -1,8 +1,7 @@
 //! The random inputs use aenc to true in every file that may have them, in every way in which an engine could get them wrong.
 
-use reference::calls::{check, draw, fit_property, fit_protocol, ruled_steps, Outcome};
+use reference::calls::{fit_property, fit_protocol, ruled_steps, Outcome};
 use reference::canonical::canonical_form;
-use reference::generate::graphs::{check_input, draw_input};
 use reference::generate::numbers::{encoded, of_protocol, of_steps, of_term, retagged};
 use reference::generate::properties::Maker;
 use reference::generate::protocols::{self, is_signing};
@@ -14,6 +13,9 @@ use reference::refusal::{File, Refusal};
 use reference::steps::{MOST_FILLED_IN_SYMBOLS, MOST_VALUE_SYMBOLS};
 use reference::term::*;
 use std::collections::BTreeMap;
+
+mod ruled;
+use ruled::ruled;
 
 /// How many inputs have each of these.
 #[derive(Default)]
@@ -211,20 +213,6 @@ fn nodes_of(protocol: &[u8], bytes: &[u8]) -> Vec<(u32, Vec<Term>)> {
         nodes.push((number, values.iter().map(Prefix::tree).collect()));
     }
     nodes
-}
-
-/// Checks a graph or draws steps; the protocol, the nodes and the outcome.
-fn ruled(random: &mut Random, checking: bool) -> ([Vec<u8>; 2], Outcome) {
-    if checking {
-        let input = check_input(random);
-        let mut work = vec![0; input.work];
-        let outcome = check(&input.protocol, &input.property, &input.graph, &mut work);
-        return ([input.protocol, input.graph], outcome);
-    }
-    let input = draw_input(random);
-    let (mut output, mut work) = (vec![0; input.output], vec![0; input.work]);
-    let outcome = draw(&input.protocol, &input.steps, &mut output, &mut work);
-    ([input.protocol, input.steps], outcome)
 }
 
 /// Of accepted graphs and drawn steps: each of the rules 95 to 100, adec and verify that apply and that stay, and the functions in

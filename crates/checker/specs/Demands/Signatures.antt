@@ -8,7 +8,7 @@ use mathlib.Core.Path.{_≡_, refl}
 use native.Mathlib.Omega.{arith}
 use lib.ListN.{length}
 use Rattle.lists.specs.All.{All}
-use Rattle.lists.specs.All.Laws.{all-both}
+use Rattle.lists.specs.All.Laws.{all-map, all-both}
 use Rattle.octets.specs.Head.{Bytes}
 use Rattle.number.specs.Groups.{numberLimit}
 use Rattle.rewriting.specs.Table.{passed}
@@ -51,7 +51,7 @@ module _ (protocol property graph : List ℕ) (bytes : Bytes protocol) (p : Prot
     pub its-property : PropertyFile numberLimit p property f
     pub its-graph : OlderGraph p graph g
 
-  its-limits : ProtocolFile numberLimit protocol p → Within p
+  pub its-limits : ProtocolFile numberLimit protocol p → Within p
   its-limits h = fit-within protocol bytes p (protocol-now numberLimit (omega arith) p protocol bytes h)
 
   same :
@@ -95,10 +95,11 @@ module _ (protocol property graph : List ℕ) (bytes : Bytes protocol) (p : Prot
         ruled-exactly protocol property graph bytes property-bytes graph-bytes work long (checked p f g) .1 (p, f, g, ruled-older .1 h, refl)
 
     -- and the ruling is the truth over document 01's messages
-    its-nodes : All (λ x. NodeWithin p x × NodeRight p x × OlderNode p x) (g .nodes)
+    pub its-nodes : All (λ x. NodeWithin p x × NodeRight p x × OlderNode p x) (g .nodes)
     its-nodes =
-        all-both (NodeWithin p) (λ x. NodeRight p x × OlderNode p x) (g .nodes) (h .its-graph .within .0 .each)
-        (all-both (NodeRight p) (OlderNode p) (g .nodes) (h .its-graph .right) (plain .nodes))
+        all-map _ (λ x. NodeWithin p x × NodeRight p x × OlderNode p x) (λ x (w, ro). (w, ro .0, ro .1)) (g .nodes)
+        (all-both (NodeWithin p) (λ x. NodeRight p x × OlderNode p x) (g .nodes) (h .its-graph .within .0 .each)
+        (all-both (NodeRight p) (OlderNode p) (g .nodes) (h .its-graph .right) (plain .nodes)))
 
     pub older-truth :
         (checked p f g .holds ≡ true)
