@@ -1,4 +1,6 @@
 // The canonical form of terms at a place, filled in with canonical values; whether a term is canonical.
+#![tactic(auto)]
+
 ghost use Rattle.std.specs.Prelude.{◌≡◌, true, false, ◌+◌, ◌≤◌, ◌<◌, ℕ, length, List, ◌↔◌, ◌≢◌};
 ghost use Rattle.octets.specs.Limits.{longest};
 ghost use Rattle.octets.specs.Compare.{is_equal, compare_bytes};

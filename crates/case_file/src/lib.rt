@@ -2,6 +2,8 @@
 // The input is a case behind the other: 0 for a number, 1 for a term, 2 for a step list, 3 for a graph, 4 for a property; the length of what
 // the case is read under, and that: the arity of each free function, or a protocol file; the length of the bytes; the bytes. Those of a
 // property are the length of its file, its file, and a step list. A length is two bytes, low byte first.
+#![tactic(auto)]
+
 ghost use Rattle.std.specs.Prelude.{◌≤◌, ◌<◌, ◌+◌, length};
 ghost use Rattle.case_file.specs.Case.{byte, length_bytes, room, Inside, Behind, CaseAt};
 

@@ -1,4 +1,6 @@
 // What the test programs over nodes share: the protocol of a case, prepared, and the step list of a case, ruled under it.
+#![tactic(auto)]
+
 ghost use Rattle.std.specs.Prelude.{◌≤◌, length};
 ghost use Rattle.lists.specs.Asks.{Asks};
 ghost use Rattle.octets.specs.Limits.{longest};

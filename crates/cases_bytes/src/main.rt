@@ -1,4 +1,6 @@
 // Runs the byte layer on the cases of standard input and writes a line for each: its number, and what was read.
+#![tactic(auto)]
+
 ghost use Rattle.std.specs.Prelude.{◌≤◌, length};
 ghost use Rattle.case_file.specs.Case.{room};
 ghost use Rattle.term.specs.Tags.{most_functions};

@@ -1,6 +1,8 @@
 // Compares the facts of the nodes of the step lists of standard input, each list under its protocol, and writes a line for each list: its
 // number; for each fact the number of the first one that is the same; for each argument of these facts the number of the first one that is
 // the same message; for each argument which of three public names it is. Or the refusal.
+#![tactic(auto)]
+
 ghost use Rattle.std.specs.Prelude.{◌≤◌, length};
 ghost use Rattle.case_file.specs.Case.{room};
 ghost use Rattle.lists.specs.Asks.{Asks₂};

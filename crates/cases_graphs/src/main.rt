@@ -1,5 +1,7 @@
 // Rules the graphs of the cases of standard input, each under its protocol, and writes a line for each: its number, and how many nodes and
 // edges there are or the refusal.
+#![tactic(auto)]
+
 ghost use Rattle.std.specs.Prelude.{◌≤◌, length};
 ghost use Rattle.lists.specs.Asks.{Asks};
 ghost use Rattle.prepared.specs.Prepared.{Prepared};

@@ -1,4 +1,6 @@
 // Runs the call canonical form on the cases of standard input and writes a line for each: its number, and the bytes of the canonical form.
+#![tactic(auto)]
+
 use case_file::part;
 use checker::Written;
 use term::MOST_FUNCTIONS;

@@ -1,5 +1,7 @@
 // Judges the properties of the cases of standard input, each under its protocol and over the trace of its step list, and writes a line for
 // each: its number, whether it is true and how many nodes have an action, or the refusal.
+#![tactic(auto)]
+
 ghost use Rattle.std.specs.Prelude.{◌≤◌, length};
 ghost use Rattle.lists.specs.Asks.{Asks, Asks₂};
 ghost use Rattle.prepared.specs.Prepared.{Prepared};

@@ -1,5 +1,7 @@
 // Rules the step lists of the cases of standard input, each under its protocol, and writes a line for each: its number, and how many
 // nodes there are or the refusal.
+#![tactic(auto)]
+
 ghost use Rattle.std.specs.Prelude.{◌≤◌, length};
 ghost use Rattle.case_file.specs.Case.{room};
 

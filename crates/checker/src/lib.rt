@@ -1,4 +1,5 @@
 // The exported calls.
+#![tactic(auto)]
 
 mod checking; // the call check, where the work area is long enough
 mod drawing; // the call draw, where the work area is long enough

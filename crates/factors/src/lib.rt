@@ -1,4 +1,6 @@
 // The factors of some terms in a table: for each its place in the caller's slice and its exponent, ascending by encoded bytes.
+#![tactic(auto)]
+
 ghost use Rattle.std.specs.Prelude.{◌≡◌, true, false, ◌+◌, ◌-◌, ◌*◌, ◌≤◌, ◌<◌, length, take, drop, get_or, pos};
 ghost use Rattle.term.specs.Term.{Term, Terms, encode, encodes};
 ghost use Rattle.message.specs.Product.{Exps};

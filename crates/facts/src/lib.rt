@@ -1,4 +1,5 @@
 // The facts of nodes: their bytes, and when two are the same.
+#![tactic(auto)]
 
 pub mod writing; // the canonical bytes of a fact, or of one argument of it; its bytes as it stands
 pub mod nodes; // of a node's fact

@@ -1,4 +1,5 @@
 // Dependency graphs: their edges, and causes 3 and 6 to 13 of a graph file.
+#![tactic(auto)]
 
 pub mod edges; // read into a table of numbers
 pub mod reading; // 3 and 6 of a graph file

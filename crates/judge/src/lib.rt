@@ -1,4 +1,5 @@
 // The judge of a property over a trace in numbers.
+#![tactic(auto)]
 
 pub mod figures; // tags, how many variables and arguments
 pub mod reading; // numbers, terms and guards of a property file

@@ -1,1 +1,2 @@
 // The crate is theory: its definitions and lemmas stand in specs/.
+#![tactic(auto)]

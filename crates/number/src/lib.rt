@@ -1,4 +1,6 @@
 // Numbers in the files: groups of seven bits, lowest first.
+#![tactic(auto)]
+
 ghost use Rattle.std.specs.Prelude.{◌≡◌, ◌+◌, ◌-◌, ◌^◌, ◌≤◌, ◌<◌, length};
 ghost use Rattle.octets.specs.Splice.{splice};
 ghost use Rattle.number.specs.Groups.{groups, base, most_groups};

@@ -1,4 +1,5 @@
 // The prepared protocol: one slice with all that the code asks of a fit protocol.
+#![tactic(auto)]
 
 pub mod sections; // where each section starts
 pub mod pairs; // a place in two bytes

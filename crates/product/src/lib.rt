@@ -1,4 +1,6 @@
 // Products in place: mul, inv and one with any arguments become the product of their factors, exp the power.
+#![tactic(auto)]
+
 ghost use Rattle.std.specs.Prelude.{◌≡◌, ℕ, ◌+◌, ◌≤◌, ◌<◌, length, nat_abs, ◌∷◌, true, false};
 ghost use Rattle.message.specs.Functions.{exp};
 ghost use Rattle.message.specs.Gather.{multiplied, powered};

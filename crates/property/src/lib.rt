@@ -1,4 +1,5 @@
 // Properties: their file. Their meaning and the judge are definitions and stand in specs/.
+#![tactic(auto)]
 
 pub mod figures; // the figures of a property file
 pub mod terms; // terms: a variable or a public name

@@ -1,4 +1,5 @@
 // A protocol file.
+#![tactic(auto)]
 
 pub mod figures; // of its limits
 pub mod walks; // over a rule's terms, facts and lists

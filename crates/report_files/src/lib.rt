@@ -1,4 +1,6 @@
 // What the program does: it reads the three files of the folder that it runs in, and writes the line of their ruling.
+#![tactic(auto)]
+
 ghost use Rattle.std.specs.Prelude.{◌≡◌, ◌≤◌, length};
 ghost use Rattle.io.specs.Counts.{IsPrefixLen};
 ghost use Rattle.octets.specs.Splice.{splice};

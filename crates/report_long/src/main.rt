@@ -1,4 +1,6 @@
 // The program on a property of one byte more than the limit.
+#![tactic(auto)]
+
 fn main() {
     report_files::report();
 }

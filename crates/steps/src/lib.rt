@@ -1,4 +1,5 @@
 // The nodes of step lists and graphs: their values and their facts.
+#![tactic(auto)]
 
 pub mod nodes; // read front to back for 3 and 6
 pub mod values; // 7: what fits a variable

@@ -1,4 +1,6 @@
 // Terms in the files: prefix order, tag first.
+#![tactic(auto)]
+
 ghost use Rattle.std.specs.Prelude.{◌≡◌, ◌≤◌, ◌<◌, ◌+◌, length, get_or};
 ghost use Rattle.octets.specs.Limits.{longest};
 ghost use Rattle.number.specs.Reading.{read_number, many};

@@ -1,4 +1,6 @@
 // The verdict on a property over the trace of right nodes: its truth, and how many nodes have an action.
+#![tactic(auto)]
+
 ghost use Rattle.std.specs.Prelude.{◌≤◌};
 ghost use Rattle.lists.specs.Asks.{Asks₃, Promises₃};
 ghost use Rattle.facts.specs.Writing.{fact_room};

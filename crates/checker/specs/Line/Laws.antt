@@ -1,6 +1,6 @@
 -- Decimal figures one by one, the room of a number, one write behind the other, the line.
 use Rattle.std.specs.Prelude.{ℕ, zero, suc, ◌+◌, ◌*◌, ◌/◌, ◌%◌, ◌^◌, ◌≤◌, ◌<◌, List, [], ◌∷◌, ◌++◌, Bool, ◌≡◌, refl, length, set}
-use Rattle.std.proofs.Common.{ap, ap₂, sym, subst, ◌∙◌, arith, pow_suc, lt-ltb, le-ltb, length-append}
+use Rattle.std.proofs.Common.{ap, ap₂, sym, subst, ◌∙◌, arith, pow-suc, lt-ltb, le-ltb, length-append}
 use Rattle.lists.specs.Choice.{pick, by_size}
 use Rattle.octets.specs.Splice.{splice}
 use Rattle.octets.specs.Splice.Laws.{sets_splice, splice_splice}
@@ -48,7 +48,7 @@ figures_few zero (suc m) n h = let e = ap length (figures_one m n (omega (arith,
 figures_few (suc k) (suc m) n h = by_size n 10
     (λ l. let e = ap length (figures_one m n l) in omega (arith, e))
     (λ l.
-    let p : 10 ^ suc (suc k) ≡ 10 ^ suc k * 10 = pow_suc 10 (suc k) in
+    let p : 10 ^ suc (suc k) ≡ 10 ^ suc k * 10 = pow-suc 10 (suc k) in
     let i = figures_few k m (n / 10) (omega (arith, h, p)) in
     let e = ap length (figures_more m n l) in
     let a = length-append (figures m (n / 10)) (figure (n % 10) ∷ []) in

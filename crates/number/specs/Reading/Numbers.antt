@@ -3,7 +3,7 @@ use Prim.Native.Nat.{ℕ, zero, suc, ◌+◌, ◌-◌, ◌*◌, ◌/◌, ◌%◌
 use Rattle.std.specs.Prelude.{List, [], ◌∷◌, ◌++◌, ◌↔◌, ◌≡◌, refl, length, get_or, drop}
 use Rattle.std.proofs.Common.{ap, sym, ◌∙◌, subst₂, arith}
 use Rattle.std.proofs.Math.Path.{ap₂, subst}
-use Rattle.std.proofs.Math.Nat.{pow-succ', pow_zero, one-le-pow}
+use Rattle.std.proofs.Math.Nat.{pow-succ', pow-zero, one-le-pow}
 use borrow.Author.Tests.{lt-ltb, le-ltb, eq-eqb, ne_eqb}
 use Rattle.lists.specs.Choice.{cut_lt, cut_eq, by_size, clash}
 use Rattle.lists.specs.All.{All}
@@ -156,7 +156,7 @@ module _ (n at : ℕ) (file rest : List ℕ) (e : drop at file ≡ groups n ++ r
 pub in_back :
     (k n at : ℕ) (file rest : List ℕ) → n < 128 ^ suc k → drop at file ≡ groups n ++ rest
     → read_in (suc k) file at ≡ got n (at + length (groups n))
-in_back zero n at file rest small e = one_back n at file rest e zero (omega (arith, pow-succ' 128 0, pow_zero 128))
+in_back zero n at file rest small e = one_back n at file rest e zero (omega (arith, pow-succ' 128 0, pow-zero 128))
 in_back (suc k) n at file rest small e =
     by_size n 128
     (one_back n at file rest e (suc k))

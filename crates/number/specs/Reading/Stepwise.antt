@@ -1,6 +1,6 @@
 -- Reading group by group, lowest first: a number is what its groups so far make of the rest.
 use Rattle.std.specs.Prelude.{ℕ, ◌+◌, ◌-◌, ◌*◌, ◌^◌, ◌≤◌, ◌<◌, List, ◌≡◌, refl, length, get_or}
-use Rattle.std.proofs.Common.{ap, sym, ◌∙◌, arith, pow_suc, mul-add, mul_comm, mul_assoc, mul-le-mul_right}
+use Rattle.std.proofs.Common.{ap, sym, ◌∙◌, arith, pow-suc, mul-add, mul_comm, mul_assoc, mul-le-mul_right}
 use Rattle.std.proofs.Math.Nat.{pow-le-pow_right}
 use Rattle.lists.specs.Choice.{by_size}
 use Rattle.number.specs.Groups.{most_groups, base}
@@ -63,7 +63,7 @@ module _ {file : List ℕ} {at i low weight left : ℕ} (s : Sofar file at i low
       sofar_more more byte = record {
         whole = s.whole ∙ ap (joined low weight) (now_more file i left (λ z. omega arith) inside more)
             ∙ joined_longer low weight (get_or file i 0) (read_in (left - 1) file (i + 1));
-        power = ap (λ (w : ℕ). w * 128) s.power ∙ sym (pow_suc 128 (most_groups - left)) ∙ ap (λ (k : ℕ). 128 ^ k) (omega (arith, s.few));
+        power = ap (λ (w : ℕ). w * 128) s.power ∙ sym (pow-suc 128 (most_groups - left)) ∙ ap (λ (k : ℕ). 128 ^ k) (omega (arith, s.few));
         few = omega (arith, s.few);
         small = sofar_small byte;
       }

@@ -4,7 +4,7 @@ use mathlib.Core.Path.{ap₂, sym, ◌∙◌}
 use Rattle.facts.specs.Calls.{fact_at}
 use Rattle.steps.specs.Facts.{is_linear}
 use Rattle.lists.specs.Tests.{or_right}
-use borrow.Author.Tests.{le_leb, lt-leb}
+use borrow.Author.Tests.{le-leb, lt-leb}
 use borrow.Author.Rules.{rules}
 use Rattle.graph.proofs.passes.one_out.Statement.{statement}
 use Rattle.graph.proofs.passes.one_out.Tie as tie
@@ -12,7 +12,7 @@ use Rattle.graph.proofs.passes.one_out.Tie as tie
 returns : tie.Need-returns
 returns c =
     let c3 = c.before.before.before in
-    λ s P m h. sym (or_right (not (is_linear P (fact_at P c3.args.x.list c3.args.x.number m))) _ (le_leb c3.args.count 1 c.if1.true))
+    λ s P m h. sym (or_right (not (is_linear P (fact_at P c3.args.x.list c3.args.x.number m))) _ (le-leb c3.args.count 1 c.if1.true))
 
 is-linear-requires : tie.Need-is-linear-requires
 is-linear-requires c κs = search rules

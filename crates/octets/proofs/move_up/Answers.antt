@@ -8,19 +8,10 @@ use lib.ListN.{length, take, drop, set, get_or, length-set, length-drop}
 use mathlib.Core.List.{List}
 use mathlib.Core.Path.{◌≡◌, ap, ap₂, sym, ◌∙◌}
 use Prim.Native.Nat.{ℕ, ◌≤◌, ◌-◌, ◌+◌}
-use Rattle.octets.proofs.move_up.Statement.{statement}
-use Rattle.octets.proofs.move_up.Tie as tie
+use Rattle.octets.proofs.move_up.Goals as goal
 
-abbrev invariant-loop : tie.invariant-loop
-invariant-loop out₀ from to len i₀ out i =
-    (i ≤ len) × (length out ≡ length out₀) × (out ≡ splice out₀ (to + i) (drop i (take len (drop from out₀))))
-
-abbrev decreases-loop : tie.decreases-loop
-decreases-loop out₀ from to len i₀ out i =
-    i
-
-loop-holds : tie.Need-loop-init invariant-loop decreases-loop
-loop-holds c =
+pub loop-i-init : goal.loop-i-init
+loop-i-init c =
     let a = c.args in
     let src : List ℕ = take a.len (drop a.from a.out.now) in
     let d : length (drop a.from a.out.now) ≡ length a.out.now - a.from = length-drop a.from a.out.now in
@@ -28,28 +19,10 @@ loop-holds c =
     let e : drop a.len src ≡ drop (length src) src = ap (λ (k : ℕ). drop k src) (sym n) in
     (search rules, search rules, sym (ap (splice a.out.now (a.to + a.len)) (e ∙ drop-length src) ∙ splice_nil _ _))
 
-sub-i : tie.Need-overflow-sub-i invariant-loop decreases-loop
-sub-i c = search rules
-
-add-out : tie.Need-overflow-add-out invariant-loop decreases-loop
-add-out c = search rules
-
-slice-read-out : tie.Need-slice-read-out invariant-loop decreases-loop
-slice-read-out c = search rules
-
-add-out-2 : tie.Need-overflow-add-out-2 invariant-loop decreases-loop
-add-out-2 c = search rules
-
-slice-write-out : tie.Need-slice-write-out invariant-loop decreases-loop
-slice-write-out c = search rules
-
-loop-less : tie.Need-loop-smaller invariant-loop decreases-loop
-loop-less c = search rules
-
-loop-again : tie.Need-loop-preserved invariant-loop decreases-loop
-loop-again c =
-    let a = c.before.before.before.args in
-    let l = c.before.before.loop in
+pub loop-i-preserved : goal.loop-i-preserved
+loop-i-preserved c =
+    let a = c.args in
+    let l = c.loop-i in
     let s : List ℕ = a.out.now in
     let src : List ℕ = take a.len (drop a.from s) in
     let d : length (drop a.from s) ≡ length s - a.from = length-drop a.from s in
@@ -67,30 +40,10 @@ loop-again c =
           (omega arith) (omega arith) (omega arith),
     )
 
-same_length : tie.Need-same-length invariant-loop decreases-loop
-same_length c = search rules
-
-returns : tie.Need-returns invariant-loop decreases-loop
+pub returns : goal.returns
 returns c =
-    let a = c.before.before.args in
-    let l = c.before.loop in
+    let a = c.args in
+    let l = c.loop-i in
     let z : l.i ≡ 0 = omega arith in
     let t : a.to + l.i ≡ a.to = omega arith in
     l.invariant.2 ∙ ap₂ (λ (p i : ℕ). splice a.out.now p (drop i (take a.len (drop a.from a.out.now)))) t z
-
-pub move_up_spec : {M : Type 1} → statement M
-move_up_spec =
-    tie.close
-    (tie.spec
-    invariant-loop
-    decreases-loop
-    loop-holds
-    sub-i
-    add-out
-    slice-read-out
-    add-out-2
-    slice-write-out
-    loop-less
-    loop-again
-    same_length
-    returns)

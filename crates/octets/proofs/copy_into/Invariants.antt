@@ -1,0 +1,17 @@
+-- The invariant is that the slice is its entry with the first i bytes of the source spliced in; each turn adds one.
+use lib.Seq.{take_all}
+use lib.ListN.{set, get_or, length-set, length, take}
+use native.Mathlib.Omega.{arith}
+use mathlib.Core.Path.{ap, ◌≡◌, sym, ◌∙◌}
+use mathlib.Core.List.{List}
+use Prim.Native.Nat.{ℕ, ◌+◌, ◌≤◌, ◌-◌}
+use Rattle.octets.specs.Splice.Laws.{splice_copy, splice_nil}
+use borrow.Author.Rules.{rules}
+use Rattle.octets.specs.Splice.{splice}
+use Rattle.octets.proofs.copy_into.Given as goal
+
+abbrev pub invariant-loop-i : goal.invariant-loop-i
+invariant-loop-i l = (l.i ≤ length l.src) × (length l.out ≡ length l.initial.out) × (l.out ≡ splice l.initial.out l.at (take l.i l.src))
+
+abbrev pub decreases-loop-i : goal.decreases-loop-i
+decreases-loop-i l = length l.src - l.i
