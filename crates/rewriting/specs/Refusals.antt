@@ -1,7 +1,7 @@
 -- The passes over a graph find what rows 10 to 13 say, the smallest item of each.
 use Rattle.std.specs.Prelude.{◌≡◌, refl, Bool, true, false, ◌&&◌, List, [], ◌∷◌, ℕ, suc, leb, ltb}
 use Rattle.std.proofs.Common.{sym, ◌∙◌, ap, inl, inr, ⊎_elim, arith}
-use Rattle.std.proofs.Math.Bool.{and_false}
+use Rattle.std.proofs.Math.Bool.{and-false}
 use Rattle.std.proofs.Math.Option.{Option, none, some, none-ne-some}
 use Rattle.lists.specs.Tests.{by_bool, by_option, true_false, not_true, eqb_eq, leb_gt, gt_leb}
 use Rattle.lists.specs.Lists.{all_by, nth}
@@ -55,7 +55,7 @@ module _ (F : Facts) (nodes : List (Node F.Fact)) (edges : List Edge) where
 
   -- 10.
   two_false : (a b : Bool) → (a && (b && false)) ≡ false
-  two_false true b = and_false b
+  two_false true b = and-false b
   two_false false b = refl
 
   pub fails_end : (k : ℕ) → Fails (λ k e. ends_ok F nodes e) edges k → EndMissing nodes edges k
@@ -81,7 +81,7 @@ module _ (F : Facts) (nodes : List (Node F.Fact)) (edges : List Edge) where
         ⊎_elim
         (λ n. rw n)
         (λ w. ⊎_elim
-        (λ n. rw n (and_false (is_some (conclusion_at nodes h.edge.source))))
+        (λ n. rw n (and-false (is_some (conclusion_at nodes h.edge.source))))
         (λ l. rw (gt_leb (suc h.edge.source.node) h.edge.target.node (omega arith))
         (two_false (is_some (conclusion_at nodes h.edge.source)) (is_some (premise_at nodes h.edge.target))))
         w)

@@ -1,0 +1,21 @@
+-- The slot is 255 exactly where `arity` gives none.
+use Prim.Native.Nat.{ℕ}
+use Rattle.term.specs.declared.Symbol.TheVariants.{Op}
+use mathlib.Core.Path.{ap, sym, ◌∙◌}
+use mathlib.Core.Option.{Option}
+use Rattle.term.specs.Reader.{op_at}
+use Rattle.term.specs.Arity.Laws.{arity_none, arity_some}
+use borrow.Author.Rules.{rules}
+use Rattle.term.proofs.op_at.Goals as goal
+
+pub returns-then-k : goal.returns-then-k
+returns-then-k c =
+    let a = c.args in
+    sym (ap (λ (o : Option ℕ). op_at a.tag o a.next) (arity_none a.arities.now a.tag (sym c.slot-k.ensures ∙ c.if-k.true)))
+
+pub returns : goal.returns
+returns c =
+    let a = c.args in
+    ap (λ (k : ℕ). Op a.tag k a.next) c.slot-k.ensures
+    ∙ sym (ap (λ (o : Option ℕ). op_at a.tag o a.next) (arity_some a.arities.now a.tag c.requires
+    (λ e. c.if-k.false (c.slot-k.ensures ∙ e))))

@@ -1,0 +1,34 @@
+-- The term's end lies within the slice, so the part is there, and its bytes are those between place and end.
+use mathlib.Core.Path.{sym, ◌∙◌}
+use Rattle.term.specs.Walk.Exact.{end_within, part_bytes, none_bytes}
+use native.Mathlib.Omega.{arith}
+use borrow.Author.Rules.{rules}
+use Rattle.term.proofs.term_part.Goals as goal
+
+pub slice_bounds-result-count : goal.slice_bounds-result-count
+slice_bounds-result-count c =
+    let w = end_within c.args.file.now c.args.arities.now (λ i. (c.type_inv.file i).fits) c.args.at _ _
+    (sym c.term_end.ensures ∙ c.in-End.is) in
+    omega arith
+
+pub slice_bounds-result-start : goal.slice_bounds-result-start
+slice_bounds-result-start c =
+    let w = end_within c.args.file.now c.args.arities.now (λ i. (c.type_inv.file i).fits) c.args.at _ _
+    (sym c.term_end.ensures ∙ c.in-End.is) in
+    omega arith
+
+pub slice_bounds-result-end : goal.slice_bounds-result-end
+slice_bounds-result-end c =
+    let w = end_within c.args.file.now c.args.arities.now (λ i. (c.type_inv.file i).fits) c.args.at _ _
+    (sym c.term_end.ensures ∙ c.in-End.is) in
+    omega arith
+
+pub returns-in-End : goal.returns-in-End
+returns-in-End c =
+    part_bytes c.args.file.now c.args.arities.now (λ i. (c.type_inv.file i).fits) c.args.at _ _
+    (sym c.term_end.ensures ∙ c.in-End.is)
+
+pub returns-in-Fault : goal.returns-in-Fault
+returns-in-Fault c =
+    none_bytes c.args.file.now c.args.arities.now (λ i. (c.type_inv.file i).fits) c.args.at
+    (sym c.term_end.ensures ∙ c.in-Fault.is)

@@ -1,0 +1,20 @@
+-- The invariant is that the tally so far, put to the walk of the pending terms, is the whole walk; each turn takes a symbol off, so the file bounds the turns.
+use borrow.Author.Rules.{rules}
+use Rattle.term.specs.Walk.Laws.{tally, tally_begins, step_ahead, walk_turn, walk_fault, walk_done}
+use Rattle.term.specs.Walk.{walks}
+use Rattle.term.specs.Reader.{term}
+use Rattle.number.specs.Reading.{many}
+use mathlib.Core.Path.{◌≡◌, sym, ◌∙◌}
+use Prim.Native.Nat.{◌+◌, ◌-◌, ◌*◌, ◌≤◌}
+use lib.ListN.{length}
+use native.Mathlib.Omega.{arith}
+use Rattle.term.proofs.walk_terms.Given as goal
+
+abbrev pub invariant-loop-pending : goal.invariant-loop-pending
+invariant-loop-pending l =
+    (l.count ≤ length l.file) × (l.count ≤ l.i) × (l.pending ≤ 255 * l.count + l.k) × (tally l.kind l.lo l.hi l.count l.found (many (term l.file l.arities) l.pending l.i) ≡ walks l.kind l.lo l.hi
+    (many (term l.file l.arities) l.k l.at))
+
+abbrev pub decreases-loop-pending : goal.decreases-loop-pending
+decreases-loop-pending l =
+    length l.file - l.count
