@@ -81,7 +81,7 @@ collect_shared_slice_read_b t c =
     let r = c7.args in walk_inside r.arities.now r.src.now r.spans.now r.powers.now r.n r.at r.k r.minus _ _ _ _ _
     c.before.before.loop.invariant c.before.loop-test.true c7.requires.1
 
-collect_add_i : (t : ℕ) → collect-lts.Need-overflow-add-i (
+collect_add_i : (t : ℕ) → collect-lts.Need-overflow_add-i (
   mul-takes-reads.Asked,
   mul-takes-reads.Learnt,
   one_term_below t,
@@ -93,7 +93,7 @@ collect_add_i t c =
     let r = c8.args in let w = walk_inside r.arities.now r.src.now r.spans.now r.powers.now r.n r.at r.k r.minus _ _ _ _ _
     c3.loop.invariant c.before.before.loop-test.true c8.requires.1 in omega arith
 
-collect_sub_left : (t : ℕ) → collect-lts.Need-overflow-sub-left (
+collect_sub_left : (t : ℕ) → collect-lts.Need-overflow_sub-left (
   mul-takes-reads.Asked,
   mul-takes-reads.Learnt,
   one_term_below t,
@@ -101,7 +101,7 @@ collect_sub_left : (t : ℕ) → collect-lts.Need-overflow-sub-left (
 ) (collect_at t) collect.Post collect_Inv_loop collect-μ-loop
 collect_sub_left t c = search rules
 
-collect_add_left : (t : ℕ) → collect-lts.Need-overflow-add-left (
+collect_add_left : (t : ℕ) → collect-lts.Need-overflow_add-left (
   mul-takes-reads.Asked,
   mul-takes-reads.Learnt,
   one_term_below t,
@@ -233,7 +233,7 @@ collect_returns t c =
     let r = c.before.before.before.before.before.before.args in walk_done r.arities.now r.src.now r.spans.now r.powers.now r.n
     r.at r.k r.minus _ _ _ _ _ c.before.loop.invariant c.loop-test.false _ refl refl
 
-one_term_way_there_requires : (t : ℕ) → one-term-lts.Need-way-there-requires (
+one_term_way_there_requires : (t : ℕ) → one-term-lts.Need-way_there-requires (
   way-there-reads.Asked,
   way-there-reads.Learnt,
   collect_below t,
@@ -246,7 +246,7 @@ one_term_way_there_requires : (t : ℕ) → one-term-lts.Need-way-there-requires
 one_term_way_there_requires t c κs =
     let J = c.before.before.before.requires.1 in (_, J.1, J.2.one)
 
-one_term_enum_known_c : (t : ℕ) → one-term-lts.Need-enum-known-c (
+one_term_enum_known_c : (t : ℕ) → one-term-lts.Need-enum_known-c (
   way-there-reads.Asked,
   way-there-reads.Learnt,
   collect_below t,
@@ -287,7 +287,7 @@ one_term_collect_requires t c κs =
     let r = c9.args in turn_asks r.arities.now r.src.now r.spans.now r.powers.now r.n r.at r.minus c3.c2.given.0.0
     c3.c2.given.0.1.0 (sym c5.way-there.ensures ∙ c3.c2.given.1) t c9.requires.0 c9.requires.1
 
-one_term_enum_known_e : (t : ℕ) → one-term-lts.Need-enum-known-e (
+one_term_enum_known_e : (t : ℕ) → one-term-lts.Need-enum_known-e (
   way-there-reads.Asked,
   way-there-reads.Learnt,
   collect_below t,
@@ -328,7 +328,7 @@ one_term_enum_told : (t : ℕ) → one-term-lts.Need-enum-told (
 ) (one_term_at t) one_term_lem.Post
 one_term_enum_told t c = search rules
 
-one_term_enter_at_requires : (t : ℕ) → one-term-lts.Need-enter-at-requires (
+one_term_enter_at_requires : (t : ℕ) → one-term-lts.Need-enter_at-requires (
   way-there-reads.Asked,
   way-there-reads.Learnt,
   collect_below t,

@@ -1,0 +1,20 @@
+-- The invariant is that j rules are read up to i and each earlier place is that of its rule; a turn enters one place.
+use borrow.Author.Rules.{rules}
+use Rattle.protocol.specs.Index.Fill.{places_more, places_end}
+use Rattle.protocol.specs.Protocol.{Rule, empty_rule, rule}
+use Rattle.number.specs.Reading.Many.{Came, came_none, came_more, came_stop}
+use Rattle.number.specs.Reading.Laws.{cut_seen, cut_fault}
+use mathlib.Core.Path.{◌≡◌, sym, ◌∙◌, subst}
+use mathlib.Core.Bool.{false}
+use Prim.Native.Nat.{ℕ, ◌-◌, ◌≤◌, ◌<◌}
+use lib.ListN.{length, get_or, length-set}
+use native.Mathlib.Omega.{arith}
+use Rattle.protocol.proofs.index.rules_from.Given as goal
+
+abbrev pub invariant-loop-j : goal.invariant-loop-j
+invariant-loop-j l =
+    (l.j ≤ l.n) × (length l.places ≡ length l.initial.places) × ((k : ℕ) → k < l.j → Came (rule l.file l.arities l.ars) l.at k (get_or l.places k 0)) × Came (rule l.file l.arities l.ars) l.at l.j l.i
+
+abbrev pub decreases-loop-j : goal.decreases-loop-j
+decreases-loop-j l =
+    l.n - l.j

@@ -1,0 +1,34 @@
+-- A count that reads, or a fault: the two cases of `counted`.
+use Rattle.protocol.specs.Index.{Tabled}
+use Rattle.protocol.specs.Index.Fill.{told_as}
+use Rattle.protocol.specs.Protocol.{own}
+use Rattle.number.specs.Reading.Many.{counted_got, counted_fault}
+use Rattle.number.specs.Reading.Numbers.{below_inside}
+use Rattle.number.specs.Reading.{as_read}
+use mathlib.Core.Path.{ap, sym, ◌∙◌}
+use native.Mathlib.Omega.{arith}
+use borrow.Author.Rules.{rules}
+use Rattle.protocol.proofs.index.symbols.Goals as goal
+
+pub symbols_from-requires : goal.symbols_from-requires
+symbols_from-requires c = (
+  omega (arith, (below_inside _ _ _ (λ i. (c.type_inv.file i).fits) _ _ (sym c.below.ensures ∙ ap as_read c.in-Value.is)).small),
+  search
+      rules,
+  search rules,
+)
+
+pub returns-in-Value : goal.returns-in-Value
+returns-in-Value c =
+    record {
+      kept = search rules;
+      told = told_as _ _ (Tabled c.symbols_from.new.ars c.symbols_from.new.flags) c.symbols_from.result
+          (counted_got _ (own c.args.file.now) 32 _ _ _ (sym c.below.ensures ∙ ap as_read c.in-Value.is)) c.symbols_from.ensures.told;
+    }
+
+pub returns-in-Fault : goal.returns-in-Fault
+returns-in-Fault c = record {
+  kept = search rules;
+  told = counted_fault _ (own c.args.file.now) 32 _
+      (sym c.below.ensures ∙ ap as_read c.in-Fault.is);
+}

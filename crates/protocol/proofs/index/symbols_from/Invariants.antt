@@ -1,0 +1,17 @@
+-- The invariant is that j own symbols are read and stand in both tables behind the four built-in ones; each turn adds one.
+use borrow.Author.Rules.{rules}
+use Rattle.protocol.specs.Index.Fill.{Owned, as_own, own_begins, own_more, own_small}
+use Rattle.number.specs.Reading.Many.{many_stop, many_length}
+use mathlib.Core.Path.{◌≡◌, ap, sym, ◌∙◌, subst}
+use Prim.Native.Nat.{ℕ, ◌+◌, ◌-◌, ◌≤◌, ◌<◌}
+use lib.ListN.{length, length-set}
+use native.Mathlib.Omega.{arith}
+use Rattle.protocol.proofs.index.symbols_from.Given as goal
+
+abbrev pub invariant-loop-j : goal.invariant-loop-j
+invariant-loop-j l =
+    (l.j ≤ l.n) × (length l.ars ≡ length l.initial.ars) × (length l.flags ≡ length l.initial.flags) × Owned l.file l.at l.j l.i l.ars l.flags
+
+abbrev pub decreases-loop-j : goal.decreases-loop-j
+decreases-loop-j l =
+    l.n - l.j

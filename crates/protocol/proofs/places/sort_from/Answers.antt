@@ -1,0 +1,16 @@
+-- Behind v sorts stands the sort of variable v.
+use Rattle.protocol.specs.Places.Ends.{from_got, from_none}
+use Rattle.protocol.specs.Places.{value_of}
+use Rattle.number.specs.Reading.{as_read}
+use mathlib.Core.Path.{ap, sym, ◌∙◌}
+use borrow.Author.Rules.{rules}
+use Rattle.protocol.proofs.places.sort_from.Goals as goal
+
+pub returns-in-Value : goal.returns-in-Value
+returns-in-Value c =
+    c.value_below.ensures ∙ sym (ap value_of (from_got _ _ _ (sym c.sorts_end.ensures ∙ ap as_read
+    c.in-Value.is)))
+
+pub returns-in-Fault : goal.returns-in-Fault
+returns-in-Fault c =
+    sym (ap value_of (from_none _ _ _ (sym c.sorts_end.ensures ∙ ap as_read c.in-Fault.is)))

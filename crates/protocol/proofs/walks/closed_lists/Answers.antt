@@ -1,0 +1,31 @@
+-- A variable from n on is met or not: the two answers of the walk decide whether the lists are closed.
+use Rattle.number.specs.Groups.{number_limit}
+use Rattle.protocol.specs.Protocol.Walks.{closed, parts_closed, parts_by}
+use Rattle.protocol.specs.Protocol.{facts}
+use Rattle.number.specs.Reading.{many}
+use Rattle.number.specs.declared.Seen.TheVariants as sn
+use Rattle.lists.specs.Choice.{pick}
+use mathlib.Core.Path.{ap, sym, ◌∙◌}
+use mathlib.Core.Bool.{Bool, false}
+use borrow.Author.Rules.{rules}
+use Rattle.protocol.proofs.walks.closed_lists.Goals as goal
+
+pub returns-then-h : goal.returns-then-h
+unfolding number_limit
+returns-then-h c =
+    ap (λ (b : Bool). pick b sn.Fault (sn.End c.in-End.e false)) (sym c.if-h.true) ∙ parts_by c.args.n
+    (many (facts c.args.file.now c.args.arities.now c.args.ars.now) 3 c.args.at) c.some_lists.ensures _ _
+    c.in-End.is
+
+pub returns-else-h : goal.returns-else-h
+unfolding number_limit
+returns-else-h c =
+    ap (λ (b : Bool). pick b sn.Fault (sn.End c.in-End.e false)) (sym c.if-h.false) ∙ parts_by c.args.n
+    (many (facts c.args.file.now c.args.arities.now c.args.ars.now) 3 c.args.at) c.some_lists.ensures _ _
+    c.in-End.is
+
+pub returns-in-Fault : goal.returns-in-Fault
+unfolding number_limit
+returns-in-Fault c =
+    ap closed (sym c.in-Fault.is) ∙ parts_closed c.args.n (many (facts c.args.file.now c.args.arities.now c.args.ars.now) 3
+    c.args.at) c.some_lists.ensures

@@ -1,0 +1,22 @@
+-- The kind tells which test of the fact it is: of its terms, as walked, or of its symbol, as computed.
+use Rattle.protocol.specs.Protocol.Walks.{from_leaves, from_symbol, from_none}
+use mathlib.Core.Path.{sym, ◌∙◌}
+use native.Mathlib.Omega.{arith}
+use borrow.Author.Rules.{rules}
+use Rattle.protocol.proofs.walks.fact_from.Goals as goal
+
+pub overflow_cast-ars : goal.overflow_cast-ars
+overflow_cast-ars c =
+    omega (arith, c.type_inv.ars c.args.y)
+
+pub returns-then-kind-lt-SYMBOL_KIND : goal.returns-then-kind-lt-SYMBOL_KIND
+returns-then-kind-lt-SYMBOL_KIND c =
+    from_leaves _ _ _ _ _ _ _ _ c.if-kind-lt-SYMBOL_KIND.true (sym c.in-End.is ∙ c.rule_terms.ensures)
+
+pub returns-else-kind-lt-SYMBOL_KIND : goal.returns-else-kind-lt-SYMBOL_KIND
+returns-else-kind-lt-SYMBOL_KIND c =
+    from_symbol _ _ _ _ _ _ _ _ c.if-kind-lt-SYMBOL_KIND.false (sym c.in-End.is ∙ c.rule_terms.ensures)
+
+pub returns-in-Fault : goal.returns-in-Fault
+returns-in-Fault c =
+    from_none _ _ _ _ _ _ _ _ (sym c.in-Fault.is ∙ c.rule_terms.ensures)

@@ -1,0 +1,16 @@
+-- The lists behind the sorts are walked; a fault in the sorts is the rule's.
+use Rattle.protocol.specs.Protocol.Walks.{rule_asks, layout_got, layout_fault}
+use Rattle.number.specs.Reading.{seen, as_read}
+use mathlib.Core.Path.{ap, sym, ◌∙◌}
+use borrow.Author.Rules.{rules}
+use Rattle.protocol.proofs.walks.one_layout.Goals as goal
+
+pub returns-in-Value : goal.returns-in-Value
+returns-in-Value c =
+    c.some_lists.ensures ∙ sym (layout_got _ c.args.arities.now c.args.ars.now _ c.args.kind c.args.lo c.args.hi
+    (sym c.sorts_at.ensures ∙ ap as_read c.in-Value.is))
+
+pub returns-in-Fault : goal.returns-in-Fault
+returns-in-Fault c =
+    sym (ap (seen (rule_asks c.args.kind c.args.lo c.args.hi)) (layout_fault _ c.args.arities.now c.args.ars.now _
+    (sym c.sorts_at.ensures ∙ ap as_read c.in-Fault.is)))

@@ -1,0 +1,17 @@
+-- A count, then that many facts: the two cases of `counted`.
+use Rattle.protocol.specs.Protocol.Walks.{asks, facts_got, facts_fault}
+use Rattle.number.specs.Reading.{seen, as_read}
+use Rattle.lists.specs.Lists.{any_by}
+use mathlib.Core.Path.{ap, sym, ◌∙◌}
+use borrow.Author.Rules.{rules}
+use Rattle.protocol.proofs.walks.one_list.Goals as goal
+
+pub returns-in-Value : goal.returns-in-Value
+returns-in-Value c =
+    c.some_facts.ensures ∙ sym (ap (seen (any_by (asks c.args.kind c.args.lo c.args.hi)))
+    (facts_got _ c.args.arities.now c.args.ars.now _ (sym c.below.ensures ∙ ap as_read c.in-Value.is)))
+
+pub returns-in-Fault : goal.returns-in-Fault
+returns-in-Fault c =
+    sym (ap (seen (any_by (asks c.args.kind c.args.lo c.args.hi))) (facts_fault _ c.args.arities.now c.args.ars.now _
+    (sym c.below.ensures ∙ ap as_read c.in-Fault.is)))

@@ -1,0 +1,14 @@
+-- A count of variables, then their sorts; a fault of the count is the fault of both.
+use Rattle.protocol.specs.Protocol.Walks.{sorts_got, sorts_fault}
+use Rattle.number.specs.Reading.{as_read}
+use mathlib.Core.Path.{ap, sym, ◌∙◌}
+use borrow.Author.Rules.{rules}
+use Rattle.protocol.proofs.walks.sorts_at.Goals as goal
+
+pub returns-in-Value : goal.returns-in-Value
+returns-in-Value c =
+    c.sorts_end.ensures ∙ sym (sorts_got _ _ (sym c.below.ensures ∙ ap as_read c.in-Value.is))
+
+pub returns-in-Fault : goal.returns-in-Fault
+returns-in-Fault c =
+    sym (sorts_fault _ _ (sym c.below.ensures ∙ ap as_read c.in-Fault.is))
