@@ -37,7 +37,7 @@ fn hit_of(r: Seen) -> bool
 }
 
 // A rule: its place, and those of its lists.
-#[derive(Drop)]
+#[derive(Clone, Copy)]
 pub struct RulePlaces {
     pub at: usize,
     pub premises: usize,

@@ -177,7 +177,7 @@ module _ (arities : List ℕ) where
       where
         by_test : (b : Bool) {x y : Rule} → RuleWithin arities (fact_arities os) x → RuleWithin arities (fact_arities os) y → RuleWithin arities (fact_arities os)
             (pick b x y)
-        by_test b {x} {y} p q = elim b [ true ↦ p | false ↦ q ]
+        by_test b {x} {y} p q = elim b as (λ k. RuleWithin arities (fact_arities os) (pick k x y)) [ true ↦ p | false ↦ q ]
 
     -- of any arity that leaves no more premises than a list may have
     pub applies_within : (t k : ℕ) → arity arities t ≡ some k → t < 256 → k ≤ 8 → RuleWithin arities (fact_arities os) (applies t k)

@@ -1,0 +1,19 @@
+-- The invariant is that none of the first j rules is unfit, so the first that rule_fits denies is the least.
+use borrow.Author.Rules.{rules}
+use Rattle.rules.specs.Fit.Laws.{unfit, placed_fits}
+use Rattle.lists.specs.Below.{least_none, least_more, least_hit, least}
+use Rattle.protocol.specs.Index.{Placed}
+use Rattle.protocol.specs.Protocol.{Rule, empty_rule, rule}
+use mathlib.Core.Path.{◌≡◌, ap, sym, ◌∙◌}
+use mathlib.Core.List.{List}
+use Prim.Native.Nat.{◌-◌, ◌≤◌}
+use native.Mathlib.Omega.{arith}
+use Rattle.rules.proofs.fit.least_unfit.Given as goal
+
+abbrev pub invariant-loop-j : goal.invariant-loop-j
+invariant-loop-j l =
+    (l.j ≤ l.n) × ((rs : List Rule) → Placed (rule l.file l.arities l.ars) empty_rule l.places rs l.n → least (unfit rs) l.j ≡ 0)
+
+abbrev pub decreases-loop-j : goal.decreases-loop-j
+decreases-loop-j l =
+    l.n - l.j
