@@ -1,0 +1,21 @@
+-- The invariant is that the first i flags are turned and spliced in; each turn adds one.
+use borrow.Author.Rules.{rules}
+use Rattle.prepared.specs.Filling.Lists.{linear_more}
+use Rattle.prepared.specs.Prepared.{linear}
+use Rattle.octets.specs.Splice.Laws.{splice_nil}
+use Rattle.octets.specs.Splice.{splice}
+use lib.Seq.{take_all}
+use lib.ListN.{length, take, length-set}
+use native.Mathlib.Omega.{arith}
+use Prim.Native.Nat.{ℕ, ◌-◌, ◌≤◌}
+use mathlib.Core.List.{List, map}
+use mathlib.Core.Path.{◌≡◌, ap, sym, ◌∙◌}
+use Rattle.prepared.proofs.filling.linears_into.Given as goal
+
+abbrev pub invariant-loop-i : goal.invariant-loop-i
+invariant-loop-i l =
+    (l.i ≤ length l.flags) × (length l.out ≡ length l.initial.out) × (l.out ≡ splice l.initial.out 0 (map linear (take l.i l.flags)))
+
+abbrev pub decreases-loop-i : goal.decreases-loop-i
+decreases-loop-i l =
+    length l.flags - l.i

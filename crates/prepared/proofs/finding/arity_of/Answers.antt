@@ -1,0 +1,11 @@
+-- The byte at a place of the slice is the element of the section that begins before it.
+use Rattle.prepared.specs.Prepared.Laws.{part_at}
+use Rattle.prepared.specs.Sections.{arities_at}
+use Rattle.protocol.specs.Figures.{symbol_count}
+use mathlib.Core.Path.{sym, ◌∙◌}
+use borrow.Author.Rules.{rules}
+use Rattle.prepared.proofs.finding.arity_of.Goals as goal
+
+pub returns : goal.returns
+returns c =
+    c.wide.ensures.0 ∙ sym (part_at c.args.p.now arities_at symbol_count c.args.symbol c.requires.0)
