@@ -11,11 +11,11 @@ hinted-h-requires c =
 
 pub offset_bounds-powers-h : goal.offset_bounds-powers-h
 offset_bounds-powers-h c =
-    let f = enter_few _ _ _ _ _ _ c.before.before.before.before.before.before.requires.2 in omega (arith, c.if-h-n.true)
+    let f = enter_few _ _ _ _ _ _ c.requires.2 in omega (arith, c.if-h-n.true)
 
 pub slice_copy_out-k : goal.slice_copy_out-k
 slice_copy_out-k c =
-    let f = enter_few _ _ _ _ _ _ c.before.before.before.before.before.before.requires.2 in omega (arith, c.if-h-n.true)
+    let f = enter_few _ _ _ _ _ _ c.requires.2 in omega (arith, c.if-h-n.true)
 
 pub overflow_add-v : goal.overflow_add-v
 overflow_add-v c =
@@ -23,15 +23,15 @@ overflow_add-v c =
 
 pub offset_bounds-powers-h-then-h-n : goal.offset_bounds-powers-h-then-h-n
 offset_bounds-powers-h-then-h-n c =
-    let f = enter_few _ _ _ _ _ _ c.before.before.before.before.before.before.before.requires.2 in omega (arith, c.if-h-n.true)
+    let f = enter_few _ _ _ _ _ _ c.requires.2 in omega (arith, c.if-h-n.true)
 
 pub bounds-powers-h : goal.bounds-powers-h
 bounds-powers-h c =
-    let f = enter_few _ _ _ _ _ _ c.before.before.before.before.before.before.before.requires.2 in omega (arith, c.if-h-n.true)
+    let f = enter_few _ _ _ _ _ _ c.requires.2 in omega (arith, c.if-h-n.true)
 
 pub overflow_add-result : goal.overflow_add-result
 overflow_add-result c =
-    let f = enter_few _ _ _ _ _ _ c.before.before.before.before.before.before.before.requires.2 in omega (arith, c.if-h-n.true)
+    let f = enter_few _ _ _ _ _ _ c.requires.2 in omega (arith, c.if-h-n.true)
 
 pub returns-then-h-n : goal.returns-then-h-n
 returns-then-h-n c =

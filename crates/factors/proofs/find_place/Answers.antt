@@ -1,81 +1,75 @@
 -- The invariant is that the entries below lo come before the key and those from hi on behind it; the entries ascend, so each look narrows that.
 use borrow.Author.Rules.{rules}
-use Prim.Native.Nat.{◌+◌, ◌-◌, ◌*◌, ◌≤◌, ◌<◌}
+use Prim.Native.Nat.{ℕ, ◌+◌, ◌-◌, ◌*◌, ◌≤◌, ◌<◌}
 use native.Mathlib.Omega.{arith}
 use mathlib.Core.Logic.{⊎_elim}
 use Rattle.factors.proofs.EnterPaths.{Between, between_all, found_between, found_same, Narrowed, narrowed_less, narrowed_greater}
 use Rattle.factors.proofs.find_place.Goals as goal
+use Rattle.factors.proofs.find_place.Goals.{in-Less, in-Greater}
 
 -- the entry that is looked at is one of the table
-
-looked : (c : tie.In-loop invariant-loop decreases-loop) → c.before.loop.j < c.before.before.before.before.before.before.args.n
-looked c =
-    let l = c.before.loop.invariant.1 c.loop-test.true in omega (arith, c.before.loop.invariant.0.high)
-
--- whichever way the look went
-
-narrowed :
-    (c : tie.After-row-known2 invariant-loop decreases-loop) →
-    let m = c.before.before.match in
-    let l = c.before.before.before.before.before.before.before.loop in
-    let r = c.before.before.before.before.before.before.before.before.before.before.before.before.args in
-    Narrowed r.key.now r.src.now r.spans.now r.n l.lo l.hi m.lo m.hi
-narrowed c =
-    let c3 = c.before.before.before in
-    let c6 = c3.before.before.before in
-    let c12 = c6.before.before.before.before.before.before in
-    let r = c12.args in
-    let I = c6.before.loop.invariant in
-    let l = I.1 c6.loop-test.true in
-    ⊎_elim
-    (λ w. narrowed_less r.key.now r.src.now r.spans.now r.n c12.requires.2 _ (looked c6) _ c3.compare-at.ensures _ _ I.0 l.0 l.1
-    w.1.given.1 _ _ w.2 w.3)
-    (λ w. narrowed_greater r.key.now r.src.now r.spans.now r.n c12.requires.2 _ (looked c6) _ c3.compare-at.ensures _ _ I.0 l.0 l.1
-    w.1.given.1 _ _ w.2 w.3)
-    c.before.before.match.branch
+looked : (lo hi j n : ℕ) → (lo < hi → (lo ≤ j) × (j < hi)) → hi ≤ n → lo < hi → j < n
+looked lo hi j n i h l =
+    let p : (lo ≤ j) × (j < hi) = i l in omega arith
 
 pub loop-lo-init : goal.loop-lo-init
 loop-lo-init c =
     (between_all _ _ _ _, λ h. (omega arith, c.first_look-j.ensures h))
 
 pub overflow_mul-a : goal.overflow_mul-a
-overflow_mul-a c = omega (arith, looked c)
+overflow_mul-a c = omega (arith, looked _ _ _ _ c.loop-lo.invariant.1 c.loop-lo.invariant.0.high c.loop-lo-test.true)
 
 pub offset_bounds-spans-j : goal.offset_bounds-spans-j
-offset_bounds-spans-j c = omega (arith, looked c)
+offset_bounds-spans-j c = omega (arith, looked _ _ _ _ c.loop-lo.invariant.1 c.loop-lo.invariant.0.high c.loop-lo-test.true)
 
 pub bounds-spans-j : goal.bounds-spans-j
-bounds-spans-j c = omega (arith, looked c)
+bounds-spans-j c = omega (arith, looked _ _ _ _ c.loop-lo.invariant.1 c.loop-lo.invariant.0.high c.loop-lo-test.true)
 
 pub overflow_cast-a : goal.overflow_cast-a
 overflow_cast-a c =
     omega (arith, c.type_inv.spans (2 * c.loop-lo.j))
 
 pub overflow_mul-e : goal.overflow_mul-e
-overflow_mul-e c = omega (arith, looked c)
+overflow_mul-e c = omega (arith, looked _ _ _ _ c.loop-lo.invariant.1 c.loop-lo.invariant.0.high c.loop-lo-test.true)
 
 pub overflow_add-e : goal.overflow_add-e
-overflow_add-e c = omega (arith, looked c)
+overflow_add-e c = omega (arith, looked _ _ _ _ c.loop-lo.invariant.1 c.loop-lo.invariant.0.high c.loop-lo-test.true)
 
 pub offset_bounds-spans-j-in-loop-lo : goal.offset_bounds-spans-j-in-loop-lo
-offset_bounds-spans-j-in-loop-lo c = omega (arith, looked c)
+offset_bounds-spans-j-in-loop-lo c = omega (arith, looked _ _ _ _ c.loop-lo.invariant.1 c.loop-lo.invariant.0.high c.loop-lo-test.true)
 
 pub bounds-spans-j-in-loop-lo : goal.bounds-spans-j-in-loop-lo
-bounds-spans-j-in-loop-lo c = omega (arith, looked c)
+bounds-spans-j-in-loop-lo c = omega (arith, looked _ _ _ _ c.loop-lo.invariant.1 c.loop-lo.invariant.0.high c.loop-lo-test.true)
 
 pub overflow_cast-e : goal.overflow_cast-e
 overflow_cast-e c =
     omega (arith, c.type_inv.spans (2 * c.loop-lo.j + 1))
 
 pub compare_at-requires : goal.compare_at-requires
-compare_at-requires c = c.requires.1 _ (looked c)
+compare_at-requires c = c.requires.1 _ (looked _ _ _ _ c.loop-lo.invariant.1 c.loop-lo.invariant.0.high c.loop-lo-test.true)
 
 pub returns-in-Equal : goal.returns-in-Equal
 returns-in-Equal c =
-    found_same _ _ _ _ c.requires.2 _ (looked c) _ c.compare_at.ensures c.in-Equal.is
+    found_same _ _ _ _ c.requires.2 _ (looked _ _ _ _ c.loop-lo.invariant.1 c.loop-lo.invariant.0.high c.loop-lo-test.true) _ c.compare_at.ensures c.in-Equal.is
 
 pub overflow_add-lo : goal.overflow_add-lo
-overflow_add-lo c = omega (arith, looked c)
+overflow_add-lo c = omega (arith, looked _ _ _ _ c.loop-lo.invariant.1 c.loop-lo.invariant.0.high c.loop-lo-test.true)
+
+-- whichever way the look went
+narrowed :
+    (c : goal.After-row_known-in-loop-lo-1) →
+    Narrowed c.args.key.now c.args.src.now c.args.spans.now c.args.n c.loop-lo.lo c.loop-lo.hi c.match-compare_at.lo c.match-compare_at.hi
+narrowed c =
+    let r = c.args in
+    let I = c.loop-lo.invariant in
+    let l : (c.loop-lo.lo ≤ c.loop-lo.j) × (c.loop-lo.j < c.loop-lo.hi) = I.1 c.loop-lo-test.true in
+    let j : c.loop-lo.j < r.n = omega (arith, I.0.high) in
+    elim c.match-compare_at.branch [
+      | in-Less w ↦ narrowed_less r.key.now r.src.now r.spans.now r.n c.requires.2 _ j _ c.compare_at.ensures _ _ I.0 l.0 l.1
+          w.in-Less.is _ _ w.lo-is w.hi-is
+      | in-Greater w ↦ narrowed_greater r.key.now r.src.now r.spans.now r.n c.requires.2 _ j _ c.compare_at.ensures _ _ I.0 l.0 l.1
+          w.in-Greater.is _ _ w.lo-is w.hi-is
+    ]
 
 pub overflow_sub-j : goal.overflow_sub-j
 overflow_sub-j c = (narrowed c).between.low

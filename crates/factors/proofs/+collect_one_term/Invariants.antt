@@ -1,0 +1,27 @@
+-- Together, the slice that is left falling: what is gathered and the pending terms' factors are all the terms' factors, and a turned sign negates.
+use borrow.Author.Rules.{rules}
+use Rattle.factors.proofs.CollectPaths.{on_gone, turn_asks, turn_gone, leaf_gone, factor_gone, Walk}
+use Rattle.factors.proofs.CollectPaths.{walk_first, walk_done, term_asks, walk_inside, walk_more, walk_next, mul_more, mul_next}
+use Rattle.factors.proofs.EnterPaths.{leaf_asks, leaf_entered}
+use lib.ListN.{length}
+use mathlib.Core.Path.{refl, sym, ◌∙◌}
+use native.Mathlib.Omega.{arith}
+use Prim.Native.Nat.{◌-◌, ◌+◌, ◌*◌, ℕ, ◌<◌}
+use Prim.Native.Nat.{ℕ, ◌<◌}
+use Rattle.factors.proofs.+collect_one_term.Given as goal
+
+abbrev pub decreases-collect : goal.decreases-collect
+decreases-collect l =
+    2 * (length l.src.now - l.at) + 1
+
+abbrev pub decreases-one_term : goal.decreases-one_term
+decreases-one_term l =
+    2 * (length l.src.now - l.at)
+
+abbrev pub invariant-collect-loop-left : goal.invariant-collect-loop-left
+invariant-collect-loop-left l =
+    Walk l.arities l.src l.initial.spans l.initial.powers l.n l.at l.k l.minus l.spans l.powers l.m l.i l.left
+
+abbrev pub decreases-collect-loop-left : goal.decreases-collect-loop-left
+decreases-collect-loop-left l =
+    length l.src - l.i
