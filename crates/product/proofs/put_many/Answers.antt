@@ -1,0 +1,58 @@
+-- The invariant is that i copies are written up to p; the source lies before them, so it is not touched.
+use borrow.Author.Rules.{rules}
+use Rattle.product.proofs.PutPaths.{many_first, many_room, many_behind, many_more}
+use Rattle.product.specs.Chain.{repeated}
+use Rattle.product.specs.Writing.{bytes_in}
+use Rattle.octets.specs.Splice.Prefix.{Wrote}
+use Prim.Native.Nat.{◌≤◌, ◌-◌}
+use native.Mathlib.Omega.{arith}
+use mathlib.Core.Path.{◌≡◌, refl, sym, ◌∙◌}
+use lib.ListN.{length, length-set}
+use Rattle.product.proofs.put_many.Goals as goal
+
+pub loop-i-init : goal.loop-i-init
+loop-i-init c =
+    let r = c.args in (refl, omega arith, many_first r.out.now r.o r.a r.e r.m c.requires)
+
+pub bounds-out-p : goal.bounds-out-p
+bounds-out-p c =
+    let r = c.args in let z = many_room r.out.now r.o r.a r.e r.m c.requires _ _ _ c.loop-i.invariant c.loop-i-test.true in omega arith
+
+pub overflow_add-p : goal.overflow_add-p
+overflow_add-p c =
+    let r = c.args in let z = many_room r.out.now r.o r.a r.e r.m c.requires _ _ _ c.loop-i.invariant
+    c.loop-i-test.true in omega arith
+
+pub copy_within-requires : goal.copy_within-requires
+copy_within-requires c =
+    let r = c.args in let z = many_room r.out.now r.o r.a r.e r.m c.requires _ _ _ c.loop-i.invariant
+    c.loop-i-test.true in let y = many_behind r.out.now r.o r.a r.e r.m c.requires _ _ _ c.loop-i.invariant
+    c.loop-i-test.true in
+    (rw length-set (omega (arith, c.requires.0, c.requires.1)), rw length-set z)
+
+pub overflow_add-p-in-loop-i : goal.overflow_add-p-in-loop-i
+overflow_add-p-in-loop-i c =
+    let r = c.args in let z = many_room r.out.now r.o r.a r.e r.m c.requires _ _ _ c.loop-i.invariant c.loop-i-test.true in omega
+    (arith, c.copy_within.auto)
+
+pub overflow_add-p-in-loop-i-2 : goal.overflow_add-p-in-loop-i-2
+overflow_add-p-in-loop-i-2 c =
+    let r = c.args in let z = many_room r.out.now r.o r.a r.e r.m c.requires _ _ _ c.loop-i.invariant c.loop-i-test.true in omega
+    (arith, c.copy_within.auto)
+
+pub loop-i-preserved : goal.loop-i-preserved
+loop-i-preserved c =
+    let r = c.args in (
+      c.copy_within.auto.out ∙ length-set c.loop-i.out c.loop-i.p 12 ∙ c.loop-i.invariant.0,
+      omega arith,
+      many_more r.out.now r.o r.a r.e r.m c.requires _ _ _ c.loop-i.invariant c.loop-i-test.true _ _ refl
+          c.copy_within.ensures,
+    )
+
+pub shape_of-out : goal.shape_of-out
+shape_of-out c =
+    c.loop-i.invariant.0
+
+pub returns : goal.returns
+returns c =
+    let z : c.loop-i.i ≡ c.args.m = omega arith in rw (sym z) c.loop-i.invariant.2
