@@ -86,10 +86,10 @@ none_done arities vals starts src at k around out o z θ nil J = record { read =
 none_done arities vals starts src at k around out o z θ (t & us) J = absurd (omega (arith, J.many))
 
 -- ── by the first symbol ──
-module _ (arities vals starts src : List ℕ) (at k n o : ℕ) (leaf : Bool) (tag number next : ℕ)
-    (F : Promises₂ (Here arities src at) (λ (e : ℕ) (t : Term). FirstAt t at leaf tag number next)) (more : k ≢ 0) where
+module _ (arities vals starts src : List ℕ) (at k n o : ℕ) (is_leaf : Bool) (tag number next : ℕ)
+    (F : Promises₂ (Here arities src at) (λ (e : ℕ) (t : Term). FirstAt t at is_leaf tag number next)) (more : k ≢ 0) where
   pub leaf_case :
-      (P : Terms → Type 0) (θ : ℕ → Term) (ts : Terms) → leaf ≡ true → Job arities vals starts src at k n o θ ts
+      (P : Terms → Type 0) (θ : ℕ → Term) (ts : Terms) → is_leaf ≡ true → Job arities vals starts src at k n o θ ts
       → ((kd : Kind) (us : Terms) → tag ≡ tag_of kd → next ≡ at + length (encode (leaf kd number))
       → Job arities vals starts src at k n o θ (leaf kd number & us) → P (leaf kd number & us))
       → P ts
@@ -106,7 +106,7 @@ module _ (arities vals starts src : List ℕ) (at k n o : ℕ) (leaf : Bool) (ta
       clash (cc)
 
   pub op_case :
-      (P : Terms → Type 0) (θ : ℕ → Term) (ts : Terms) → leaf ≡ false → Job arities vals starts src at k n o θ ts
+      (P : Terms → Type 0) (θ : ℕ → Term) (ts : Terms) → is_leaf ≡ false → Job arities vals starts src at k n o θ ts
       → ((args us : Terms) → count args ≡ number → next ≡ at + length (groups tag)
       → Job arities vals starts src at k n o θ (app tag args & us) → P (app tag args & us))
       → P ts
@@ -151,11 +151,11 @@ leaf_job arities vals starts src at k n o tag number θ kd us t J = record {
   room = let r = room_one arities vals starts src at k n o θ (leaf kd number) us J in omega arith;
 }
 
-module _ (arities vals starts src : List ℕ) (at k : ℕ) (out : List ℕ) (o : ℕ) (leaf : Bool) (tag number next : ℕ)
-    (F : Promises₂ (Here arities src at) (λ (e : ℕ) (t : Term). FirstAt t at leaf tag number next)) (more : k ≢ 0) (b : leaf ≡ true) where
+module _ (arities vals starts src : List ℕ) (at k : ℕ) (out : List ℕ) (o : ℕ) (is_leaf : Bool) (tag number next : ℕ)
+    (F : Promises₂ (Here arities src at) (λ (e : ℕ) (t : Term). FirstAt t at is_leaf tag number next)) (more : k ≢ 0) (b : is_leaf ≡ true) where
   pub leaf_asks : Asks₂ (Job arities vals starts src at k (length out) o) → Asks₂ (LeafJob vals starts (length out) o tag number)
   leaf_asks (θ, ts, J) =
-      leaf_case arities vals starts src at k (length out) o leaf tag number next F more
+      leaf_case arities vals starts src at k (length out) o is_leaf tag number next F more
       (λ ts. (Asks₂ (LeafJob vals starts (length out) o tag number))) θ ts b J
       (λ kd us t p J. (θ, kd, leaf_job arities vals starts src at k (length out) o tag number θ kd us t J))
 
@@ -171,7 +171,7 @@ module _ (arities vals starts src : List ℕ) (at k : ℕ) (out : List ℕ) (o :
 
     pub leaf_next : Asks₂ (Job arities vals starts src at k (length out) o) → Asks₂ (Job arities vals starts src next (k - 1) (length out₁) p)
     leaf_next (θ, ts, J) =
-        leaf_case arities vals starts src at k (length out) o leaf tag number next F more
+        leaf_case arities vals starts src at k (length out) o is_leaf tag number next F more
         (λ ts. (Asks₂ (Job arities vals starts src next (k - 1) (length out₁) p))) θ ts b J
         (λ kd us t e J. (θ, us, rest_job θ kd us t e J))
 
@@ -183,7 +183,7 @@ module _ (arities vals starts src : List ℕ) (at k : ℕ) (out : List ℕ) (o :
         o'
         (encodes ts) (encodes (mades around θ ts)))
     leaf_done around rest q out' at' o' M θ ts J =
-        leaf_case arities vals starts src at k (length out) o leaf tag number next F more
+        leaf_case arities vals starts src at k (length out) o is_leaf tag number next F more
         (λ ts. Out (o + length (encodes (subs θ ts)) + term_room) at out o out' at' o' (encodes ts) (encodes (mades around θ ts))) θ ts b J
         (λ kd us t e J.
         let d = D θ kd (leaf_job arities vals starts src at k (length out) o tag number θ kd us t J) in

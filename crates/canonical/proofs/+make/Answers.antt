@@ -1,0 +1,78 @@
+-- By the first symbol: a leaf is filled in, a function is closed over its made arguments; then the terms behind. What is left to read falls.
+use Rattle.canonical.proofs.Functions.{tag_asks, args_asks, close_asks, onward, rest_asks, op_done}
+use Rattle.canonical.proofs.Making.{none_done, ahead, leaf_asks, leaf_next, leaf_done}
+use lib.ListN.{length}
+use Prim.Native.Nat.{◌-◌, ℕ, ◌<◌}
+use mathlib.Core.Path.{refl, ◌∙◌}
+use native.Mathlib.Omega.{arith}
+use borrow.Author.Rules.{rules}
+use Prim.Native.Nat.{ℕ, ◌<◌}
+use Rattle.canonical.proofs.+make.Goals as goal
+
+pub make-returns-then-k-eq0 : goal.make-returns-then-k-eq0
+make-returns-then-k-eq0 t c =
+    none_done _ _ _ _ _ _ _ _ _ c.if-k-eq0.true
+
+pub make-put_leaf-r-requires : goal.make-put_leaf-r-requires
+make-put_leaf-r-requires t c =
+    leaf_asks _ _ _ _ _ _ c.args.out.now _ _ _ _ _ c.first-h.ensures c.if-k-eq0.false c.if-leaf.true c.requires
+
+pub make-returns-then-k-eq1 : goal.make-returns-then-k-eq1
+make-returns-then-k-eq1 t c =
+    leaf_done _ _ _ _ _ _ c.args.out.now _ _ _ _ _ c.first-h.ensures c.if-k-eq0.false c.if-leaf.true _ _ c.put_leaf-r.auto.out
+    c.put_leaf-r.ensures _ _ refl _ _ _ (none_done _ _ _ _ _ _ _ _ _ (omega (arith, c.if-k-eq1.true)))
+
+pub make-make-requires : goal.make-make-requires
+make-make-requires t c =
+    let a = ahead _ _ _ _ _ _ _ _ _ _ _ _ c.first-h.ensures c.if-k-eq0.false c.requires in (
+      omega (arith, a.0, a.1, c.requires-raw.0),
+      leaf_next _ _ _ _ _ _ c.args.out.now _ _ _ _ _ c.first-h.ensures c.if-k-eq0.false c.if-leaf.true _
+          _ c.put_leaf-r.auto.out c.put_leaf-r.ensures c.requires,
+    )
+
+pub make-returns-then-leaf : goal.make-returns-then-leaf
+make-returns-then-leaf t c =
+    leaf_done _ _ _ _ _ _ c.args.out.now _ _ _ _ _ c.first-h.ensures c.if-k-eq0.false c.if-leaf.true _ _ c.put_leaf-r.auto.out
+    c.put_leaf-r.ensures _ _ c.beside.ensures _ _ _ c.make.ensures
+
+pub make-put_number-a-requires : goal.make-put_number-a-requires
+make-put_number-a-requires t c =
+    tag_asks _ _ _ _ _ _ c.args.out.now _ _ _ _ _ c.first-h.ensures c.if-k-eq0.false c.if-leaf.false c.requires
+
+pub make-make-args-requires : goal.make-make-args-requires
+make-make-args-requires t c =
+    let a = ahead _ _ _ _ _ _ _ _ _ _ _ _ c.first-h.ensures c.if-k-eq0.false c.requires in (
+      omega (arith, a.0, a.1, c.requires-raw.0),
+      args_asks _ _ _ _ _ _ c.args.out.now _ _ _ _ _ c.first-h.ensures c.if-k-eq0.false c.if-leaf.false _
+          _ c.put_number-a.auto.out c.put_number-a.ensures c.requires,
+    )
+
+pub make-close-r-requires : goal.make-close-r-requires
+make-close-r-requires t c =
+    close_asks _ _ _ _ _ _ c.args.out.now _ _ _ _ _ c.first-h.ensures c.if-k-eq0.false c.if-leaf.false _ _ c.put_number-a.auto.out
+    c.put_number-a.ensures _ _ _ (c.make-args.auto.out ∙ c.put_number-a.auto.out) c.make-args.ensures c.requires
+
+pub make-returns-then-k-eq1-2 : goal.make-returns-then-k-eq1-2
+make-returns-then-k-eq1-2 t c =
+    op_done _ _ _ _ _ _ c.args.out.now _ _ _ _ _ c.first-h.ensures c.if-k-eq0.false c.if-leaf.false _ _ c.put_number-a.auto.out
+    c.put_number-a.ensures _ _ _ (c.make-args.auto.out ∙ c.put_number-a.auto.out) c.make-args.ensures _ _ _
+    (c.close-r.auto.out ∙ c.make-args.auto.out ∙ c.put_number-a.auto.out) c.close-r.ensures _ refl _ _ _
+    (none_done _ _ _ _ _ _ _ _ _ (omega (arith, c.if-k-eq1-2.true)))
+
+pub make-make-requires-2 : goal.make-make-requires-2
+make-make-requires-2 t c =
+    let a = ahead _ _ _ _ _ _ _ _ _ _ _ _ c.first-h.ensures c.if-k-eq0.false c.requires in let b = onward _ _ _ _ _ _ c.args.out.now _ _ _ _ _
+    c.first-h.ensures c.if-k-eq0.false c.if-leaf.false _ _ c.put_number-a.auto.out c.put_number-a.ensures _ _ _
+    (c.make-args.auto.out ∙ c.put_number-a.auto.out) c.make-args.ensures c.requires in (
+      omega (arith, a.1, b, c.requires-raw.0),
+      rest_asks _ _ _ _ _ _ c.args.out.now _ _ _ _ _ c.first-h.ensures c.if-k-eq0.false c.if-leaf.false _
+          _ c.put_number-a.auto.out c.put_number-a.ensures _ _ _ (c.make-args.auto.out ∙ c.put_number-a.auto.out) c.make-args.ensures _ _ _
+          (c.close-r.auto.out ∙ c.make-args.auto.out ∙ c.put_number-a.auto.out) c.close-r.ensures c.requires,
+    )
+
+pub make-returns : goal.make-returns
+make-returns t c =
+    op_done _ _ _ _ _ _ c.args.out.now _ _ _ _ _ c.first-h.ensures c.if-k-eq0.false c.if-leaf.false _ _ c.put_number-a.auto.out
+    c.put_number-a.ensures _ _ _ (c.make-args.auto.out ∙ c.put_number-a.auto.out) c.make-args.ensures _ _ _
+    (c.close-r.auto.out ∙ c.make-args.auto.out ∙ c.put_number-a.auto.out) c.close-r.ensures _ c.beside-2.ensures _ _ _
+    c.make-2.ensures

@@ -1,0 +1,12 @@
+-- The row is that of snd in the table of rules.
+use Rattle.canonical.proofs.Rules.{snd_row, row_asks, row_done}
+use borrow.Author.Rules.{rules}
+use Rattle.canonical.proofs.by_snd.Goals as goal
+
+pub by_rule-requires : goal.by_rule-requires
+by_rule-requires c =
+    row_asks _ _ _ _ 9 _ _ (snd_row _) c.requires
+
+pub returns : goal.returns
+returns c =
+    row_done _ _ _ _ 9 _ _ (snd_row _) _ _ c.by_rule.ensures

@@ -1,0 +1,33 @@
+-- The invariant is that what is left has the solutions that the whole has; each turn reads a byte of the patterns at least.
+use borrow.Author.Rules.{rules}
+use native.Mathlib.Omega.{arith}
+use lib.ListN.{length}
+use Prim.Native.Nat.{◌-◌}
+use Rattle.canonical.proofs.Matching.{Walked, walked_first, walked_asks, walked_ahead, walked_next, walked_none, walked_done}
+use Rattle.canonical.proofs.fits.Goals as goal
+
+pub loop-i-init : goal.loop-i-init
+loop-i-init c =
+    walked_first _ _ _ _ _ _ _
+
+pub step-requires : goal.step-requires
+step-requires c =
+    (c.loop-i-test.true, walked_asks _ _ _ _ _ _ _ _ _ _ _ c.loop-i.invariant c.requires)
+
+pub loop-i-smaller : goal.loop-i-smaller
+loop-i-smaller c =
+    let a = walked_ahead _ _ _ _ _ _ _ _ _ _ _ c.loop-i.invariant _ _ _ c.step.ensures _ _ c.in-On.is c.requires in
+    omega (arith, a, c.loop-i-test.true)
+
+pub loop-i-preserved : goal.loop-i-preserved
+loop-i-preserved c =
+    walked_next _ _ _ _ _ _ _ _ _ _ _ c.loop-i.invariant _ _ _ c.step.ensures _ _ c.in-On.is
+
+pub returns-in-Nothing : goal.returns-in-Nothing
+returns-in-Nothing c =
+    walked_none _ _ _ _ _ _ _ _ _ _ _ c.loop-i.invariant _ _ _ c.step.ensures
+    c.in-Nothing.is
+
+pub returns : goal.returns
+returns c =
+    walked_done _ _ _ _ _ _ _ _ _ _ _ c.loop-i.invariant (omega (arith, c.loop-i-test.false))
