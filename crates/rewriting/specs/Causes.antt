@@ -5,8 +5,6 @@ use Rattle.lists.specs.Lists.{◌∈◌, nth, before}
 use Rattle.rewriting.specs.Graph.{Node, Edge, into, out_of, names_of, premise_at, conclusion_at}
 use Rattle.rewriting.specs.Rewriting.{Contents, empty, Takes, Reaches}
 use Rattle.rewriting.specs.Table.{Row, row}
--- the rows as the passes find them, by a test that decides the statement
-pub mod Laws
 
 -- "name made twice", 9, "later node": node `k` makes a name that an earlier node makes.
 pub record NameTwice {Fact : Type 0} (nodes : List (Node Fact)) (k : ℕ) : Type 0 where

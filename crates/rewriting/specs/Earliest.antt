@@ -4,12 +4,6 @@ use Rattle.std.specs.Prelude.{◌≡◌, ◌⊎◌, Bool, true, List, ℕ, ◌<�
 use Rattle.std.proofs.Math.Option.{some}
 use Rattle.lists.specs.Lists.{nth, before}
 use Rattle.rewriting.specs.Graph.{Node, Place, Edge, into, out_of, premise_at, Joins}
--- places in order, and the first of a list that ascends
-pub mod Order
--- there is one such list of edges; it is accepted; it is the same by every statement that makes the same facts equal
-pub mod Laws
--- the writer draws it
-pub mod Drawn
 
 -- "nodes in order and premises in order", "the lowest node and then the lowest conclusion".
 abbrev pub Lower : Place → Place → Type 0

@@ -25,17 +25,7 @@ pub mod Checker
 -- ── what is proved ──
 -- the pass over the names finds what row 9 says
 pub mod Names
--- the nodes of an accepted graph are a run
-pub mod Runs
--- a run is drawn, and what is drawn is accepted
-pub mod Draws
 -- the passes over a graph find what rows 10 to 13 say
 pub mod Refusals
--- a graph is accepted just where no row applies
-pub mod Acceptance
--- the whole list of nodes: what the writer draws and refuses, in the table's words
-pub mod Whole
 -- an accepted graph has as many edges as premises
 pub mod Size
--- small cases, computed
-pub mod Samples

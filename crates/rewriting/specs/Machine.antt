@@ -4,7 +4,7 @@ use Rattle.std.proofs.Math.Option.{Option, none, some}
 use Rattle.lists.specs.Lists.{count_by, any_by}
 use Rattle.rewriting.specs.Facts.{Facts, count, linears, persistents}
 use Rattle.rewriting.specs.Graph.{Node, name_of}
--- What the machine's test means in counts, where it stops, and what it leaves.
+-- Where it stops, and what it leaves.
 pub mod Laws
 
 -- "Its state is a bag of linear facts, a set of persistent ones and the names made so far": the bag is how often each

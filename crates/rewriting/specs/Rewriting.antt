@@ -4,8 +4,6 @@ use Rattle.std.proofs.Math.Option.{some}
 use Rattle.lists.specs.Lists.{◌∈◌, keep_by}
 use Rattle.lists.specs.Some.{Some}
 use Rattle.rewriting.specs.Graph.{Node, name_of}
--- the machine, whose test decides the statement, runs just where the nodes are a run
-pub mod Laws
 
 -- "Its state is a bag of linear facts, a set of persistent ones and the names made so far": facts as they entered.
 pub record Contents (Fact : Type 0) : Type 0 where

@@ -7,8 +7,6 @@ use Rattle.rewriting.specs.Graph.{Node, Place, Edge, name_of}
 use Rattle.rewriting.specs.Machine.{made_already}
 use Rattle.rewriting.specs.Table.{Ruling, passed, refused, or_refuse}
 use Rattle.rewriting.specs.Places.{Placed, placed}
--- The writer finds a source for each premise just where the machine's test passes.
-pub mod Laws
 
 -- 9: the first node whose name an earlier one makes.
 module _ {Fact : Type 0} where

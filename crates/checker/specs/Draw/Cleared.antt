@@ -8,7 +8,7 @@ use Rattle.lists.specs.Lists.{first_bad}
 use Rattle.rewriting.specs.Table.{Ruling, passed, refused, Says, Ruled, and_then, or_refuse}
 use Rattle.rewriting.specs.Table.Laws.{ruled_says}
 use Rattle.rewriting.specs.Table.Passes.{less_pass, need_pass}
-use Rattle.rewriting.specs.Whole.{machine_rows}
+use Rattle.rewriting.proofs.Whole.{machine_rows}
 use Rattle.rewriting.specs.Graph.{Edge}
 use Rattle.protocol.specs.Protocol.{Protocol}
 use Rattle.steps.specs.Nodes.{Node, Reading, read, broken, no_rule}

@@ -1,14 +1,13 @@
--- What the machine's test means in counts, where it stops, and what it leaves.
-use Rattle.std.specs.Prelude.{◌≡◌, refl, ◌↔◌, true, false, not, ◌||◌, List, [], ◌∷◌, ◌++◌, ℕ, suc, ◌+◌, ◌-◌, ◌≤◌, leb, ltb}
-use Rattle.std.proofs.Common.{sym, ◌∙◌, ap, ap₂, subst, ⊎_elim, append_assoc, append-nil, arith}
+-- Where the machine stops, and what it leaves.
+use Rattle.std.specs.Prelude.{◌≡◌, refl, true, false, ◌||◌, List, [], ◌∷◌, ◌++◌, ℕ, suc, ◌+◌, ◌-◌, leb}
+use Rattle.std.proofs.Common.{sym, ◌∙◌, ap, ap₂, append_assoc, append-nil, arith}
 use Rattle.std.proofs.Math.Option.{Option, none, some, some-ne-none}
-use Rattle.lists.specs.Tests.{by_bool, true_false, not_true, not_split, zero_or_pos, leb_le, leb_gt}
-use Rattle.lists.specs.Lists.{◌∈◌, leaves, scan}
-use Rattle.lists.specs.Lists.Laws.{any_mem, any_pos, count_pos}
-use Rattle.rewriting.specs.Facts.{Facts, count, linears}
-use Rattle.rewriting.specs.Facts.Laws.{count_same, count_linears, count_persistents}
+use Rattle.lists.specs.Tests.{by_bool}
+use Rattle.lists.specs.Lists.{leaves, scan}
+use Rattle.rewriting.specs.Facts.{Facts, count}
+use Rattle.rewriting.specs.Facts.Laws.{count_linears, count_persistents}
 use Rattle.rewriting.specs.Graph.{Node, name_of, names_of}
-use Rattle.rewriting.specs.Machine.{State, start, Outcome, ran, failed, missing, lacks, fails, after, run_from, run, IsRun}
+use Rattle.rewriting.specs.Machine.{State, start, Outcome, ran, failed, fails, after, run_from, IsRun}
 
 pub failed_ran : {Fact : Type 0} (k : ℕ) (s : State Fact) → Path (Outcome Fact) (failed k) (ran s) → ⊥
 failed_ran k s e = let z : ◌≡◌ {A = ℕ} 0 1 = cc in omega arith
@@ -19,43 +18,6 @@ module _ (F : Facts) where
   -- "no nodes at all are one".
   pub empty_run : IsRun F []
   empty_run = (start, refl)
-
-  -- The state has each linear fact as often as it stands among the premises, and each persistent premise.
-  pub record Enough (s : State Fact) (ps : List Fact) : Type 0 where
-    pub linears : (f : Fact) → linear f ≡ true → count F f ps ≤ s.bag f
-    pub persistents : (p : Fact) → p ∈ ps → linear p ≡ false → s.set p ≡ true
-
-  -- The bag cannot tell same facts apart.
-  abbrev pub Respects : State Fact → Type 0
-  Respects s = (f g : Fact) → linear f ≡ true → same f g ≡ true → s.bag f ≡ s.bag g
-
-  pub lacks_enough : (s : State Fact) (ps : List Fact) → Respects s → lacks F s ps ≡ false → Enough s ps
-  lacks_enough s ps r h = record {
-    linears = λ f lf.
-        ⊎_elim
-        (λ z. omega arith)
-        (λ l.
-        let (p, m, e) = count_pos (same f) ps l in
-        let lp : linear p ≡ true = sym (same_linear f p e) ∙ lf in
-        let n : ltb (s.bag p) (count F p ps) ≡ false = rw lp at (there p m) in
-        omega (arith, leb_gt (suc (s.bag p)) (count F p ps) n, r f p lf e, count_same F f p e ps))
-        (zero_or_pos (count F f ps));
-    persistents = λ p m lp.
-        by_bool (s.set p)
-        (λ t. t)
-        (λ n. let u : not (s.set p) ≡ false = rw lp at (there p m) in true_false true refl (rw n at u));
-  }
-    where
-      there : (p : Fact) → p ∈ ps → missing F s ps p ≡ false
-      there p m = not_true _ (λ t. true_false _ (any_mem (missing F s ps) ps p m t) h)
-
-  pub enough_lacks : (s : State Fact) (ps : List Fact) → Enough s ps → lacks F s ps ≡ false
-  enough_lacks s ps h =
-      not_true _ λ t.
-      let (p, m, e) = any_pos (missing F s ps) ps t in
-      by_bool (linear p)
-      (λ lp. let n : ltb (s.bag p) (count F p ps) ≡ true = rw lp at e in omega (arith, leb_le (suc (s.bag p)) (count F p ps) n, h.linears p lp))
-      (λ lp. let n : not (s.set p) ≡ true = rw lp at e in true_false (s.set p) (h.persistents p m lp) (not_split (s.set p) n))
 
   -- What a node does to the multiplicity of a linear fact, and to a persistent one.
   module _ (s : State Fact) (x : Node Fact) (f : Fact) where
@@ -89,21 +51,3 @@ module _ (F : Facts) where
   pub made_left : (s : State Fact) (xs : List (Node Fact)) → (leaves (after F) s xs).made ≡ s.made ++ names_of xs
   made_left s [] = sym (append-nil s.made)
   made_left s (x ∷ xs) = made_left (after F s x) xs ∙ append_assoc s.made (name_of x.makes) (names_of xs)
-
-  left_respects : (s : State Fact) (xs : List (Node Fact)) → Respects s → Respects (leaves (after F) s xs)
-  left_respects s [] r = r
-  left_respects s (x ∷ xs) r =
-      left_respects (after F s x) xs (λ f g lf e. rw (
-        r f g lf e,
-        count_same F f g e (linears F x.premises),
-        count_same F f g e
-            (linears F x.conclusions),
-      ))
-
-  -- In each state that the machine reaches, the premises are lacking just where some linear fact stands more often among them
-  -- than in the bag, or some persistent one is not in the set.
-  pub lacks_exact : (nodes : List (Node Fact)) (s : State Fact) → run F nodes ≡ ran s → (ps : List Fact) → (lacks F s ps ≡ false) ↔ Enough s ps
-  lacks_exact nodes s h ps = (
-    lacks_enough s ps (subst (λ e. Respects e) (ran_left 1 start nodes s h) (left_respects start nodes (λ f g lf e. refl))),
-    enough_lacks s ps,
-  )

@@ -12,17 +12,17 @@ use Rattle.rewriting.specs.Graph as graph
 use Rattle.rewriting.specs.Graph.{Place, Edge, in_node, premise_at, conclusion_at}
 use Rattle.rewriting.specs.Graph.Laws.{Implies, accepted_as}
 use Rattle.rewriting.specs.Earliest.{Earliest}
-use Rattle.rewriting.specs.Earliest.Laws.{earliest_unique, earliest_accepted, earliest_as}
+use Rattle.rewriting.proofs.Earliest.Laws.{earliest_unique, earliest_accepted, earliest_as}
 use Rattle.rewriting.specs.Facts.{Tested}
 use Rattle.rewriting.specs.Table.{Ruling, passed, refused, Row, Absent, Ruled}
 use Rattle.rewriting.specs.Table.Laws.{RestateAll, ruled_unique, ruled_restated, ruled_good, absent_restated, restate_back}
 use Rattle.rewriting.specs.Rewriting.{Rewrites}
-use Rattle.rewriting.specs.Rewriting.Laws.{GoodNode}
-use Rattle.rewriting.specs.Rewriting.Laws as machines
+use Rattle.rewriting.proofs.Rewriting.Laws.{GoodNode}
+use Rattle.rewriting.proofs.Rewriting.Laws as machines
 use Rattle.rewriting.specs.Causes.{graph_rows, draw_rows}
-use Rattle.rewriting.specs.Causes.Laws as causes
+use Rattle.rewriting.proofs.Causes.Laws as causes
 use Rattle.rewriting.specs.Checker.{check_graph}
-use Rattle.rewriting.specs.Whole.{machine_rows}
+use Rattle.rewriting.proofs.Whole.{machine_rows}
 use Rattle.term.specs.Arity.{arity, tag_arities}
 use Rattle.protocol.specs.Figures.{premise_list, conclusion_list}
 use Rattle.protocol.specs.Protocol.{Fact, Protocol}

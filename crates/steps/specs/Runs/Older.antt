@@ -24,10 +24,10 @@ use Rattle.rewriting.specs.Graph as graph
 use Rattle.rewriting.specs.Graph.{Edge}
 use Rattle.rewriting.specs.Graph.Laws.{Implies, accepted_as}
 use Rattle.rewriting.specs.Earliest.{Earliest}
-use Rattle.rewriting.specs.Earliest.Laws.{earliest_as}
+use Rattle.rewriting.proofs.Earliest.Laws.{earliest_as}
 use Rattle.rewriting.specs.Rewriting.{Rewrites}
-use Rattle.rewriting.specs.Rewriting.Laws.{GoodNode}
-use Rattle.rewriting.specs.Rewriting.Laws as machines
+use Rattle.rewriting.proofs.Rewriting.Laws.{GoodNode}
+use Rattle.rewriting.proofs.Rewriting.Laws as machines
 use Rattle.steps.specs.Nodes.{Node, NodeWithin}
 use Rattle.steps.specs.Facts.{value_at, filled_fact, filled_list, facts_of, same_fact, Sames, is_linear}
 use Rattle.steps.specs.Facts.Formed.{FactFormed, facts_formed, formed_decides}

@@ -8,11 +8,11 @@ use Rattle.rewriting.specs.Earliest.{Earliest}
 use Rattle.rewriting.specs.Checker.{check_graph}
 use Rattle.rewriting.specs.Writer.{draw}
 use Rattle.rewriting.specs.Machine as machine
-use Rattle.rewriting.specs.Runs as runs
-use Rattle.rewriting.specs.Draws as draws
+use Rattle.rewriting.proofs.Runs as runs
+use Rattle.rewriting.proofs.Draws as draws
 use Rattle.rewriting.specs.Names as names
-use Rattle.rewriting.specs.Acceptance as acceptance
-use Rattle.rewriting.specs.Whole as whole
+use Rattle.rewriting.proofs.Acceptance as acceptance
+use Rattle.rewriting.proofs.Whole as whole
 use Rattle.rewriting.specs.Size as size
 use Rattle.protocol.specs.Protocol.{Protocol}
 use Rattle.steps.specs.Nodes.{Node}

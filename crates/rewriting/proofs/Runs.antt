@@ -12,7 +12,8 @@ use Rattle.lists.specs.Lists.Pairing.{covers, packs}
 use Rattle.rewriting.specs.Facts.{Facts, count, Tested}
 use Rattle.rewriting.specs.Graph.{Node, Place, Edge, same_place, name_of, names_of, premise_at, conclusion_at, Accepted}
 use Rattle.rewriting.specs.Machine.{State, start, ran, made_already, after, run_from, IsRun}
-use Rattle.rewriting.specs.Machine.Laws.{enough_lacks, bag_after, set_after}
+use Rattle.rewriting.specs.Machine.Laws.{bag_after, set_after}
+use Rattle.rewriting.proofs.Machine.Laws.{enough_lacks}
 use Rattle.rewriting.specs.Places.{Placed, placed, premises_from, conclusions_from, count_at, count_placed}
 use Rattle.rewriting.specs.Places.Laws.{place_eq, place_self, placed_all_mem, placed_stands, stands_placed}
 use Rattle.rewriting.specs.Places.Laws.{placed_all_once, once_apart, placed_node, placed_count}

@@ -1,6 +1,6 @@
 -- The machine whose test decides the statement, between facts that are good, runs just where nodes of good facts are a run: what is in the
 -- bag as often as the machine counts it, in the set where the machine says so.
-use Rattle.std.specs.Prelude.{◌≡◌, refl, ◌↔◌, Bool, true, false, not, ◌||◌, List, [], ◌∷◌, ◌++◌, ℕ, suc, ◌+◌, ◌-◌, ◌≤◌, leb, eqb}
+use Rattle.std.specs.Prelude.{◌≡◌, refl, ◌↔◌, Bool, true, false, not, ◌||◌, List, [], ◌∷◌, ◌++◌, ℕ, suc, ◌+◌, ◌≤◌, leb, eqb}
 use Rattle.std.proofs.Common.{sym, ◌∙◌, ap, subst, ⊎_elim, arith}
 use mathlib.Core.List.Memᴰ
 use Rattle.std.proofs.Math.Option.{Option, none, some, none-ne-some, some-injective}
@@ -14,7 +14,8 @@ use Rattle.rewriting.specs.Facts.{Facts, count, linears, persistents}
 use Rattle.rewriting.specs.Facts.Laws.{same_left, count_same, count_linears}
 use Rattle.rewriting.specs.Graph.{Node, name_of}
 use Rattle.rewriting.specs.Machine.{State, start, ran, made_already, lacks, fails, after, run_from, IsRun}
-use Rattle.rewriting.specs.Machine.Laws.{failed_ran, lacks_enough, enough_lacks}
+use Rattle.rewriting.specs.Machine.Laws.{failed_ran}
+use Rattle.rewriting.proofs.Machine.Laws.{lacks_enough, enough_lacks}
 use Rattle.rewriting.specs.Rewriting.{Contents, empty, Leaves, Takes, entered, Reaches, Rewrites}
 use Rattle.rewriting.specs.Rewriting as rewriting
 

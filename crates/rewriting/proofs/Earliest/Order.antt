@@ -1,5 +1,5 @@
 -- Places in order: one of two is lower, a list ascends, and the first of it that passes a test is the lowest that does.
-use Rattle.std.specs.Prelude.{◌≡◌, refl, ◌⊎◌, Bool, true, false, List, [], ◌∷◌, ◌++◌, map, ℕ, zero, suc, ◌+◌, ◌≤◌, ◌<◌}
+use Rattle.std.specs.Prelude.{◌≡◌, refl, ◌⊎◌, Bool, true, false, List, [], ◌∷◌, ◌++◌, map, ℕ, zero, suc, ◌≤◌, ◌<◌}
 use Rattle.std.proofs.Common.{sym, ◌∙◌, ap, ap₂, subst, ⊎_elim, inl, inr, arith}
 use mathlib.Core.List.Memᴰ
 use Rattle.std.proofs.Math.Option.{some, none-ne-some, some-injective}

@@ -10,7 +10,8 @@ use Rattle.rewriting.specs.Facts.{Facts, count}
 use Rattle.rewriting.specs.Facts.Laws.{same_left, not_same, not_same'}
 use Rattle.rewriting.specs.Graph.{Node, Place, Edge}
 use Rattle.rewriting.specs.Machine.{State, after, lacks}
-use Rattle.rewriting.specs.Machine.Laws.{Respects, enough_lacks, lacks_enough, bag_after, set_after}
+use Rattle.rewriting.specs.Machine.Laws.{bag_after, set_after}
+use Rattle.rewriting.proofs.Machine.Laws.{Respects, enough_lacks, lacks_enough}
 use Rattle.rewriting.specs.Places.{Placed, placed, count_placed}
 use Rattle.rewriting.specs.Places.Laws.{count_placed_same, placed_count}
 use Rattle.rewriting.specs.Writer.{add_edge, take_one, take_all, edges_into, free_after}

@@ -12,8 +12,8 @@ use Rattle.rewriting.specs.Graph.Laws.{Implies, joins_as}
 use Rattle.rewriting.specs.Places.{Placed, premises_from, count_at}
 use Rattle.rewriting.specs.Places.Laws.{place_eq, place_self, placed_stands, stands_placed, placed_all_once}
 use Rattle.rewriting.specs.Earliest.{Lower, Lowest, Fits, Earliest}
-use Rattle.rewriting.specs.Earliest.Order.{lowest_unique, lowest_as, Ascends, ascends_nth, nth_ascends, map_mem, mem_map, map_ascends, ascends_map}
-use Rattle.rewriting.specs.Earliest.Order.{ascends_one, place_of, all_ascends}
+use Rattle.rewriting.proofs.Earliest.Order.{lowest_unique, lowest_as, Ascends, ascends_nth, nth_ascends, map_mem, mem_map, map_ascends, ascends_map}
+use Rattle.rewriting.proofs.Earliest.Order.{ascends_one, place_of, all_ascends}
 
 abbrev pub target : Edge → Place
 target e = e.target

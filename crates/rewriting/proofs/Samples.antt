@@ -12,11 +12,11 @@ use Rattle.rewriting.specs.Table.Passes.{less_pass, need_pass}
 use Rattle.rewriting.specs.Causes.{graph_rows}
 use Rattle.rewriting.specs.Writer.{draw}
 use Rattle.rewriting.specs.Checker.{check_graph}
-use Rattle.rewriting.specs.Acceptance.{check_table, check_accepted}
+use Rattle.rewriting.proofs.Acceptance.{check_table, check_accepted}
 use Rattle.rewriting.specs.Earliest.{Earliest}
-use Rattle.rewriting.specs.Earliest.Laws.{earliest_unique}
-use Rattle.rewriting.specs.Draws.{draws_earliest}
-use Rattle.rewriting.specs.Whole.{machine_rows, draw_table}
+use Rattle.rewriting.proofs.Earliest.Laws.{earliest_unique}
+use Rattle.rewriting.proofs.Draws.{draws_earliest}
+use Rattle.rewriting.proofs.Whole.{machine_rows, draw_table}
 
 abbrev Numbers : Facts
 Numbers = record {

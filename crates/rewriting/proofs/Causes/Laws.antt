@@ -9,11 +9,11 @@ use Rattle.rewriting.specs.Graph.{Node, Edge}
 use Rattle.rewriting.specs.Graph.Laws.{Implies}
 use Rattle.rewriting.specs.Machine.{start, lacks}
 use Rattle.rewriting.specs.Rewriting.{empty}
-use Rattle.rewriting.specs.Rewriting.Laws.{GoodNode, start_like, takes_lacks, lacks_takes, machine_reaches, reaches_machine}
+use Rattle.rewriting.proofs.Rewriting.Laws.{GoodNode, start_like, takes_lacks, lacks_takes, machine_reaches, reaches_machine}
 use Rattle.rewriting.specs.Table.{row}
 use Rattle.rewriting.specs.Table.Laws.{RestateAll, as_it_stands}
 use Rattle.rewriting.specs.Causes.{NameTwice, EndMissing, FactsDiffer, NotOneEdge, UsedTwice, graph_rows, PremisesMissing, draw_rows}
-use Rattle.rewriting.specs.Whole.{Lacking, machine_rows}
+use Rattle.rewriting.proofs.Whole.{Lacking, machine_rows}
 
 -- two facts that differ do so by every statement that makes them the same
 differ_as :

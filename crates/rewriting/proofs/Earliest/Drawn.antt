@@ -14,10 +14,10 @@ use Rattle.rewriting.specs.Table.Laws.{refused_passed, passed_inj}
 use Rattle.rewriting.specs.Places.{Placed, placed, premises_from, conclusions_from}
 use Rattle.rewriting.specs.Places.Laws.{place_eq, place_self, placed_stands, stands_placed, placed_all_mem, placed_node}
 use Rattle.rewriting.specs.Writer.{add_node, take_one, take_all, edges_into, free_after, draw_from}
-use Rattle.rewriting.specs.Writer.Laws.{add_some}
+use Rattle.rewriting.proofs.Writer.Laws.{add_some}
 use Rattle.rewriting.specs.Earliest.{Earliest}
-use Rattle.rewriting.specs.Earliest.Order.{Ascends, place_of, ascends_both, placed_ascends, ascends_remove, removed_apart, kept_mem, first_lowest}
-use Rattle.rewriting.specs.Earliest.Laws.{target, Sourced, Follows, follows_append, targets_earliest}
+use Rattle.rewriting.proofs.Earliest.Order.{Ascends, place_of, ascends_both, placed_ascends, ascends_remove, removed_apart, kept_mem, first_lowest}
+use Rattle.rewriting.proofs.Earliest.Laws.{target, Sourced, Follows, follows_append, targets_earliest}
 
 count_none : {A : Type 0} (p : A → Bool) (xs : List A) → ((a : A) → a ∈ xs → p a ≡ true → ⊥) → count_by p xs ≡ 0
 count_none p xs h = ⊎_elim (λ z. z) (λ l. let (a, m, e) = count_pos p xs l in absurd (h a m e)) (zero_or_pos (count_by p xs))

@@ -16,8 +16,8 @@ use Rattle.rewriting.specs.Places.{Placed}
 use Rattle.rewriting.specs.Writer.{add_node, edges_into, free_after, draw_from, draw}
 use Rattle.rewriting.specs.Names.{already_earlier, absent_none, name_pass, run_names}
 use Rattle.rewriting.specs.Earliest.{Earliest}
-use Rattle.rewriting.specs.Earliest.Drawn.{from_earliest}
-use Rattle.rewriting.specs.Draws.{Agree, from_agrees, drawn_accepts, draws_exactly, draws_earliest, refused_no_run, refused_none}
+use Rattle.rewriting.proofs.Earliest.Drawn.{from_earliest}
+use Rattle.rewriting.proofs.Draws.{Agree, from_agrees, drawn_accepts, draws_exactly, draws_earliest, refused_no_run, refused_none}
 
 module _ (F : Facts) where
   open F use {Fact, linear}

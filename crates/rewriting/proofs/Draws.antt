@@ -11,12 +11,12 @@ use Rattle.rewriting.specs.Table.{Ruling, passed, refused}
 use Rattle.rewriting.specs.Table.Laws.{refused_passed}
 use Rattle.rewriting.specs.Places.{Placed}
 use Rattle.rewriting.specs.Writer.{name_twice_from, first_name_twice, add_node, edges_into, free_after, draw_from, draw}
-use Rattle.rewriting.specs.Writer.Laws.{Tracks, tracks_lacks, lacks_tracks, tracks_next, edges_sources, sources_edges}
+use Rattle.rewriting.proofs.Writer.Laws.{Tracks, tracks_lacks, lacks_tracks, tracks_next, edges_sources, sources_edges}
 use Rattle.rewriting.specs.Names.{twice_step, names_once, run_once}
-use Rattle.rewriting.specs.Runs.{accepted_runs}
+use Rattle.rewriting.proofs.Runs.{accepted_runs}
 use Rattle.rewriting.specs.Earliest.{Earliest}
-use Rattle.rewriting.specs.Earliest.Laws.{earliest_unique, earliest_accepted}
-use Rattle.rewriting.specs.Earliest.Drawn.{from_earliest}
+use Rattle.rewriting.proofs.Earliest.Laws.{earliest_unique, earliest_accepted}
+use Rattle.rewriting.proofs.Earliest.Drawn.{from_earliest}
 
 module _ (F : Facts) where
   open F use {Fact, linear}

@@ -1,0 +1,4 @@
+-- The machine, by theorems.
+
+-- What the machine's test means in counts.
+pub mod Laws
