@@ -22,9 +22,9 @@ for crate in above:
         text = open(path, encoding="utf8").read()
         named = [
             name
-            for name in re.findall(r"Rattle·message\.specs\.[\w.]+", text)
-            if not re.fullmatch(r"Rattle·message\.specs\.Promise\.?", name)
-        ] + re.findall(r"\bsameTerm\b", text)
+            for name in re.findall(r"Rattle\.message\.(?:specs|proofs)\.[\w.]+", text)
+            if not re.fullmatch(r"Rattle\.message\.(?:specs|proofs)\.Promise\.?", name)
+        ] + re.findall(r"\bsame_term\b", text)
         faults += [f"{os.path.relpath(path, top)} names {name}" for name in named]
 print(f"layers: {read} files of {', '.join(above)}, {len(faults)} faults")
 for fault in faults:

@@ -14,11 +14,11 @@ use Rattle.octets.specs.Splice.Prefix.{Wrote, widen}
 use Rattle.term.specs.Term.{Term, app, Terms, nil, ◌&◌, count, encode}
 use Rattle.term.specs.Arity.{arity}
 use Rattle.message.specs.Table.{rules}
-use Rattle.message.specs.Table.Laws.{Ruleless}
+use Rattle.message.proofs.Table.Laws.{Ruleless}
 use Rattle.message.specs.Functions.{exp}
 use Rattle.message.specs.Canon.{apply}
 use Rattle.message.specs.Gather.{multiplied}
-use Rattle.message.specs.Made.{made_free}
+use Rattle.message.proofs.Made.{made_free}
 use Rattle.product.specs.Asked as product
 use Rattle.product.specs.Tower.{towered}
 use Rattle.product.specs.Writing.{as_written}

@@ -20,7 +20,7 @@ use Rattle.term.specs.Arity.{arity}
 use Rattle.message.specs.Substitution.{Ground, subs}
 use Rattle.message.specs.Substitution.Laws.{sub_same}
 use Rattle.message.specs.Canon.{canon}
-use Rattle.message.specs.Theorems.{canon_is_formed}
+use Rattle.message.proofs.Theorems.{canon_is_formed}
 use Rattle.message.specs.Filled.{filled, filleds}
 use Rattle.message.specs.Filled.Laws.{filled_canon}
 use Rattle.canonical.specs.Builtins.{group}

@@ -20,9 +20,9 @@ use Rattle.message.specs.Substitution.{sub}
 use Rattle.message.specs.Functions.{enc, pair, aenc, pk, sign, yes}
 use Rattle.message.specs.Rules as message
 use Rattle.message.specs.Table.{x, y, rules}
-use Rattle.message.specs.Table.Laws.{rows_fit}
+use Rattle.message.proofs.Table.Laws.{rows_fit}
 use Rattle.message.specs.Canon.{apply}
-use Rattle.message.specs.Made.{made_rule, made_stays, made_bytes}
+use Rattle.message.proofs.Made.{made_rule, made_stays, made_bytes}
 use Rattle.factors.specs.Laid.{Laid, OneAt}
 use Rattle.factors.specs.Laid.Laws.{args_of}
 use Rattle.product.specs.Writing.{as_written}

@@ -12,15 +12,15 @@ use Rattle.message.specs.Equations.{Same, equation, reflexive, transitive, congr
 use Rattle.message.specs.Equations.Laws.{same_formed, widen}
 use Rattle.message.specs.Product.{empty, part, order}
 use Rattle.message.specs.Canonical.{Settled, Canonical, product, no_factor, factor, name, node, no_arg, arg}
-use Rattle.message.specs.Canonical.Laws.{factor_canonical, free_settled}
+use Rattle.message.proofs.Canonical.Laws.{factor_canonical, free_settled}
 use Rattle.message.specs.Rules.{Theory, tower, SameIn}
-use Rattle.message.specs.Table.Laws.{theory, tabled_twelve}
-use Rattle.message.specs.Parts.Ascending.{order_flip}
-use Rattle.message.specs.Parts.Laws.{order_eq, formed_exp}
+use Rattle.message.proofs.Table.Laws.{theory, tabled_twelve}
+use Rattle.message.proofs.Parts.Ascending.{order_flip}
+use Rattle.message.proofs.Parts.Laws.{order_eq, formed_exp}
 use Rattle.message.specs.Canon.{canon}
 use Rattle.message.specs.Canon.Views.{tag}
-use Rattle.message.specs.Canon.Group.{W, ◌⊗◌, i, rf, cg, cge, ⊗-comm, ⊗-cancel, i_i, i-⊗, i_one}
-use Rattle.message.specs.Theorems.{same_canon, canonical_stays, declared}
+use Rattle.message.proofs.Canon.Group.{W, ◌⊗◌, i, rf, cg, cge, ⊗-comm, ⊗-cancel, i_i, i-⊗, i_one}
+use Rattle.message.proofs.Theorems.{same_canon, canonical_stays, declared}
 
 -- a public and a fresh name
 abbrev pub pn : ℕ → Term

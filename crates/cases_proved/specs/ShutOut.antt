@@ -13,7 +13,7 @@ use Rattle.message.specs.Functions.{one, exp, inv, mul}
 use Rattle.message.specs.Equations.{Same}
 use Rattle.message.specs.Equations.Laws.{same_formed}
 use Rattle.message.specs.Canon.{apply}
-use Rattle.message.specs.Theorems.{same_canon, declared}
+use Rattle.message.proofs.Theorems.{same_canon, declared}
 use Rattle.rewriting.specs.Table.{Ruling, passed, refused}
 use Rattle.rewriting.specs.Table.Laws.{refused_passed}
 use Rattle.rewriting.specs.Graph.{Edge}

@@ -14,10 +14,10 @@ use Rattle.message.specs.Equations.{equation, reflexive, transitive, congruent, 
 use Rattle.message.specs.Equations.Laws.{widen}
 use Rattle.message.specs.Product.{empty, part}
 use Rattle.message.specs.Canonical.{Settled, Canonical, Canonicals, Factor, product, no_factor, factor, name, node, no_arg, arg}
-use Rattle.message.specs.Canonical.Laws.{factor_canonical, free_settled}
-use Rattle.message.specs.Table.Laws.{tabled_twelve}
+use Rattle.message.proofs.Canonical.Laws.{factor_canonical, free_settled}
+use Rattle.message.proofs.Table.Laws.{tabled_twelve}
 use Rattle.message.specs.Canon.Views.{tag}
-use Rattle.message.specs.Canon.Group.{◌⊗◌, ⊗-comm}
+use Rattle.message.proofs.Canon.Group.{◌⊗◌, ⊗-comm}
 use Rattle.cases_proved.specs.Messages.{fn, leaf_canonical, σ, Form}
 
 -- ── where neither equation applies ──

@@ -6,7 +6,8 @@ use Rattle.lists.specs.Lists.{◌∈◌}
 use Rattle.lists.specs.Lists.Laws.{mem_nth}
 use Rattle.lists.specs.All.Laws.{all_nth}
 use Rattle.octets.specs.Head.{Bytes}
-use Rattle.message.specs.Promise.{Message, SameMessage, messages}
+use Rattle.message.specs.Promise.{Message, SameMessage}
+use Rattle.message.proofs.Promise.{messages}
 use Rattle.rewriting.specs.Table.{Ruling, passed, refused, Ruled}
 use Rattle.rewriting.specs.Table.Laws.{passed_absent, passed_good}
 use Rattle.number.specs.Reading.{got}

@@ -13,7 +13,7 @@ use Rattle.term.specs.Term.{Term, Terms, nil, ◌&◌, count, encode, encodes, s
 use Rattle.term.specs.Reader.{symbol_at}
 use Rattle.message.specs.Product.{Exps}
 use Rattle.message.specs.Gather.{pour, enter, sign, pours}
-use Rattle.message.specs.Gather.Same.{asc_pour}
+use Rattle.message.proofs.Gather.Same.{asc_pour}
 use Rattle.factors.specs.declared.Filled.{Filled}
 use Rattle.factors.specs.declared.Onward.{Onward}
 use Rattle.factors.specs.declared.Way.TheVariants as way

@@ -6,7 +6,7 @@ use Rattle.octets.specs.Head.{Stands}
 use Rattle.term.specs.Term.{Term, Terms, count, encode, encodes, symbols, symbolss}
 use Rattle.message.specs.Product.{Exps}
 use Rattle.message.specs.Gather.{pour, pours}
-use Rattle.message.specs.Gather.Same.{Asc}
+use Rattle.message.specs.Gather.{Asc}
 use Rattle.factors.specs.declared.Filled.{Filled}
 use Rattle.factors.specs.declared.Onward.{Onward}
 use Rattle.factors.specs.Mass.{mass}

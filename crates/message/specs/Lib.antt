@@ -1,5 +1,5 @@
--- Messages: when they are equal, and their canonical form. What a reader must believe stands under definitions and in Promise; Theorems
--- says what is proved of it, and Promise is all that the crates graph, property and writer may use.
+-- Messages: when they are equal, and their canonical form. What a reader must believe stands under definitions and in Promise; proofs/Theorems
+-- says what is proved of it, and Promise, here and in proofs/, is all that the crates graph, property and writer may use.
 
 -- ── definitions ──
 -- the built-in functions by their names
@@ -19,21 +19,17 @@ pub mod Whole
 pub mod Encoding
 -- the equations as a table, and what is asked of its rows
 pub mod Rules
--- the rows of subterm rules, and that table, equations and words agree
+-- the rows of subterm rules
 pub mod Table
 -- a term as a product
 pub mod Parts
--- the canonical form, and the proofs about it
+-- the canonical form
 pub mod Canon
--- ── what is proved ──
--- canonical form and equality, over the definitions above
-pub mod Theorems
--- the promise to the crates above
+-- ── what is promised ──
+-- to the crates above
 pub mod Promise
 -- ── for the code ──
 -- the canonical form of a filled-in term
 pub mod Filled
 -- factors gathered from left to right
 pub mod Gather
--- what is made at each function
-pub mod Made

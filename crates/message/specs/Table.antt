@@ -6,8 +6,6 @@ use Rattle.lists.specs.Choice.{pick}
 use Rattle.term.specs.Term.{variable, Term, leaf, Terms, nil, ◌&◌}
 use Rattle.message.specs.Functions.{enc, pair, aenc, pk, sign, yes}
 use Rattle.message.specs.Rules.{Rule}
--- its rows are fit, and it agrees with the figure and with the words of the canonical form
-pub mod Laws
 
 -- a row is a function's tag, its arguments, and the result
 pub data Table : Type 0 where

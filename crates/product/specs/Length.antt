@@ -11,7 +11,7 @@ use Rattle.message.specs.Product.{chain}
 use Rattle.message.specs.Rules.{FitArities}
 use Rattle.message.specs.Parts.{Role, role}
 use Rattle.message.specs.Canon.Views.{RoleOf, is_one, is_exp, is_inv, is_mul, is_plain, role_of}
-use Rattle.message.specs.Made.{made_one, made_inv, made_mul, made_bytes}
+use Rattle.message.proofs.Made.{made_one, made_inv, made_mul, made_bytes}
 use Rattle.message.specs.Gather.{enter, pours, multiplied, powered}
 use Rattle.product.specs.Chain.{written}
 use Rattle.product.specs.Chain.Laws.{encode_two, written_none, written_some}

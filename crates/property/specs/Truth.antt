@@ -6,7 +6,8 @@ use Rattle.lists.specs.All.{All}
 use Rattle.lists.specs.All.Laws.{all_both}
 use Rattle.lists.specs.Reflects.{reflects_exactly}
 use Rattle.term.specs.Arity.{arity, tag_arities}
-use Rattle.message.specs.Promise.{Message, SameMessage, public_name, messages}
+use Rattle.message.specs.Promise.{Message, SameMessage, public_name}
+use Rattle.message.proofs.Promise.{messages}
 use Rattle.protocol.specs.Figures.{action_list}
 use Rattle.protocol.specs.Protocol.{Protocol}
 use Rattle.protocol.specs.Protocol.Limits.{Within}

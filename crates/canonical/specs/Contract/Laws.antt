@@ -6,7 +6,7 @@ use Rattle.term.specs.Arity.{arity}
 use Rattle.message.specs.Canonical.{Canonical}
 use Rattle.message.specs.Substitution.{subs}
 use Rattle.message.specs.Canon.{canon, canons}
-use Rattle.message.specs.Theorems.{canon_is_canonical, canonical_stays}
+use Rattle.message.proofs.Theorems.{canon_is_canonical, canonical_stays}
 use Rattle.message.specs.Filled.{filleds}
 use Rattle.message.specs.Filled.Laws.{filleds_canon}
 use Rattle.canonical.specs.Builtins.{Builtins, group}

@@ -14,19 +14,19 @@ use Rattle.message.specs.Product.{Exps, build}
 use Rattle.message.specs.Substitution.{sub, subs}
 use Rattle.message.specs.Rules.{Ordinary, FitArities, Theory, Irreducible}
 use Rattle.message.specs.Table.{rules}
-use Rattle.message.specs.Table.Laws.{theory}
+use Rattle.message.proofs.Table.Laws.{theory}
 use Rattle.message.specs.Parts.{add, neg, Role, role, parts, sums}
-use Rattle.message.specs.Parts.Ascending.{sums_asc, asc_neg}
+use Rattle.message.proofs.Parts.Ascending.{sums_asc, asc_neg}
 use Rattle.message.specs.Parts.Entries.{Atom, entries_neg, sums_atoms}
-use Rattle.message.specs.Parts.Laws.{formed_sums, parts_build}
+use Rattle.message.proofs.Parts.Laws.{formed_sums, parts_build}
 use Rattle.message.specs.Canonical.{CanonicalBy}
 use Rattle.message.specs.Canon.{apply, canon}
-use Rattle.message.specs.Canon.Canonical.{arity_count, canon_canonical}
-use Rattle.message.specs.Canon.Keeps.{canons_formed}
+use Rattle.message.proofs.Canon.Canonical.{arity_count, canon_canonical}
+use Rattle.message.proofs.Canon.Keeps.{canons_formed}
 use Rattle.message.specs.Canon.Views.{RoleOf, is_one, is_exp, is_inv, is_mul, is_plain, role_of}
-use Rattle.message.specs.Theorems.{canon_is_canonical, canonical_stays, canon_is_formed, canon_is_in_range, fewer_symbols, fewer_bytes}
+use Rattle.message.proofs.Theorems.{canon_is_canonical, canonical_stays, canon_is_formed, canon_is_in_range, fewer_symbols, fewer_bytes}
 use Rattle.message.specs.Gather.{multiplied, powered}
-use Rattle.message.specs.Gather.Same.{same_term}
+use Rattle.message.proofs.Gather.Same.{same_term}
 use Rattle.message.specs.Filled.{filled, filleds}
 use Rattle.message.specs.Filled.Laws.{filled_canon, filleds_canon}
 use Rattle.product.specs.Tower.{towered}

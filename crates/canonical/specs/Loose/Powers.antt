@@ -11,17 +11,17 @@ use Rattle.message.specs.Canonical.{CanonicalBy}
 use Rattle.message.specs.Product.{Exps, empty, chain, build}
 use Rattle.message.specs.Rules.{FitArities, Theory, Irreducible}
 use Rattle.message.specs.Table.{rules}
-use Rattle.message.specs.Table.Laws.{theory}
+use Rattle.message.proofs.Table.Laws.{theory}
 use Rattle.message.specs.Parts.{add, parts, sums}
-use Rattle.message.specs.Parts.Ascending.{sums_asc}
+use Rattle.message.proofs.Parts.Ascending.{sums_asc}
 use Rattle.message.specs.Parts.Entries.{sums_atoms}
-use Rattle.message.specs.Parts.Laws.{formed_sums, parts_build}
+use Rattle.message.proofs.Parts.Laws.{formed_sums, parts_build}
 use Rattle.message.specs.Canon.{Binary, binary, as_binary, base_of, expo_of, raise, apply_exp, apply, canon}
-use Rattle.message.specs.Canon.Canonical.{base_no_exp}
+use Rattle.message.proofs.Canon.Canonical.{base_no_exp}
 use Rattle.message.specs.Canon.Views.{AsBinary, is_binary, is_not, binary_view}
-use Rattle.message.specs.Theorems.{same_canon, canon_is_canonical, canonical_stays, canon_is_formed}
+use Rattle.message.proofs.Theorems.{same_canon, canon_is_canonical, canonical_stays, canon_is_formed}
 use Rattle.message.specs.Gather.{powered, raised}
-use Rattle.message.specs.Made.{made_exp}
+use Rattle.message.proofs.Made.{made_exp}
 use Rattle.product.specs.Powers.{powered_chain, chain_formed}
 use Rattle.product.specs.Tower.{bottom, exponents}
 use Rattle.product.specs.Tower.Laws.{bottom_exp, exponents_exp, bottom_other, exponents_other, no_exp}

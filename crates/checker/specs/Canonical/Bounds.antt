@@ -6,7 +6,7 @@ use Rattle.octets.specs.Head.{Bytes}
 use Rattle.number.specs.Reading.{Read, got, fault}
 use Rattle.term.specs.Term.{Term}
 use Rattle.term.specs.Arity.{arity, tag_arities}
-use Rattle.message.specs.Theorems.{fewer_bytes, declared}
+use Rattle.message.proofs.Theorems.{fewer_bytes, declared}
 use Rattle.rewriting.specs.Table.{Ruling, passed, and_then}
 use Rattle.protocol.specs.Protocol.{Protocol}
 use Rattle.protocol.specs.Protocol as files

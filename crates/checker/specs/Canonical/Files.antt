@@ -9,7 +9,7 @@ use Rattle.term.specs.Term.{Term, encode, symbols, Formed}
 use Rattle.term.specs.Arity.{arity, tag_arities}
 use Rattle.message.specs.Equations.{Same}
 use Rattle.message.specs.Canon.{canon}
-use Rattle.message.specs.Theorems.{same_bytes, declared}
+use Rattle.message.proofs.Theorems.{same_bytes, declared}
 use Rattle.rewriting.specs.Table.{Ruling, passed, Ruled, and_then}
 use Rattle.rewriting.specs.Table.Laws.{passed_good}
 use Rattle.protocol.specs.Protocol.{Protocol}

@@ -10,7 +10,7 @@ use Rattle.term.specs.Term.{Term, encode, symbols}
 use Rattle.term.specs.Term.Laws.{encode_some}
 use Rattle.term.specs.Arity.{arity}
 use Rattle.message.specs.Canon.{canon}
-use Rattle.message.specs.Theorems.{fewer_bytes}
+use Rattle.message.proofs.Theorems.{fewer_bytes}
 use Rattle.canonical.specs.Builtins.{Builtins, declared, group}
 use Rattle.canonical.specs.Contract.{MessageAt}
 use Rattle.rewriting.specs.Table.{Ruling, passed, refused, Ruled}

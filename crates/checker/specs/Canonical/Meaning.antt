@@ -11,7 +11,7 @@ use Rattle.message.specs.Equations.{Same}
 use Rattle.message.specs.Canonical.{Canonical}
 use Rattle.message.specs.Substitution.{Ground}
 use Rattle.message.specs.Canon.{canon}
-use Rattle.message.specs.Theorems.{canon_same, canon_is_canonical, canon_is_formed, canon_is_ground, canonical_same, declared}
+use Rattle.message.proofs.Theorems.{canon_same, canon_is_canonical, canon_is_formed, canon_is_ground, canonical_same, declared}
 use Rattle.message.specs.Equations as equations
 use Rattle.rewriting.specs.Table.{Ruling, passed, refused, and_then}
 use Rattle.rewriting.specs.Table.Laws.{refused_passed, passed_inj}

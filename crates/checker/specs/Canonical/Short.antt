@@ -9,7 +9,7 @@ use Rattle.term.specs.Term.{Term, symbols}
 use Rattle.term.specs.Arity.{arity, tag_arities}
 use Rattle.term.specs.Arity.Laws.{tag_few, arity_most}
 use Rattle.term.specs.Sizes.{most_symbols}
-use Rattle.message.specs.Theorems.{fewer_bytes, declared}
+use Rattle.message.proofs.Theorems.{fewer_bytes, declared}
 use Rattle.canonical.specs.Size.{bytes_most}
 use Rattle.rewriting.specs.Table.{Ruling, passed, refused, and_then}
 use Rattle.protocol.specs.Figures.{most_arity}

@@ -14,7 +14,7 @@ use Rattle.term.specs.Term.{Term, encode}
 use Rattle.term.specs.Term.Laws.{encode_some}
 use Rattle.message.specs.Product.{Exps, empty, part, order, Above}
 use Rattle.message.specs.Gather.{enter}
-use Rattle.message.specs.Gather.Same.{Asc}
+use Rattle.message.specs.Gather.{Asc}
 use Rattle.factors.specs.Mass.{size, mass}
 use Rattle.factors.specs.Rows.{start_of, end_of, bytes_at, Rows, order_at, Moved}
 

@@ -7,7 +7,7 @@ use Rattle.term.specs.Term.{public, leaf, Formed}
 use Rattle.term.specs.Arity.{arity, tag_arities}
 use Rattle.message.specs.Promise.{Message, public_name}
 use Rattle.message.specs.Substitution.{Ground}
-use Rattle.message.specs.Theorems.{declared}
+use Rattle.message.proofs.Theorems.{declared}
 use Rattle.protocol.specs.Protocol.{Fact, Protocol, no_fact}
 use Rattle.protocol.specs.Protocol.Limits.{Within}
 use Rattle.steps.specs.Nodes.{Node}

@@ -13,7 +13,7 @@ use Rattle.term.specs.Arity.{arity}
 use Rattle.term.specs.Reader.{terms}
 use Rattle.term.specs.Reader.Exact.{term_form}
 use Rattle.message.specs.Substitution.{sub, subs}
-use Rattle.message.specs.Theorems.{fewer_bytes}
+use Rattle.message.proofs.Theorems.{fewer_bytes}
 use Rattle.message.specs.Canon.{canon}
 use Rattle.canonical.specs.Builtins.{group}
 use Rattle.canonical.specs.Contract.{Job, Out}

@@ -17,7 +17,7 @@ use Rattle.term.specs.Reader.{terms}
 use Rattle.term.specs.Reader.Exact.{encodes_terms, count_terms}
 use Rattle.message.specs.Substitution.{sub, subs}
 use Rattle.message.specs.Substitution.Laws.{sub_formed}
-use Rattle.message.specs.Theorems.{fewer_bytes}
+use Rattle.message.proofs.Theorems.{fewer_bytes}
 use Rattle.message.specs.Parts.Entries.{Each}
 use Rattle.message.specs.Canon.{canon, canons}
 use Rattle.canonical.specs.Builtins.{Builtins, group}

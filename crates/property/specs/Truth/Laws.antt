@@ -5,7 +5,8 @@ use Rattle.std.proofs.Math.ListN.{get_elem?}
 use Rattle.lists.specs.All.{All}
 use Rattle.lists.specs.Reflects.{Reflects, reflects_back}
 use Rattle.lists.specs.Pairs.{Pairs, nothing, more, pairs_map}
-use Rattle.message.specs.Promise.{Message, SameMessage, SameMessages, messages}
+use Rattle.message.specs.Promise.{Message, SameMessage, SameMessages}
+use Rattle.message.proofs.Promise.{messages}
 use Rattle.protocol.specs.Protocol.{Protocol}
 use Rattle.protocol.specs.Protocol.Limits.{Within}
 use Rattle.steps.specs.Nodes.{Node, NodeWithin}

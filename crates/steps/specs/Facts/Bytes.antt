@@ -11,7 +11,7 @@ use Rattle.term.specs.Arity.{arity, tag_arities}
 use Rattle.term.specs.Arity.Laws.{no_leaf}
 use Rattle.message.specs.Rules.{FitArities}
 use Rattle.message.specs.Canon.{canon}
-use Rattle.message.specs.Theorems.{canon_is_formed, declared}
+use Rattle.message.proofs.Theorems.{canon_is_formed, declared}
 use Rattle.protocol.specs.Protocol.{Fact, Protocol, fact_arities}
 use Rattle.steps.specs.Facts.{same_term, same_terms, same_fact}
 use Rattle.steps.specs.Facts.Laws.{equal_bytes}

@@ -16,7 +16,7 @@ use Rattle.lists.specs.Tests.{not_split}
 use Rattle.message.specs.Substitution.{sub, Ground}
 use Rattle.term.specs.Walk.Holds.{occurs_below}
 use Rattle.message.specs.Substitution.Laws.{sub_formed, sub_ground}
-use Rattle.message.specs.Theorems.{declared}
+use Rattle.message.proofs.Theorems.{declared}
 use Rattle.protocol.specs.Protocol.{Fact, Rule, Protocol, list_of, fact_arities, leaf_in}
 use Rattle.rules.specs.Numbered.Limits.{rule_within}
 use Rattle.protocol.specs.Protocol.Limits.{RuleWithin, Within}

@@ -15,7 +15,7 @@ use Rattle.lists.specs.Tests.{and_split, and_both, eqb_eq, eqb_self}
 use Rattle.message.specs.Equations.{Same}
 use Rattle.message.specs.Rules.{FitArities}
 use Rattle.message.specs.Canon.{canon}
-use Rattle.message.specs.Theorems.{same_bytes}
+use Rattle.message.proofs.Theorems.{same_bytes}
 use Rattle.protocol.specs.Protocol.{Fact, Protocol, fact_flags}
 use Rattle.steps.specs.Facts.{Sames, SameFact, same_term, same_terms, same_fact, is_linear}
 

@@ -11,7 +11,7 @@ use Rattle.term.specs.Term.{Term, Formed}
 use Rattle.term.specs.Arity.{arity, tag_arities}
 use Rattle.message.specs.Substitution.{Ground}
 use Rattle.message.specs.Promise.{Message, SameMessage, SameMessages}
-use Rattle.message.specs.Theorems.{declared}
+use Rattle.message.proofs.Theorems.{declared}
 use Rattle.protocol.specs.Figures.{action_list}
 use Rattle.protocol.specs.Protocol.{Fact, Protocol, fact_of}
 use Rattle.protocol.specs.Protocol.Limits.{Within}

@@ -15,7 +15,7 @@ use Rattle.message.specs.Canonical.{Canonical}
 use Rattle.message.specs.Substitution.Laws.{none_ground, ground_none}
 use Rattle.message.specs.Rules.{FitArities}
 use Rattle.message.specs.Canon.{canon}
-use Rattle.message.specs.Theorems.{canonical_canon, canonical_bytes}
+use Rattle.message.proofs.Theorems.{canonical_canon, canonical_bytes}
 use Rattle.protocol.specs.Protocol.{Rule}
 use Rattle.steps.specs.Facts.Laws.{equal_bytes}
 use Rattle.steps.specs.Values.{OfSort, most_filled_in, ValueFits, TermOf, filled_symbols, most_in_value}

@@ -12,7 +12,7 @@ use Rattle.lists.specs.Tests.{by_bool, true_false, not_true}
 use Rattle.lists.specs.Lists.{nth}
 use Rattle.rewriting.specs.Table.{Fails, Absent, Pass}
 use Rattle.rewriting.specs.Table.Passes.{restated, least_pass}
-use Rattle.message.specs.Theorems.{declared}
+use Rattle.message.proofs.Theorems.{declared}
 use Rattle.protocol.specs.Protocol.{Rule, Protocol}
 use Rattle.rules.specs.Numbered.{rule_of}
 use Rattle.lists.specs.All.Laws.{all_nth, nth_all}

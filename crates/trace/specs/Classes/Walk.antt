@@ -6,7 +6,7 @@ use Rattle.lists.specs.All.Laws.{all_inside}
 use Rattle.lists.specs.Reflects.{reflects_true, reflects_back}
 use Rattle.term.specs.Term.{Formed}
 use Rattle.message.specs.Canon.{canon}
-use Rattle.message.specs.Theorems.{same_canon, declared}
+use Rattle.message.proofs.Theorems.{same_canon, declared}
 use Rattle.protocol.specs.Protocol.{Fact, Protocol}
 use Rattle.steps.specs.Nodes.{Node, no_node}
 use Rattle.steps.specs.Values.Parts.{no_term}

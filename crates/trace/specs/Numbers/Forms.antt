@@ -14,7 +14,7 @@ use Rattle.term.specs.Reader.Exact.{Good, symbol_of_leaf, symbol_of_app}
 use Rattle.term.specs.declared.Symbol.TheVariants as sy
 use Rattle.message.specs.Substitution.{sub}
 use Rattle.message.specs.Canon.{canon}
-use Rattle.message.specs.Theorems.{canon_is_formed, canon_is_in_range, declared}
+use Rattle.message.proofs.Theorems.{canon_is_formed, canon_is_in_range, declared}
 use Rattle.canonical.specs.Loose.Laws.{sub_range}
 use Rattle.protocol.specs.Protocol.{Fact, Rule, Protocol, no_fact, list_of, fact_arities}
 use Rattle.protocol.specs.Protocol.Limits.{Within}

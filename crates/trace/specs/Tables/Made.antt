@@ -6,7 +6,7 @@ use Rattle.lists.specs.All.Laws.{all_inside}
 use Rattle.lists.specs.Joined.{joined_at, before_inside, before_most}
 use Rattle.message.specs.Promise.{Message, SameMessage, public_name}
 use Rattle.message.specs.Canon.{canon}
-use Rattle.message.specs.Theorems.{same_canon, declared}
+use Rattle.message.proofs.Theorems.{same_canon, declared}
 use Rattle.protocol.specs.Figures.{action_list, most_fact_arity}
 use Rattle.protocol.specs.Protocol.{Fact, Protocol, no_fact}
 use Rattle.steps.specs.Causes.Good.{RightNodes}

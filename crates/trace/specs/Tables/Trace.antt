@@ -9,7 +9,8 @@ use Rattle.lists.specs.All.Laws.{all_both}
 use Rattle.lists.specs.Lists.{nth, row}
 use Rattle.lists.specs.Tests.{by_bool, not_true}
 use Rattle.lists.specs.Joined.{before_more}
-use Rattle.message.specs.Promise.{Message, SameMessage, public_name, Promise, messages}
+use Rattle.message.specs.Promise.{Message, SameMessage, public_name, Promise}
+use Rattle.message.proofs.Promise.{messages}
 use Rattle.protocol.specs.Figures.{action_list}
 use Rattle.protocol.specs.Protocol.{Fact, Protocol, no_fact, fact_arities}
 use Rattle.steps.specs.Nodes.{Node, no_node, NodeWithin}

@@ -15,7 +15,7 @@ use Rattle.message.specs.Equations.{reflexive, symmetric, transitive}
 use Rattle.message.specs.Equations.Older.{older_arities, OlderSame, now_formed, older_same}
 use Rattle.message.specs.Substitution.{Ground}
 use Rattle.message.specs.Promise.{Message, public_name}
-use Rattle.message.specs.Theorems.{declared}
+use Rattle.message.proofs.Theorems.{declared}
 use Rattle.protocol.specs.Figures.{action_list}
 use Rattle.protocol.specs.Protocol as protocol
 use Rattle.protocol.specs.Protocol.{Protocol}

@@ -6,7 +6,8 @@ use Rattle.lists.specs.Lists.{row}
 use Rattle.lists.specs.Lists.Laws.{row_same, row_map}
 use Rattle.lists.specs.Pairs.{pairs_map}
 use Rattle.lists.specs.Joined.{before_more}
-use Rattle.message.specs.Promise.{Message, messages}
+use Rattle.message.specs.Promise.{Message}
+use Rattle.message.proofs.Promise.{messages}
 use Rattle.protocol.specs.Protocol.{Protocol, fact_arities}
 use Rattle.protocol.specs.Protocol.Limits.{Within}
 use Rattle.prepared.specs.Prepared.{arities_of}

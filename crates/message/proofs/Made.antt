@@ -8,13 +8,13 @@ use Rattle.term.specs.Term.{Term, app, Terms, nil, ◌&◌, Formed, encode}
 use Rattle.message.specs.Substitution.{sub, subs}
 use Rattle.message.specs.Rules.{Rule, Ordinary, FitArities}
 use Rattle.message.specs.Table.{rules}
-use Rattle.message.specs.Table.Laws.{rows_fit, theory, Ruleless, no_rule}
+use Rattle.message.proofs.Table.Laws.{rows_fit, theory, Ruleless, no_rule}
 use Rattle.message.specs.Parts.{Role}
 use Rattle.message.specs.Canon.{as_binary, reduce_at, apply_at, apply}
 use Rattle.message.specs.Canon.Views.{ordinary_role, reduce_hit, Plainly, stays, reduces, plainly}
-use Rattle.message.specs.Canon.Size.{mk_bytes}
+use Rattle.message.proofs.Canon.Size.{mk_bytes}
 use Rattle.message.specs.Gather.{multiplied, raised}
-use Rattle.message.specs.Gather.Same.{same_term, same_exp}
+use Rattle.message.proofs.Gather.Same.{same_term, same_exp}
 
 module _ (ar : ℕ → Option ℕ) (g : FitArities ar) where
   -- ── a function with a rule ──

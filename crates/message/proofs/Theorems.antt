@@ -9,17 +9,17 @@ use Rattle.message.specs.Encoding.{encode_same}
 use Rattle.message.specs.Equations.{Same}
 use Rattle.message.specs.Equations.Laws.{widen}
 use Rattle.message.specs.Canonical.{Canonical}
-use Rattle.message.specs.Canonical.Laws.{canonical_map}
+use Rattle.message.proofs.Canonical.Laws.{canonical_map}
 use Rattle.message.specs.Substitution.{Ground}
 use Rattle.message.specs.Rules.{FitArities, Theory}
-use Rattle.message.specs.Table.Laws.{theory, twelve_tabled, tabled_twelve, settled_irreducible, irreducible_settled}
+use Rattle.message.proofs.Table.Laws.{theory, twelve_tabled, tabled_twelve, settled_irreducible, irreducible_settled}
 use Rattle.message.specs.Canon.{canon}
-use Rattle.message.specs.Canon.Keeps.{canon_formed, canon_ground, canon_range}
-use Rattle.message.specs.Canon.Canonical.{canon_canonical}
-use Rattle.message.specs.Canon.Complete.{complete}
-use Rattle.message.specs.Canon.Sound.{sound}
-use Rattle.message.specs.Canon.Decides.{decides, decides_bytes, canonical_fixed, canonical_unique}
-use Rattle.message.specs.Canon.Size.{canon_symbols, canon_bytes}
+use Rattle.message.proofs.Canon.Keeps.{canon_formed, canon_ground, canon_range}
+use Rattle.message.proofs.Canon.Canonical.{canon_canonical}
+use Rattle.message.proofs.Canon.Complete.{complete}
+use Rattle.message.proofs.Canon.Sound.{sound}
+use Rattle.message.proofs.Canon.Decides.{decides, decides_bytes, canonical_fixed, canonical_unique}
+use Rattle.message.proofs.Canon.Size.{canon_symbols, canon_bytes}
 
 module _ (ar : ℕ → Option ℕ) (g : FitArities ar) where
   abbrev σ : Theory
