@@ -9,58 +9,58 @@ use borrow.Author.Rules.{rules}
 use Prim.Native.Nat.{ℕ, ◌<◌}
 use Rattle.canonical.proofs.+make.Goals as goal
 
-pub make-returns-then-k-eq0 : goal.make-returns-then-k-eq0
-make-returns-then-k-eq0 t c =
+pub returns-then-k-eq0 : goal.returns-then-k-eq0
+returns-then-k-eq0 t c =
     none_done _ _ _ _ _ _ _ _ _ c.if-k-eq0.true
 
-pub make-put_leaf-r-requires : goal.make-put_leaf-r-requires
-make-put_leaf-r-requires t c =
+pub put_leaf-r-requires : goal.put_leaf-r-requires
+put_leaf-r-requires t c =
     leaf_asks _ _ _ _ _ _ c.args.out.now _ _ _ _ _ c.first-h.ensures c.if-k-eq0.false c.if-leaf.true c.requires
 
-pub make-returns-then-k-eq1 : goal.make-returns-then-k-eq1
-make-returns-then-k-eq1 t c =
+pub returns-then-k-eq1 : goal.returns-then-k-eq1
+returns-then-k-eq1 t c =
     leaf_done _ _ _ _ _ _ c.args.out.now _ _ _ _ _ c.first-h.ensures c.if-k-eq0.false c.if-leaf.true _ _ c.put_leaf-r.auto.out
     c.put_leaf-r.ensures _ _ refl _ _ _ (none_done _ _ _ _ _ _ _ _ _ (omega (arith, c.if-k-eq1.true)))
 
-pub make-make-requires : goal.make-make-requires
-make-make-requires t c =
+pub make-requires : goal.make-requires
+make-requires t c =
     let a = ahead _ _ _ _ _ _ _ _ _ _ _ _ c.first-h.ensures c.if-k-eq0.false c.requires in (
       omega (arith, a.0, a.1, c.requires-raw.0),
       leaf_next _ _ _ _ _ _ c.args.out.now _ _ _ _ _ c.first-h.ensures c.if-k-eq0.false c.if-leaf.true _
           _ c.put_leaf-r.auto.out c.put_leaf-r.ensures c.requires,
     )
 
-pub make-returns-then-leaf : goal.make-returns-then-leaf
-make-returns-then-leaf t c =
+pub returns-then-leaf : goal.returns-then-leaf
+returns-then-leaf t c =
     leaf_done _ _ _ _ _ _ c.args.out.now _ _ _ _ _ c.first-h.ensures c.if-k-eq0.false c.if-leaf.true _ _ c.put_leaf-r.auto.out
     c.put_leaf-r.ensures _ _ c.beside.ensures _ _ _ c.make.ensures
 
-pub make-put_number-a-requires : goal.make-put_number-a-requires
-make-put_number-a-requires t c =
+pub put_number-a-requires : goal.put_number-a-requires
+put_number-a-requires t c =
     tag_asks _ _ _ _ _ _ c.args.out.now _ _ _ _ _ c.first-h.ensures c.if-k-eq0.false c.if-leaf.false c.requires
 
-pub make-make-args-requires : goal.make-make-args-requires
-make-make-args-requires t c =
+pub make-args-requires : goal.make-args-requires
+make-args-requires t c =
     let a = ahead _ _ _ _ _ _ _ _ _ _ _ _ c.first-h.ensures c.if-k-eq0.false c.requires in (
       omega (arith, a.0, a.1, c.requires-raw.0),
       args_asks _ _ _ _ _ _ c.args.out.now _ _ _ _ _ c.first-h.ensures c.if-k-eq0.false c.if-leaf.false _
           _ c.put_number-a.auto.out c.put_number-a.ensures c.requires,
     )
 
-pub make-close-r-requires : goal.make-close-r-requires
-make-close-r-requires t c =
+pub close-r-requires : goal.close-r-requires
+close-r-requires t c =
     close_asks _ _ _ _ _ _ c.args.out.now _ _ _ _ _ c.first-h.ensures c.if-k-eq0.false c.if-leaf.false _ _ c.put_number-a.auto.out
     c.put_number-a.ensures _ _ _ (c.make-args.auto.out ∙ c.put_number-a.auto.out) c.make-args.ensures c.requires
 
-pub make-returns-then-k-eq1-2 : goal.make-returns-then-k-eq1-2
-make-returns-then-k-eq1-2 t c =
+pub returns-then-k-eq1-2 : goal.returns-then-k-eq1-2
+returns-then-k-eq1-2 t c =
     op_done _ _ _ _ _ _ c.args.out.now _ _ _ _ _ c.first-h.ensures c.if-k-eq0.false c.if-leaf.false _ _ c.put_number-a.auto.out
     c.put_number-a.ensures _ _ _ (c.make-args.auto.out ∙ c.put_number-a.auto.out) c.make-args.ensures _ _ _
     (c.close-r.auto.out ∙ c.make-args.auto.out ∙ c.put_number-a.auto.out) c.close-r.ensures _ refl _ _ _
     (none_done _ _ _ _ _ _ _ _ _ (omega (arith, c.if-k-eq1-2.true)))
 
-pub make-make-requires-2 : goal.make-make-requires-2
-make-make-requires-2 t c =
+pub make-requires-2 : goal.make-requires-2
+make-requires-2 t c =
     let a = ahead _ _ _ _ _ _ _ _ _ _ _ _ c.first-h.ensures c.if-k-eq0.false c.requires in let b = onward _ _ _ _ _ _ c.args.out.now _ _ _ _ _
     c.first-h.ensures c.if-k-eq0.false c.if-leaf.false _ _ c.put_number-a.auto.out c.put_number-a.ensures _ _ _
     (c.make-args.auto.out ∙ c.put_number-a.auto.out) c.make-args.ensures c.requires in (
@@ -70,8 +70,8 @@ make-make-requires-2 t c =
           (c.close-r.auto.out ∙ c.make-args.auto.out ∙ c.put_number-a.auto.out) c.close-r.ensures c.requires,
     )
 
-pub make-returns : goal.make-returns
-make-returns t c =
+pub returns : goal.returns
+returns t c =
     op_done _ _ _ _ _ _ c.args.out.now _ _ _ _ _ c.first-h.ensures c.if-k-eq0.false c.if-leaf.false _ _ c.put_number-a.auto.out
     c.put_number-a.ensures _ _ _ (c.make-args.auto.out ∙ c.put_number-a.auto.out) c.make-args.ensures _ _ _
     (c.close-r.auto.out ∙ c.make-args.auto.out ∙ c.put_number-a.auto.out) c.close-r.ensures _ c.beside-2.ensures _ _ _
