@@ -42,7 +42,7 @@ module _ (arities src starts : List ℕ) (at : ℕ) where
     range = (m.range, tt);
     rest = m.rest;
     there = m.there ∙ ap (λ (z : List ℕ). z ++ m.rest) (sym (append-nil (encode t)));
-    values = λ v o. absurd (⊎_elim (m.ground v) (λ a. a) o);
+    values = λ v o. absurd (⊎_elim (m.is_ground v) (λ a. a) o);
     small = (rw (sub_same t) m.small, tt);
     room = let k = m.small in rw (sub_same t, append-nil (encode t)) (omega (arith, bytes_few t m.range, k));
     short = h;
@@ -59,7 +59,7 @@ module _ (arities src starts : List ℕ) (at : ℕ) where
   message_canon out out' at' r l h D t m =
       let w = (D (leaf variable) (t & nil) (message_job t m (length out) l h)).wrote in
       let q : encodes (filleds (leaf variable) (t & nil)) ≡ encode (canon t) =
-      append-nil (encode (filled (leaf variable) t)) ∙ ap encode (filled_message t m.ground) in
+      append-nil (encode (filled (leaf variable) t)) ∙ ap encode (filled_message t m.is_ground) in
       record {
         ends = w.ends ∙ ap (λ (z : List ℕ). 0 + length z) q;
         there = wrote_there (omega arith) w ∙ ap (λ (z : List ℕ). z ++ drop r out') q;

@@ -48,7 +48,7 @@ pub record Out (w at : ℕ) (out : List ℕ) (o : ℕ) (out' : List ℕ) (at' o'
 pub record MessageAt (arities src : List ℕ) (at : ℕ) (t : Term) : Type 0 where
   pub table : Builtins arities
   pub formed : Formed (arity arities) t
-  pub ground : Ground t
+  pub is_ground : Ground t
   pub range : InRange t
   pub rest : List ℕ
   pub there : drop at src ≡ encode t ++ rest

@@ -13,7 +13,7 @@ use Rattle.message.specs.Substitution.Laws.{public_ground, fresh_ground}
 pub record Message (ar : ℕ → Option ℕ) : Type 0 where
   pub term : Term
   pub formed : Formed ar term
-  pub ground : Ground term
+  pub is_ground : Ground term
 
 module _ (ar : ℕ → Option ℕ) where
   -- "Message equality is from then on the congruence of all twelve equations"
@@ -29,10 +29,10 @@ module _ (ar : ℕ → Option ℕ) where
 
   -- "Fresh and public names are two incomparable sets, each numbered from 0."
   abbrev pub public_name : ℕ → Message ar
-  public_name n = record { term = leaf public n; formed = tt; ground = public_ground n }
+  public_name n = record { term = leaf public n; formed = tt; is_ground = public_ground n }
 
   abbrev pub fresh_name : ℕ → Message ar
-  fresh_name n = record { term = leaf fresh n; formed = tt; ground = fresh_ground n }
+  fresh_name n = record { term = leaf fresh n; formed = tt; is_ground = fresh_ground n }
 
   -- the term of a function's tag and messages
   abbrev pub terms : List (Message ar) → Terms
@@ -49,12 +49,12 @@ module _ (ar : ℕ → Option ℕ) where
 
   pub terms_ground : (ms : List (Message ar)) → Grounds (terms ms)
   terms_ground [] = λ v o. o
-  terms_ground (m ∷ ms) = λ v. ⊎_elim (m.ground v) (terms_ground ms v)
+  terms_ground (m ∷ ms) = λ v. ⊎_elim (m.is_ground v) (terms_ground ms v)
 
   -- the function of tag f applied to as many messages as it takes
   abbrev pub apply : (f : ℕ) (ms : List (Message ar)) → ar f ≡ some (length ms) → Message ar
   apply f ms e =
-      record { term = app f (terms ms); formed = (e ∙ ap some (sym (terms_count ms)), terms_formed ms); ground = terms_ground ms }
+      record { term = app f (terms ms); formed = (e ∙ ap some (sym (terms_count ms)), terms_formed ms); is_ground = terms_ground ms }
 
 -- ── the promise ──
 pub record Promise (ar : ℕ → Option ℕ) : Type 0 where

@@ -46,7 +46,7 @@ most_filled_in = most_symbols
 
 -- not so: "value not canonical, holds a variable, wrong sort, or over 128 symbols", 7
 pub record ValueFits (sort : ℕ) (v : Term) : Type 0 where
-  pub ground : Ground v
+  pub is_ground : Ground v
   pub sorted : OfSort sort v
   pub canonical : Canonical v
   pub short : symbols v ≤ most_in_value

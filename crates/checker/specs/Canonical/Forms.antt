@@ -45,7 +45,7 @@ module _ (arities term free : List ℕ) (t : Term) (h : Form arities term free t
   message_at = record {
     table = table;
     formed = is_term.formed;
-    ground = is_term.ground;
+    is_ground = is_term.is_ground;
     range = is_term.range;
     rest = [];
     there = is_term.bytes ∙ sym (append-nil (encode t));

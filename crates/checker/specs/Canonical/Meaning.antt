@@ -29,7 +29,7 @@ module _ (protocol term output : List ℕ) (work : ℕ) where
     pub files : Encodes protocol term held
     -- its canonical form
     pub form : Term
-    pub ground : Ground form
+    pub is_ground : Ground form
     pub formed : Formed (arity (tag_arities files.is.functions)) form
     pub canonical : Canonical form
     pub same : Same (arity (tag_arities files.is.functions)) held form
@@ -57,7 +57,7 @@ module _ (protocol term output : List ℕ) (work : ℕ) where
           held = t;
           files = f;
           form = canon t;
-          ground = canon_is_ground ar g t f.file.ground;
+          is_ground = canon_is_ground ar g t f.file.is_ground;
           formed = canon_is_formed ar g t f.file.formed;
           canonical = canon_is_canonical ar g t f.file.formed;
           same = canon_same ar g t f.file.formed;

@@ -143,7 +143,7 @@ module _ (limit : ℕ) (smaller : limit ≤ number_limit) (p : Protocol) where
   term_now : (most : ℕ) (file : List ℕ) (t : Term) → TermFile limit p most file t → IsTerm (tag_arities p.functions) file t
   term_now most file t h =
       let i = h.is in
-      record { bytes = i.bytes; formed = i.formed; range = below_wider limit number_limit smaller t i.range; ground = i.ground }
+      record { bytes = i.bytes; formed = i.formed; range = below_wider limit number_limit smaller t i.range; is_ground = i.is_ground }
 
 -- ── checking ──
 module _ (protocol property graph : List ℕ) where

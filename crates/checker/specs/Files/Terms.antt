@@ -27,7 +27,7 @@ pub record IsTermBelow (limit : ℕ) (arities file : List ℕ) (t : Term) : Type
   pub bytes : file ≡ encode t
   pub formed : Formed (arity arities) t
   pub range : Below limit t
-  pub ground : Ground t
+  pub is_ground : Ground t
 
 -- with the numbers that a file can hold
 abbrev pub IsTerm : List ℕ → List ℕ → Term → Type 0
@@ -46,7 +46,7 @@ module _ (arities file : List ℕ) (bytes : Bytes file) where
       (encode u)
       in
       subst (λ (x : Term). IsTerm arities file x) p
-      (record { bytes = w; formed = f.0.0; range = f.0.1; ground = none_ground u f.0.1 (not_split (holds u 0 0 number_limit) q.1) }))
+      (record { bytes = w; formed = f.0.0; range = f.0.1; is_ground = none_ground u f.0.1 (not_split (holds u 0 0 number_limit) q.1) }))
       (λ b h. clash (cc)))
 
   pub file_back : (t : Term) → IsTerm arities file t → term_file arities file ≡ got t (length file)
@@ -57,4 +57,4 @@ module _ (arities file : List ℕ) (bytes : Bytes file) where
       let r : term file arities 0 ≡ got t (length file) = term_back file arities bytes t 0 [] h.formed h.range e ∙ ap (got t) l in
       then_got (term file arities 0) _ r
       ∙ ap (λ (b : Bool). pick b (got t (length file)) fault)
-      (ap₂ (λ (x y : Bool). x && not y) (eq-eqb (length file) (length file) refl) (ground_none t h.ground))
+      (ap₂ (λ (x y : Bool). x && not y) (eq-eqb (length file) (length file) refl) (ground_none t h.is_ground))

@@ -49,7 +49,7 @@ module _ {p s nodes : List ℕ} {P : Protocol} where
   argument a j x f = record {
     term = argument_at P a.list a.number j x;
     formed = all_inside (Formed (arity (tag_arities P.functions))) no_term (fact_at P a.list a.number x).terms (fact_formed f).each j f.has;
-    ground = all_inside Ground no_term (fact_at P a.list a.number x).terms (fact_ground f) j f.has;
+    is_ground = all_inside Ground no_term (fact_at P a.list a.number x).terms (fact_ground f) j f.has;
   }
 
   -- ── "equal facts count as the same fact" ──

@@ -60,7 +60,7 @@ module _ (p : Protocol) (x : Node) (b : NodeWithin p x) (r : NodeRight p x) wher
       (λ i sort v e d. h sort v (r.fits i sort v (record { sorted = ap (λ (u : Rule). get_elem? u.sorts i) same_rule ∙ e; valued = d })))
 
   pub node_ground : All Ground x.values
-  node_ground = node_fits Ground (λ sort v f. f.ground)
+  node_ground = node_fits Ground (λ sort v f. f.is_ground)
 
 -- ── values are well formed, and so are the terms that they fill ──
 module _ (p : Protocol) where

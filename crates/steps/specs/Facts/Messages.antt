@@ -54,7 +54,7 @@ module _ (ar : ℕ → Option ℕ) where
   IsMessages f = All IsMessage f.terms
 
   abbrev pub message : (t : Term) → IsMessage t → Message ar
-  message t h = record { term = t; formed = h.0; ground = h.1 }
+  message t h = record { term = t; formed = h.0; is_ground = h.1 }
 
   abbrev pub message_fact : (f : Fact) → IsMessages f → MessageFact ar
   message_fact f h = record { symbol = f.symbol; messages = each IsMessage message f.terms h }

@@ -1,7 +1,7 @@
 -- What code answers of a value.
 use Rattle.std.specs.Prelude.{ℕ, zero, suc, ◌≤◌, ◌<◌, List, [], Bool, true, false, not, ◌&&◌, ◌||◌, ◌≡◌, refl, length, ltb, eqb, ◌↔◌}
 use Rattle.std.proofs.Common.{append-nil, ap, ap₂, sym, ◌∙◌, subst, arith, lt-ltb, le-ltb, ne_eqb}
-use Rattle.std.proofs.Math.Bool.{and_false, and-true}
+use Rattle.std.proofs.Math.Bool.{and-false, and-true}
 use Rattle.std.proofs.Math.Option.{none}
 use Rattle.steps.specs.Values.{most_in_value}
 use Rattle.octets.specs.Limits.{longest}
@@ -67,7 +67,7 @@ pub record ValueThere (arities file : List ℕ) (at : ℕ) (t : Term) (e : ℕ) 
 pub record GroundThere (arities file : List ℕ) (at size : ℕ) (t : Term) : Type 0 where
   pub end : ℕ
   pub is : ValueThere arities file at t end
-  pub ground : holds t 0 0 number_limit ≡ false
+  pub is_ground : holds t 0 0 number_limit ≡ false
   pub sized : size ≡ symbols t
 
 pub room_kept : {out out' : List ℕ} → FormRoom out → length out' ≡ length out → FormRoom out'
@@ -193,11 +193,11 @@ module _ (file arities : List ℕ) (at : ℕ) (t : Term) (e : ℕ) (v : ValueThe
   pub not_long : most_in_value < symbols t → false ≡ value_ok sort t
   not_long h =
       sym (ap (λ (b : Bool). not (holds t 0 0 number_limit) && (of_sort sort t && (b && is_canonical t))) (le-ltb (symbols t) (suc most_in_value) (omega arith))
-      ∙ ap (λ (b : Bool). not (holds t 0 0 number_limit) && b) (and_false (of_sort sort t)) ∙ and_false (not (holds t 0 0 number_limit)))
+      ∙ ap (λ (b : Bool). not (holds t 0 0 number_limit) && b) (and-false (of_sort sort t)) ∙ and-false (not (holds t 0 0 number_limit)))
 
   pub not_sorted : of_sort sort t ≡ false → false ≡ value_ok sort t
   not_sorted h =
-      sym (ap (λ (b : Bool). not (holds t 0 0 number_limit) && (b && (ltb (symbols t) (suc most_in_value) && is_canonical t))) h ∙ and_false
+      sym (ap (λ (b : Bool). not (holds t 0 0 number_limit) && (b && (ltb (symbols t) (suc most_in_value) && is_canonical t))) h ∙ and-false
       (not (holds t 0 0 number_limit)))
 
   pub by_canonical : (b : Bool) → holds t 0 0 number_limit ≡ false → symbols t ≤ most_in_value → of_sort sort t ≡ true → b ≡ is_canonical t → b ≡ value_ok sort t
@@ -219,7 +219,7 @@ module _ (file arities : List ℕ) (at : ℕ) (t : Term) (e : ℕ) (v : ValueThe
           is = record {
             table = v.table;
             formed = f.0.0;
-            ground = none_ground t f.0.1 h;
+            is_ground = none_ground t f.0.1 h;
             range = f.0.1;
             rest = [];
             there = whole ∙ sym (append-nil (encode t));

@@ -68,13 +68,13 @@ module _ (arities : List ℕ) (fit : FitArities (arity arities)) where
         let (c, d) = and_split (of_sort sort v) (ltb (symbols v) (suc most_in_value) && is_canonical v) b in
         let (e, f) = and_split (ltb (symbols v) (suc most_in_value)) (is_canonical v) d in
         record {
-          ground = none_ground v g.1 (not_split (holds v 0 0 number_limit) a);
+          is_ground = none_ground v g.1 (not_split (holds v 0 0 number_limit) a);
           sorted = sort_is sort v c;
           canonical = (canonical_decides v g.0).0 f;
           short = omega (arith, ltb-true (symbols v) (suc most_in_value) e);
         }),
     (λ f.
-        and_both (not (holds v 0 0 number_limit)) (of_sort sort v && (ltb (symbols v) (suc most_in_value) && is_canonical v)) (ap not (ground_none v f.ground))
+        and_both (not (holds v 0 0 number_limit)) (of_sort sort v && (ltb (symbols v) (suc most_in_value) && is_canonical v)) (ap not (ground_none v f.is_ground))
         (and_both (of_sort sort v) (ltb (symbols v) (suc most_in_value) && is_canonical v) (is_sort sort v f.sorted)
         (and_both (ltb (symbols v) (suc most_in_value)) (is_canonical v) (lt-ltb (symbols v) (suc most_in_value) (omega (arith, f.short)))
         ((canonical_decides v g.0).1 f.canonical)))),

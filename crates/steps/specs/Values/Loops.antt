@@ -1,6 +1,6 @@
 -- The loop over a node's values: what stands at each place, and what is left to do at each turn.
 use Rattle.std.specs.Prelude.{ℕ, zero, suc, ◌+◌, ◌≤◌, ◌<◌, List, [], ◌∷◌, Bool, true, false, not, ◌&&◌, ◌||◌, ◌≡◌, refl, length, get_or, drop, ltb}
-use Rattle.std.proofs.Math.Bool.{and_false}
+use Rattle.std.proofs.Math.Bool.{and-false}
 use Rattle.std.proofs.Common.{ap, ap₂, sym, ◌∙◌, subst, arith, drop_of_length-le, drop-cons}
 use Rattle.lists.specs.Choice.{clash}
 use Rattle.lists.specs.Tests.{by_bool, or_split}
@@ -37,7 +37,7 @@ some_held [] (v ∷ vs) n h = absurd (omega arith)
 some_held (s ∷ ss) (v ∷ vs) n h =
     by_bool (holds v 0 0 number_limit)
     (λ b. ap (λ (a : Bool). (not a && (of_sort s v && (ltb (symbols v) (suc most_in_value) && is_canonical v))) && values_ok ss vs) b)
-    (λ b. ap (λ (a : Bool). value_ok s v && a) (some_held ss vs (omega arith) (sym (ap (λ (a : Bool). a || holds_any vs) b) ∙ h)) ∙ and_false (value_ok s v))
+    (λ b. ap (λ (a : Bool). value_ok s v && a) (some_held ss vs (omega arith) (sym (ap (λ (a : Bool). a || holds_any vs) b) ∙ h)) ∙ and-false (value_ok s v))
 
 module _ {p s nodes : List ℕ} {j : ℕ} {P : Protocol} {x : Node} (h : NodeIn p s nodes j P x) where
   abbrev sorts : List ℕ
@@ -53,7 +53,7 @@ module _ {p s nodes : List ℕ} {j : ℕ} {P : Protocol} {x : Node} (h : NodeIn 
   value_there z v l = record {
     end = get_or nodes (places_at j + (v + 1)) 0;
     is = record { table = node_table; there = h.row.places v l; short = h.short };
-    ground = none_held x.values (flag_none (holds_any x.values) (sym h.row.held ∙ z)) v l;
+    is_ground = none_held x.values (flag_none (holds_any x.values) (sym h.row.held ∙ z)) v l;
     sized = h.row.sizes v l;
   }
 

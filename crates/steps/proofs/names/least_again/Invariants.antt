@@ -1,0 +1,21 @@
+-- The invariant is that searching on from node j finds what searching all finds; the first node that again_at tells ends it.
+use borrow.Author.Rules.{rules}
+use Rattle.steps.specs.Names.Laws.{NamesLeft, names_all, names_more, names_twice, names_none}
+use Rattle.steps.specs.Names.{Entered}
+use Rattle.steps.specs.Nodes.{no_node}
+use Rattle.steps.specs.Nodes.{Node}
+use Rattle.protocol.specs.Protocol.{Protocol}
+use Prim.Native.Nat.{◌-◌, ◌≤◌}
+use mathlib.Core.List.{List}
+use mathlib.Core.Path.{◌≡◌, sym, ◌∙◌}
+use lib.ListN.{length}
+use native.Mathlib.Omega.{arith}
+use Rattle.steps.proofs.names.least_again.Given as goal
+
+abbrev pub invariant-loop-j : goal.invariant-loop-j
+invariant-loop-j l =
+    (l.j ≤ l.n) × ((p : Protocol) (xs : List Node) → Entered l.names xs l.n → length xs ≡ l.n → NamesLeft p no_node xs l.j)
+
+abbrev pub decreases-loop-j : goal.decreases-loop-j
+decreases-loop-j l =
+    l.n - l.j

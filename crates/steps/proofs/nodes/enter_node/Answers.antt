@@ -1,0 +1,41 @@
+-- A rule that is found has as many variables as values are placed; a number that has none is told as such.
+use Rattle.steps.specs.Nodes.Filling.{as_found, as_none, variables_few, found_entered, none_entered}
+use Rattle.prepared.specs.Prepared.Laws.{slots_length}
+use lib.ListN.{length-set}
+use mathlib.Core.Path.{refl, sym, ◌∙◌}
+use native.Mathlib.Omega.{arith}
+use borrow.Author.Rules.{rules}
+use Rattle.steps.proofs.nodes.enter_node.Goals as goal
+
+pub rule_place-requires : goal.rule_place-requires
+rule_place-requires c =
+    (c.requires.0.0, c.requires.0.1.body)
+
+pub slice_bounds-place_values-end : goal.slice_bounds-place_values-end
+slice_bounds-place_values-end c =
+    sym (slots_length c.args.p.now c.requires.0.1.body.long)
+
+pub place_values-requires : goal.place_values-requires
+place_values-requires c =
+    let (P, f) = c.requires.0 in (
+      c.requires.1,
+      variables_few f c.args.s.now c.args.number c.args.at c.args.nodes.now c.args.j _ _
+          (as_found c.args.p.now P c.args.number c.in-At.is (c.rule_place.ensures P f.body))
+          c.variables_of-k.ensures,
+      simp length-set (omega (arith, c.requires.2, c.requires.3)),
+    )
+
+pub shape_of-nodes : goal.shape_of-nodes
+shape_of-nodes c =
+    c.place_values.auto.nodes ∙ length-set c.args.nodes.now _ _
+
+pub returns-in-At : goal.returns-in-At
+returns-in-At c =
+    λ P f. found_entered f c.args.s.now c.args.number c.args.at c.args.nodes.now c.args.j _ _
+    (as_found c.args.p.now P c.args.number c.in-At.is (c.rule_place.ensures P f.body)) c.variables_of-k.ensures _ _ _
+    refl (omega (arith, c.requires.2, c.requires.3)) c.place_values.ensures
+
+pub returns-in-Nothing : goal.returns-in-Nothing
+returns-in-Nothing c =
+    λ P f. none_entered f c.args.s.now c.args.number c.args.at c.args.nodes.now c.args.j
+    (as_none c.args.p.now P c.args.number c.in-Nothing.is (c.rule_place.ensures P f.body))

@@ -1,0 +1,22 @@
+-- The invariant is that the facts left, from the place on, decide; each begins behind the one before.
+use borrow.Author.Rules.{rules}
+use native.Mathlib.Omega.{arith}
+use mathlib.Core.Path.{sym, ◌∙◌}
+use mathlib.Core.List.{List}
+use Prim.Native.Nat.{ℕ}
+use Rattle.lists.specs.Asks.{Promises₂}
+use Rattle.protocol.specs.Places.{ReadAs}
+use Rattle.protocol.specs.Protocol.{Fact, fact, facts}
+use Rattle.prepared.specs.Prepared.{slots_of, arities_of}
+use Rattle.steps.specs.Values.Weights.{size_in}
+use Rattle.steps.specs.Values.Parts.{Left, left_starts, left_reads, left_more, left_bad, left_ends, fact_small, facts_start}
+use Rattle.steps.proofs.sizes.list_small.Given as goal
+
+abbrev pub invariant-loop-left : goal.invariant-loop-left
+invariant-loop-left l =
+    Promises₂ (ReadAs (facts l.p (slots_of l.p) (arities_of l.p)) l.place) (λ (fs : List Fact) (e : ℕ). Left (fact l.p (slots_of l.p) (arities_of l.p))
+    (fact_small (size_in l.sizes)) fs e l.left l.at)
+
+abbrev pub decreases-loop-left : goal.decreases-loop-left
+decreases-loop-left l =
+    l.left

@@ -1,0 +1,66 @@
+-- The invariant is that the sum so far and the weight of the pending terms are the term's, which ends where they end; a sum past the limit only grows.
+use borrow.Author.Rules.{rules}
+use Rattle.steps.specs.Values.Weights.{Going, going_starts, going_ends, going_long, going_more, going_fault, weight_small, size_in}
+use Rattle.term.specs.Term.{Term}
+use Rattle.term.specs.Reader.{term, symbol_at}
+use Rattle.protocol.specs.Places.{ReadAs}
+use Rattle.lists.specs.Asks.{Promises₂}
+use Rattle.octets.specs.Limits.{longest}
+use Rattle.steps.specs.Values.{most_filled_in}
+use Prim.Native.Nat.{ℕ, ◌+◌, ◌-◌, ◌*◌, ◌≤◌}
+use mathlib.Core.Path.{sym, ◌∙◌}
+use lib.ListN.{length}
+use native.Mathlib.Omega.{arith}
+use Rattle.steps.proofs.sizes.term_small.Goals as goal
+
+pub loop-pending-init : goal.loop-pending-init
+loop-pending-init c =
+    (omega arith, omega arith, λ t e h. going_starts _ _ _ t e _ h)
+
+pub overflow_add-sum : goal.overflow_add-sum
+overflow_add-sum c =
+    let b : _ ≤ longest = weight_small (size_in c.args.sizes.now) longest (omega arith) c.requires.2
+    (symbol_at c.args.file.now c.args.arities.now c.loop-pending.i) (sym c.one_weight.ensures ∙ c.in-Takes.is) in
+    omega (arith, b, c.loop-pending.invariant.1)
+
+pub returns-then-sum-gt-MOST_FILLED_IN : goal.returns-then-sum-gt-MOST_FILLED_IN
+returns-then-sum-gt-MOST_FILLED_IN c =
+    λ t e h. going_long _ _ (size_in c.args.sizes.now) t e _ _ _ (going_more _ _ (λ j. (c.type_inv.file j).fits)
+    (size_in c.args.sizes.now) t e _ _ _ _ _ _ c.loop-pending-test.true (c.loop-pending.invariant.2 t e h)
+    (sym c.one_weight.ensures ∙ c.in-Takes.is)).going c.if-sum-gt-MOST_FILLED_IN.true
+
+pub overflow_add-pending : goal.overflow_add-pending
+overflow_add-pending c =
+    let q = c.requires.0 in
+    let x = going_more _ _ (λ j. (c.type_inv.file j).fits) (size_in c.args.sizes.now) q.0 q.1 _ _ _ _ _ _ c.loop-pending-test.true
+    (c.loop-pending.invariant.2 q.0 q.1 q.2) (sym c.one_weight.ensures ∙ c.in-Takes.is) in
+    omega (arith, x.ahead, x.inside, c.loop-pending.invariant.0, c.in-Takes.known_told-1-own.given.1.0)
+
+pub loop-pending-smaller : goal.loop-pending-smaller
+loop-pending-smaller c =
+    let q = c.requires.0 in
+    let x = going_more _ _ (λ j. (c.type_inv.file j).fits) (size_in c.args.sizes.now) q.0 q.1 _ _ _ _ _ _ c.loop-pending-test.true
+    (c.loop-pending.invariant.2 q.0 q.1 q.2) (sym c.one_weight.ensures ∙ c.in-Takes.is) in
+    omega (arith, x.ahead, x.inside)
+
+pub loop-pending-preserved : goal.loop-pending-preserved
+loop-pending-preserved c =
+    let q = c.requires.0 in
+    let x = going_more _ _ (λ j. (c.type_inv.file j).fits) (size_in c.args.sizes.now) q.0 q.1 _ _ _ _ _ _ c.loop-pending-test.true
+    (c.loop-pending.invariant.2 q.0 q.1 q.2) (sym c.one_weight.ensures ∙ c.in-Takes.is) in (
+      omega (arith, x.ahead, x.inside, c.loop-pending.invariant.0, c.in-Takes.known_told-1-own.given.1.0),
+      omega (arith, c.if-sum-gt-MOST_FILLED_IN.false),
+      λ t e h. (going_more _ _
+          (λ j. (c.type_inv.file j).fits) (size_in c.args.sizes.now) t e _ _ _ _ _ _ c.loop-pending-test.true (c.loop-pending.invariant.2 t e h)
+          (sym c.one_weight.ensures ∙ c.in-Takes.is)).going,
+    )
+
+pub returns-in-Fault : goal.returns-in-Fault
+returns-in-Fault c =
+    λ t e h. going_fault _ _ (λ j. (c.type_inv.file j).fits) (size_in c.args.sizes.now) t e _ _ _ c.loop-pending-test.true
+    (c.loop-pending.invariant.2 t e h) (sym c.one_weight.ensures ∙ c.in-Fault.is)
+
+pub returns : goal.returns
+returns c =
+    λ t e h. going_ends _ _ (size_in c.args.sizes.now) t e _ _ _ (omega (arith, c.loop-pending-test.false))
+    c.loop-pending.invariant.1 (c.loop-pending.invariant.2 t e h)

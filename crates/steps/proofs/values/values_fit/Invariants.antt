@@ -1,0 +1,26 @@
+-- The invariant is that sorts and values from v on decide; each turn tests one value against its variable's sort.
+use borrow.Author.Rules.{rules}
+use Rattle.steps.specs.Values.Loops.{value_there, Left, left_all, left_more, left_bad, left_none}
+use Rattle.steps.specs.Values.Code.{room_kept}
+use Rattle.steps.specs.Values.Parts.{no_term}
+use Rattle.steps.specs.Values.Tests.{value_ok}
+use Rattle.steps.specs.Table.Laws.{node_variables, node_sort}
+use Rattle.steps.specs.Table.{RowsFor, NodeIn}
+use Rattle.steps.specs.Nodes.{Node, most_nodes}
+use Rattle.prepared.specs.Prepared.Laws.{slots_length}
+use Rattle.protocol.specs.Protocol.{Protocol}
+use Rattle.protocol.specs.Figures.{most_variables}
+use Prim.Native.Nat.{ℕ, ◌+◌, ◌-◌, ◌≤◌, ◌<◌}
+use mathlib.Core.Path.{◌≡◌, ap, sym, ◌∙◌}
+use lib.ListN.{length, get_or}
+use native.Mathlib.Omega.{arith}
+use Rattle.steps.proofs.values.values_fit.Given as goal
+
+abbrev pub invariant-loop-v : goal.invariant-loop-v
+invariant-loop-v l =
+    (l.v ≤ l.k) × (length l.out ≡ length l.initial.out) × (l.k ≤ most_variables) × (l.j < most_nodes) × RowsFor l.nodes (l.j + 1) ×
+    ((P : Protocol) (x : Node) (h : NodeIn l.p l.s l.nodes l.j P x) → Left h l.v)
+
+abbrev pub decreases-loop-v : goal.decreases-loop-v
+decreases-loop-v l =
+    l.k - l.v
