@@ -19,7 +19,7 @@ use term::Public;
 const PUBLIC: u32 = term::PUBLIC as u32;
 
 // Whether the symbols of two facts are equal, and whether the bytes that are wanted are.
-#[derive(Drop)]
+#[derive(Clone, Copy)]
 pub struct Both {
     pub symbols: bool,
     pub bytes: bool,

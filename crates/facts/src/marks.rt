@@ -31,7 +31,7 @@ pub fn mark_bytes(file: &[u8], from: u32) -> u32
 }
 
 // A fact that is kept: its symbol and its mark, and the place behind its canonical bytes, which stand at the start of the output.
-#[derive(Drop)]
+#[derive(Clone, Copy)]
 pub struct KeptFact {
     pub symbol: usize,
     pub mark: u32,

@@ -11,7 +11,7 @@ use crate::writing::Wanted;
 use prepared::{finding, list_places};
 
 // A fact of a node: the node's number, from 0, the list of its rule (0 premises, 1 actions, 2 conclusions), the number in that list, from 0.
-#[derive(Drop)]
+#[derive(Clone, Copy)]
 pub struct FactId {
     pub node: usize,
     pub list: usize,
@@ -19,14 +19,14 @@ pub struct FactId {
 }
 
 // A fact of a node and its place in the prepared protocol.
-#[derive(Drop)]
+#[derive(Clone, Copy)]
 pub struct PlacedFact {
     pub id: FactId,
     pub place: usize,
 }
 
 // The fact's symbol, and the place behind the bytes that were written.
-#[derive(Drop)]
+#[derive(Clone, Copy)]
 pub struct WrittenFact {
     pub symbol: usize,
     pub end: usize,

@@ -1,0 +1,7 @@
+-- The mark of the fact that is kept.
+use borrow.Author.Rules.{rules}
+use Rattle.facts.proofs.marks.fact_mark.Goals as goal
+
+pub returns : goal.returns
+returns c =
+    λ P m h. (c.keep_fact-a.ensures P m h).mark_is
