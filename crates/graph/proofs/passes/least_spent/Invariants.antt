@@ -1,0 +1,27 @@
+-- The invariant is that searching on from node j finds what searching all finds; the first bad node ends it.
+use borrow.Author.Rules.{rules}
+use lib.ListN.{get_or}
+use mathlib.Core.List.{List}
+use Rattle.lists.specs.Asks.{Promises₃}
+use Rattle.steps.specs.Table.Laws.{node_in}
+use Rattle.steps.specs.Nodes.{Node, no_node}
+use Rattle.rewriting.specs.Graph.{Edge}
+use Rattle.graph.specs.Passes.{OutOf}
+use Rattle.graph.specs.Table.{NodesOf}
+use native.Mathlib.Omega.{arith}
+use Prim.Native.Nat.{ℕ, ◌-◌, ◌≤◌}
+use Rattle.protocol.specs.Protocol.{Protocol}
+use Rattle.rewriting.specs.Checker.{conclusions_ok}
+use Rattle.steps.specs.Runs.{protocol_facts, rewrittens, rewritten}
+use Rattle.steps.specs.Values.Scan.{Rest, rest_all}
+use Rattle.graph.specs.Scan.{nodes_listed, scan_more, scan_bad, scan_none}
+use Rattle.graph.proofs.passes.least_spent.Given as goal
+
+abbrev pub invariant-loop-j : goal.invariant-loop-j
+invariant-loop-j l =
+    (l.j ≤ l.n) × Promises₃ (NodesOf l.p l.nodes l.n) (λ (s : List ℕ) (P : Protocol) (xs : List Node). (es : List Edge) → OutOf l.uses es → Rest
+    (conclusions_ok (protocol_facts P) es) (rewritten P no_node) (rewrittens P xs) l.j)
+
+abbrev pub decreases-loop-j : goal.decreases-loop-j
+decreases-loop-j l =
+    l.n - l.j

@@ -1,0 +1,33 @@
+-- Together, by recursion over the levels left: each clause of `formula_at` and `fit` is the answer of the call for that tag.
+use borrow.Author.Rules.{rules}
+use Rattle.property.specs.Walk.Formulas.{pair_end, pair_fault, quant_room, quant_end, quant_fault, body_false}
+use Rattle.property.specs.Walk.Formulas.{body_atom, body_pair, body_quant, level_none, level_tag, level_fault}
+use Rattle.property.specs.Walk.{scope_of, HeadIs}
+use Rattle.property.specs.Layout.{scoped_at, formula_at}
+use Rattle.number.specs.Reading.{as_read}
+use Prim.Native.Nat.{ℕ, ◌+◌, ◌*◌, ◌<◌}
+use native.Mathlib.Omega.{arith}
+use mathlib.Core.Path.{ap, sym, ◌∙◌, subst}
+use Prim.Native.Nat.{ℕ, ◌<◌}
+use Rattle.property.proofs.formulas.+see_body_see_formula_see_pair_see_quantifier.{
+  statement,
+}
+  close,
+}
+use Rattle.property.proofs.formulas.+see_body_see_formula_see_pair_see_quantifier.Given as goal
+
+abbrev pub decreases-see_body : goal.decreases-see_body
+decreases-see_body l =
+    3 * l.levels + 2
+
+abbrev pub decreases-see_formula : goal.decreases-see_formula
+decreases-see_formula l =
+    3 * l.levels
+
+abbrev pub decreases-see_pair : goal.decreases-see_pair
+decreases-see_pair l =
+    3 * l.levels + 1
+
+abbrev pub decreases-see_quantifier : goal.decreases-see_quantifier
+decreases-see_quantifier l =
+    3 * l.levels + 1

@@ -1,0 +1,17 @@
+-- The invariant is that j sorts are read up to i and stand behind those in scope, which stay; each turn adds one.
+use borrow.Author.Rules.{rules}
+use Rattle.property.specs.Walk.Heads.{Sorting, sorting_begins, sorting_next, sorting_ends, sorting_stops}
+use Rattle.property.specs.Walk.{SortIs}
+use lib.ListN.{length}
+use Prim.Native.Nat.{◌+◌, ◌-◌, ◌≤◌, ◌<◌}
+use native.Mathlib.Omega.{arith}
+use mathlib.Core.Path.{◌≡◌, subst}
+use Rattle.property.proofs.heads.read_sorts.Given as goal
+
+abbrev pub invariant-loop-j : goal.invariant-loop-j
+invariant-loop-j l =
+    (l.j ≤ l.k) × Sorting l.f l.at l.n l.initial.sorts l.sorts l.j l.i
+
+abbrev pub decreases-loop-j : goal.decreases-loop-j
+decreases-loop-j l =
+    l.k - l.j
