@@ -9,32 +9,27 @@ use Prim.Native.Nat.{ℕ, ◌+◌, ◌*◌, ◌<◌}
 use native.Mathlib.Omega.{arith}
 use mathlib.Core.Path.{ap, sym, ◌∙◌, subst}
 use Prim.Native.Nat.{ℕ, ◌<◌}
-use Rattle.property.proofs.formulas.+see_body_see_formula_see_pair_see_quantifier.{
-  statement,
-}
-  close,
-}
 use Rattle.property.proofs.formulas.+see_body_see_formula_see_pair_see_quantifier.Goals as goal
 
 pub see_body-returns-then-tag-eq-FALSE : goal.see_body-returns-then-tag-eq-FALSE
 see_body-returns-then-tag-eq-FALSE t c =
     λ ars t. body_false c.args.f.now ars (formula_at c.args.f.now ars c.args.levels) c.args.n c.args.tag c.args.at
-    (scope_of c.args.n c.args.t6) c.if-tag-eq-FALSE.true
+    (scope_of c.args.n c.args.sorts) c.if-tag-eq-FALSE.true
 
 pub see_body-returns-then-tag-lt-AND : goal.see_body-returns-then-tag-lt-AND
 see_body-returns-then-tag-lt-AND t c =
     λ ars t. body_atom c.args.f.now ars (formula_at c.args.f.now ars c.args.levels) c.args.n c.args.tag c.args.at
-    (scope_of c.args.n c.args.t6) c.if-tag-eq-FALSE.false c.if-tag-lt-AND.true (c.see_atom.ensures ars t)
+    (scope_of c.args.n c.args.sorts) c.if-tag-eq-FALSE.false c.if-tag-lt-AND.true (c.see_atom.ensures ars t)
 
 pub see_body-returns-then-tag-lt-EXISTS : goal.see_body-returns-then-tag-lt-EXISTS
 see_body-returns-then-tag-lt-EXISTS t c =
     λ ars t. body_pair c.args.f.now ars (formula_at c.args.f.now ars c.args.levels) c.args.n c.args.tag c.args.at
-    (scope_of c.args.n c.args.t6) c.if-tag-eq-FALSE.false c.if-tag-lt-AND.false c.if-tag-lt-EXISTS.true (c.see_pair.ensures ars t)
+    (scope_of c.args.n c.args.sorts) c.if-tag-eq-FALSE.false c.if-tag-lt-AND.false c.if-tag-lt-EXISTS.true (c.see_pair.ensures ars t)
 
 pub see_body-returns : goal.see_body-returns
 see_body-returns t c =
     λ ars t. body_quant c.args.f.now ars (formula_at c.args.f.now ars c.args.levels) c.args.n c.args.tag c.args.at
-    (scope_of c.args.n c.args.t6) c.if-tag-eq-FALSE.false c.if-tag-lt-AND.false c.if-tag-lt-EXISTS.false (c.see_quantifier.ensures ars t)
+    (scope_of c.args.n c.args.sorts) c.if-tag-eq-FALSE.false c.if-tag-lt-AND.false c.if-tag-lt-EXISTS.false (c.see_quantifier.ensures ars t)
 
 pub see_formula-returns-then-levels-eq0 : goal.see_formula-returns-then-levels-eq0
 see_formula-returns-then-levels-eq0 t c =

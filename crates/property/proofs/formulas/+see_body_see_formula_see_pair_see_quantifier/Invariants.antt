@@ -9,11 +9,6 @@ use Prim.Native.Nat.{ℕ, ◌+◌, ◌*◌, ◌<◌}
 use native.Mathlib.Omega.{arith}
 use mathlib.Core.Path.{ap, sym, ◌∙◌, subst}
 use Prim.Native.Nat.{ℕ, ◌<◌}
-use Rattle.property.proofs.formulas.+see_body_see_formula_see_pair_see_quantifier.{
-  statement,
-}
-  close,
-}
 use Rattle.property.proofs.formulas.+see_body_see_formula_see_pair_see_quantifier.Given as goal
 
 abbrev pub decreases-see_body : goal.decreases-see_body

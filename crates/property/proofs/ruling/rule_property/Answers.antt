@@ -12,12 +12,12 @@ see_property-requires c =
 
 pub returns-then-fits : goal.returns-then-fits
 returns-then-fits c =
-    λ P b. ruled_good (property c.args.f.now (fact_arities P.symbols)) (sym c.??fits2.given.1 ∙ c.see_property.ensures
+    λ P b. ruled_good (property c.args.f.now (fact_arities P.symbols)) (sym c.in-End.is ∙ c.see_property.ensures
     (fact_arities P.symbols) (body_tabled b)) c.if-fits.true
 
 pub returns-else-fits : goal.returns-else-fits
 returns-else-fits c =
-    λ P b. ruled_unfit (property c.args.f.now (fact_arities P.symbols)) (sym c.??fits2.given.1 ∙ c.see_property.ensures
+    λ P b. ruled_unfit (property c.args.f.now (fact_arities P.symbols)) (sym c.in-End.is ∙ c.see_property.ensures
     (fact_arities P.symbols) (body_tabled b)) c.if-fits.false
 
 pub returns-in-Fault : goal.returns-in-Fault
