@@ -1,0 +1,17 @@
+-- Chains for the most actions are empty and long enough, so the classes made over them are what is promised.
+use Rattle.trace.specs.Classes.Exact.{classes_made}
+use Rattle.trace.specs.Classes.Places.{ready_few}
+use Rattle.trace.specs.Chains.{most_chains}
+use Rattle.trace.specs.Chains.Laws.{most_behind}
+use Rattle.lists.specs.Lists.Laws.{zeros_at}
+use native.Mathlib.Omega.{arith}
+use borrow.Author.Rules.{rules}
+use Rattle.trace.proofs.classes.class_many.Goals as goal
+
+pub class_places-requires : goal.class_places-requires
+class_places-requires c =
+    (c.requires.0, c.requires.1, c.requires.2, most_behind (omega (arith, ready_few c.requires.0.2)), λ i. zeros_at most_chains i)
+
+pub returns : goal.returns
+returns c =
+    λ P xs r. classes_made r (c.class_places.ensures P xs r)

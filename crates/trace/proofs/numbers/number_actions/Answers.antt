@@ -1,0 +1,57 @@
+-- The invariant is that the first e actions are numbered; each turn numbers one action's places.
+use borrow.Author.Rules.{rules}
+use native.Mathlib.Omega.{arith}
+use lib.ListN.{length}
+use mathlib.Core.Path.{◌≡◌}
+use mathlib.Core.List.{List}
+use Prim.Native.Nat.{◌*◌, ◌-◌, ◌≤◌}
+use Rattle.steps.specs.Nodes.{Node}
+use Rattle.lists.specs.Asks.{Promises₂}
+use Rattle.protocol.specs.Protocol.{Protocol}
+use Rattle.facts.specs.Owed.{room_kept}
+use Rattle.trace.specs.Tables.{stride}
+use Rattle.trace.specs.Entries.{ListedAll}
+use Rattle.trace.specs.Entries.Laws.{total_few}
+use Rattle.trace.specs.Numbers.{NumberedTo}
+use Rattle.trace.specs.Numbers.Places.{numbered_none, numbered_at, listed_action}
+use Rattle.trace.proofs.numbers.number_actions.Goals as goal
+
+pub loop-e-init : goal.loop-e-init
+loop-e-init c =
+    (omega arith, search rules, search rules, λ P xs a. numbered_at _ _ (omega arith) numbered_none)
+
+pub offset_bounds-entries-e : goal.offset_bounds-entries-e
+offset_bounds-entries-e c =
+    omega (arith, total_few c.requires.0.2, c.loop-e-test.true)
+
+pub bounds-entries-e : goal.bounds-entries-e
+bounds-entries-e c =
+    let (P, xs, a) = c.requires.0 in
+    omega (arith, a.count, a.listed.long, c.loop-e-test.true)
+
+pub number_action-requires : goal.number_action-requires
+number_action-requires c =
+    let (P, xs, a) = c.requires.0 in (
+      (P, xs, listed_action a.listed _ (omega (arith, a.count, c.loop-e-test.true)) _ c.action_of-x.ensures),
+      room_kept _ _ _
+          c.loop-e.invariant.1 c.requires.1,
+      omega (arith, total_few a, c.loop-e-test.true),
+      omega (arith, c.loop-e.invariant.2, c.requires.2, c.loop-e-test.true),
+    )
+
+pub overflow_add-e : goal.overflow_add-e
+overflow_add-e c =
+    omega (arith, c.loop-e-test.true)
+
+pub loop-e-preserved : goal.loop-e-preserved
+loop-e-preserved c = (
+  omega arith,
+  search rules,
+  search rules,
+  λ P xs a. c.number_action.ensures P xs
+      (listed_action a.listed _ (omega (arith, a.count, c.loop-e-test.true)) _ c.action_of-x.ensures) (c.loop-e.invariant.3 P xs a),
+)
+
+pub returns : goal.returns
+returns c =
+    λ P xs a. numbered_at _ _ (omega (arith, c.loop-e.invariant.0, c.loop-e-test.false)) (c.loop-e.invariant.3 P xs a)

@@ -1,0 +1,26 @@
+-- One node a turn: the edges so far and what follows from node k on make up the whole, with the conclusions before k in the table.
+use borrow.Author.Rules.{rules}
+use native.Mathlib.Omega.{arith}
+use mathlib.Core.Path.{◌≡◌, ap, ◌∙◌, subst}
+use Rattle.rewriting.specs.Table.{refused}
+use mathlib.Core.List.{List}
+use lib.ListN.{length}
+use Prim.Native.Nat.{ℕ, suc, ◌+◌, ◌-◌, ◌≤◌}
+use Rattle.lists.specs.Choice.{clash}
+use Rattle.lists.specs.Asks.{Promises₂}
+use Rattle.protocol.specs.Protocol.{Protocol}
+use Rattle.steps.specs.Nodes.{Node}
+use Rattle.steps.specs.Causes.Good.{RightNodes}
+use Rattle.facts.specs.Owed.{room_kept}
+use Rattle.writer.specs.Sources.{Choosing, Chosen}
+use Rattle.writer.specs.Sources.Laws.{none_chosen, node_begun, node_entered, node_left, all_chosen}
+use Rattle.writer.proofs.sources.choose_with.Given as goal
+
+abbrev pub invariant-loop-k : goal.invariant-loop-k
+invariant-loop-k l =
+    (l.k ≤ l.n) × (length l.work ≡ length l.initial.work) × (length l.edges ≡ length l.initial.edges) × (length l.free ≡ length l.initial.free) × Promises₂ (RightNodes l.p l.s l.nodes l.n)
+    (λ (P : Protocol) (xs : List Node). Choosing l.p l.s l.nodes l.free l.edges l.k l.e P xs)
+
+abbrev pub decreases-loop-k : goal.decreases-loop-k
+decreases-loop-k l =
+    l.n - l.k
