@@ -17,7 +17,7 @@ use crate::reading::{Coded, Guard, Num};
 use crate::{entries, figures, matching, reading, skipping};
 
 // The truth of a formula, and the place behind it.
-#[derive(Drop)]
+#[derive(Clone, Copy)]
 pub struct Judged {
     pub truth: bool,
     pub next: usize,

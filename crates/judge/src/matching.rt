@@ -11,14 +11,14 @@ use crate::reading::Coded;
 use crate::{figures, reading};
 
 // A class number or a node number for each variable, and how many are bound.
-#[derive(Drop)]
+#[derive(Clone, Copy)]
 pub struct Bindings {
     pub values: [u32; figures::SCOPE],
     pub count: usize,
 }
 
 // Whether a guard is an entry's fact, and the values with those of the new variables.
-#[derive(Drop)]
+#[derive(Clone, Copy)]
 pub struct Matched {
     pub values: [u32; figures::SCOPE],
     pub yes: bool,

@@ -8,21 +8,21 @@ use crate::figures;
 use number::Number;
 
 // A number and the place behind it.
-#[derive(Drop)]
+#[derive(Clone, Copy)]
 pub struct Num {
     pub value: usize,
     pub next: usize,
 }
 
 // The codes of terms: a variable's number, or a public name's behind those of all variables.
-#[derive(Drop)]
+#[derive(Clone, Copy)]
 pub struct Codes {
     pub codes: [u32; figures::ARITY],
     pub next: usize,
 }
 
 // A fact and its time variable: the symbol, how many terms, the variable, the terms' codes; and the place behind them.
-#[derive(Drop)]
+#[derive(Clone, Copy)]
 pub struct Coded {
     pub symbol: usize,
     pub count: usize,
@@ -32,7 +32,7 @@ pub struct Coded {
 }
 
 // What stands before a quantifier's body: whether it is for all, how many variables are new, the guard.
-#[derive(Drop)]
+#[derive(Clone, Copy)]
 pub struct Guard {
     pub every: bool,
     pub fresh: usize,

@@ -14,6 +14,7 @@ use Rattle.trace.specs.Tables.{Starts}
 use Rattle.trace.specs.Active.{is_active}
 use Rattle.trace.specs.Active.Laws.{active_more, active_same, active_all}
 use Rattle.trace.proofs.active.active_nodes.Goals as goal
+use Rattle.trace.proofs.active.active_nodes.Goals.{then-starts-k, else-starts-k}
 
 pub loop-k-init : goal.loop-k-init
 loop-k-init c =
@@ -47,12 +48,17 @@ overflow_add-active c =
 pub loop-k-preserved : goal.loop-k-preserved
 loop-k-preserved c = (
   omega arith,
-  ⊎_elim (λ h. omega (arith, h.1, c.loop-k.invariant.1)) (λ h. omega (arith, h.1, c.loop-k.invariant.1)) c.if-starts-k.branch,
+  elim c.if-starts-k.branch [
+    then-starts-k w ↦ omega (arith, w.active-is, c.loop-k.invariant.1)
+    | else-starts-k w ↦ omega (arith, w.active-is, c.loop-k.invariant.1)
+  ],
   λ P xs b e.
       let l : c.loop-k.k < length xs = omega (arith, e, c.loop-k-test.true) in
       let o = c.loop-k.invariant.2 P xs b e in
-      ⊎_elim (λ h. h.1 ∙ active_more b c.loop-k.k l _ o h.0.taken) (λ h. h.1 ∙ active_same b c.loop-k.k l _ o (omega (arith, h.0.left)))
-      c.if-starts-k.branch,
+      elim c.if-starts-k.branch [
+        then-starts-k w ↦ w.active-is ∙ active_more b c.loop-k.k l _ o w.if-starts-k.true
+        | else-starts-k w ↦ w.active-is ∙ active_same b c.loop-k.k l _ o (omega (arith, w.if-starts-k.false))
+      ],
 )
 
 pub returns : goal.returns

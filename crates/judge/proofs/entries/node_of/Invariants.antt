@@ -1,0 +1,16 @@
+-- The invariant is that entry e is not before the node's first; it is the node's where the next one's begin behind it.
+use Rattle.judge.specs.Tables.Entries.{node_inside, node_next, node_found}
+use Rattle.judge.specs.Tables.{Past}
+use borrow.Author.Rules.{rules}
+use lib.ListN.{length}
+use native.Mathlib.Omega.{arith}
+use Prim.Native.Nat.{◌-◌}
+use Rattle.judge.proofs.entries.node_of.Given as goal
+
+abbrev pub invariant-loop-node : goal.invariant-loop-node
+invariant-loop-node l =
+    Past l.starts l.node l.e
+
+abbrev pub decreases-loop-node : goal.decreases-loop-node
+decreases-loop-node l =
+    length l.starts - l.node

@@ -1,0 +1,19 @@
+-- The invariant is that `same` tells of the first j terms.
+use Rattle.judge.specs.Bindings.Tests.{all_step}
+use Rattle.judge.specs.Bindings.{all_up, value}
+use borrow.Author.Rules.{rules}
+use lib.Dec.{eqb}
+use lib.ListN.{get_or, length}
+use native.Mathlib.Omega.{arith}
+use Prim.Native.Nat.{◌+◌, ◌-◌, ◌≤◌, ◌<◌}
+use mathlib.Core.Bool.{◌&&◌}
+use mathlib.Core.Path.{◌≡◌, refl, ap, ap₂, ◌∙◌}
+use Rattle.judge.proofs.matching.agree.Given as goal
+
+abbrev pub invariant-loop-j : goal.invariant-loop-j
+invariant-loop-j l =
+    (l.j ≤ l.count) × (l.same ≡ all_up (λ i. eqb (value l.base l.values (get_or l.codes i 0)) (get_or l.classes (l.p + i) 0)) l.j)
+
+abbrev pub decreases-loop-j : goal.decreases-loop-j
+decreases-loop-j l =
+    l.count - l.j
