@@ -10,8 +10,6 @@ use Rattle.steps.specs.Runs.{protocol_facts, rewrittens}
 use Rattle.steps.specs.Runs.Equations.{AcceptedSame, graph_rows_same}
 use Rattle.steps.specs.Causes.{graph_item, read_rows, read_ruling, value_ruling}
 use Rattle.graph.specs.Graph.{Graph, GraphBelow, encode_graph, graph}
--- the ruling is what the rows say, and passes just the dependency graphs
-pub mod Laws
 
 module _ (p : Protocol) where
   -- ── 7 to 13 ──

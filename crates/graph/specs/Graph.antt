@@ -7,8 +7,6 @@ use Rattle.number.specs.Layout.{listed}
 use Rattle.rewriting.specs.Graph.{Place, Edge}
 use Rattle.protocol.specs.Protocol.{Protocol}
 use Rattle.steps.specs.Nodes.{Node, encode_nodes, NodesBelow, Reading, read, onward, plainly, all_of, node_list}
--- what is within the limits reads back from its bytes, and what reads is within them and stands there
-pub mod Exact
 -- an accepted graph keeps within the limits
 pub mod Limits
 -- a larger limit of numbers

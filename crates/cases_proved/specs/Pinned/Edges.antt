@@ -17,7 +17,7 @@ use Rattle.steps.specs.Nodes.{Reading, read, node_of_lem, NodesWithin}
 use Rattle.steps.specs.Causes.{graph_item, read_ruling}
 use Rattle.steps.specs.Facts.{same_fact, same_term, same_terms}
 use Rattle.graph.specs.Graph.{Graph, graph_of_lem, place_of, edge_of, EdgeBelow, GraphWithin, encode_graph, graph}
-use Rattle.graph.specs.Graph.Exact.{graph_back}
+use Rattle.graph.proofs.Graph.Exact.{graph_back}
 use Rattle.graph.specs.Causes.{ruling, graph_ruling}
 use Rattle.property.specs.Formula.{absurdity}
 use Rattle.property.specs.Layout.{formula_at, property}

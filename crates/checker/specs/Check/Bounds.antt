@@ -20,9 +20,9 @@ use Rattle.steps.specs.Runs.{rewritten, rewrittens}
 use Rattle.steps.specs.Causes.{graph_item, read_rows, read_ruling}
 use Rattle.graph.specs.Graph.{Graph, most_edges}
 use Rattle.graph.specs.Graph as graphs
-use Rattle.graph.specs.Graph.Exact.{graph_form, graph_rule_missing}
+use Rattle.graph.proofs.Graph.Exact.{graph_form, graph_rule_missing}
 use Rattle.graph.specs.Causes.{graph_rows, graph_file_rows, graph_ruling, DependencyGraph}
-use Rattle.graph.specs.Causes.Laws.{graph_ruled}
+use Rattle.graph.proofs.Causes.Laws.{graph_ruled}
 use Rattle.property.specs.Formula.{Formula}
 use Rattle.property.specs.Layout as layouts
 use Rattle.property.specs.Causes as properties

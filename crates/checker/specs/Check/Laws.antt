@@ -8,7 +8,7 @@ use Rattle.rewriting.specs.Table.Laws.{ruled_then, ruled_and_then, ruled_unique,
 use Rattle.protocol.specs.Protocol.{Protocol, fact_arities}
 use Rattle.graph.specs.Graph.{Graph}
 use Rattle.graph.specs.Causes.{graph_file_rows, graph_ruling, DependencyGraph}
-use Rattle.graph.specs.Causes.Laws.{graph_ruled, graph_accepted}
+use Rattle.graph.proofs.Causes.Laws.{graph_ruled, graph_accepted}
 use Rattle.property.specs.Formula.{Formula}
 use Rattle.property.specs.Layout as properties
 use Rattle.property.specs.Causes.Laws.{Passing, property_ruled}

@@ -1,5 +1,5 @@
 -- One end more, and the counts of all edges.
-use Rattle.std.specs.Prelude.{ℕ, zero, suc, ◌+◌, ◌*◌, ◌-◌, ◌<◌, List, [], ◌∷◌, Bool, true, ◌≡◌, refl, length, get_or, set, replicate}
+use Rattle.std.specs.Prelude.{ℕ, zero, suc, ◌+◌, ◌*◌, ◌<◌, List, [], ◌∷◌, Bool, true, ◌≡◌, refl, length, get_or, set, replicate}
 use Rattle.std.proofs.Common.{ap, ap₂, sym, ◌∙◌, arith, length-set, get_or-set_same, get_or-set_other}
 use Rattle.lists.specs.Tests.{by_bool, true_false}
 use Rattle.lists.specs.Lists.{bit, count_by}

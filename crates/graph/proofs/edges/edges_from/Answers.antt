@@ -1,7 +1,6 @@
 -- Four numbers are an edge, so 4m numbers read are m edges; fewer bytes than numbers cannot hold them.
 use native.Mathlib.Omega.{arith}
 use Rattle.graph.specs.Table.Reading.{edges_end, edges_fault, edges_short}
-use borrow.Author.Rules.{rules}
 use Rattle.graph.proofs.edges.edges_from.Goals as goal
 
 pub returns-then-s-k : goal.returns-then-s-k

@@ -4,7 +4,6 @@ use mathlib.Core.Path.{ap, sym, ◌∙◌}
 use Rattle.number.specs.Reading.{as_read}
 use Rattle.number.specs.Reading.Numbers.{below_inside}
 use Rattle.graph.specs.Table.Reading.{edges_told, edges_none}
-use borrow.Author.Rules.{rules}
 use Rattle.graph.proofs.edges.read_edges.Goals as goal
 
 pub edges_from-requires : goal.edges_from-requires

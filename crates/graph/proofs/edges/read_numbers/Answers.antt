@@ -2,10 +2,9 @@
 use borrow.Author.Rules.{rules}
 use Rattle.number.specs.Reading.{as_read}
 use native.Mathlib.Omega.{arith}
-use lib.ListN.{length, length-set}
-use mathlib.Core.Path.{◌≡◌, ap, sym, ◌∙◌}
-use Prim.Native.Nat.{◌-◌, ◌≤◌}
-use Rattle.graph.specs.Table.Reading.{NumbersAre, numbers_none, numbers_more, numbers_fault, numbers_end}
+use lib.ListN.{length-set}
+use mathlib.Core.Path.{ap, sym, ◌∙◌}
+use Rattle.graph.specs.Table.Reading.{numbers_none, numbers_more, numbers_fault, numbers_end}
 use Rattle.graph.proofs.edges.read_numbers.Goals as goal
 
 pub loop-j-init : goal.loop-j-init

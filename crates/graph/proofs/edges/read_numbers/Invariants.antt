@@ -1,11 +1,8 @@
 -- The invariant is that j numbers are read up to i and stand in the table; each turn adds one.
-use borrow.Author.Rules.{rules}
-use Rattle.number.specs.Reading.{as_read}
-use native.Mathlib.Omega.{arith}
-use lib.ListN.{length, length-set}
-use mathlib.Core.Path.{◌≡◌, ap, sym, ◌∙◌}
+use lib.ListN.{length}
+use mathlib.Core.Path.{◌≡◌}
 use Prim.Native.Nat.{◌-◌, ◌≤◌}
-use Rattle.graph.specs.Table.Reading.{NumbersAre, numbers_none, numbers_more, numbers_fault, numbers_end}
+use Rattle.graph.specs.Table.Reading.{NumbersAre}
 use Rattle.graph.proofs.edges.read_numbers.Given as goal
 
 abbrev pub invariant-loop-j : goal.invariant-loop-j

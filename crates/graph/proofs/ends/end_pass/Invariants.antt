@@ -1,17 +1,14 @@
 -- The invariant is that searching on from edge j finds what searching all finds; the first bad edge ends it.
-use borrow.Author.Rules.{rules}
 use mathlib.Core.List.{List}
 use Prim.Native.Nat.{ℕ}
 use Rattle.lists.specs.Asks.{Promises₃}
 use Rattle.graph.specs.Graph.{Graph}
 use Rattle.graph.specs.Table.{no_edge, GraphOf}
-use native.Mathlib.Omega.{arith}
 use Prim.Native.Nat.{◌-◌, ◌≤◌}
 use Rattle.protocol.specs.Protocol.{Protocol}
 use Rattle.rewriting.specs.Checker.{ends_ok}
 use Rattle.steps.specs.Runs.{protocol_facts, rewrittens}
-use Rattle.steps.specs.Values.Scan.{Rest, rest_all}
-use Rattle.graph.specs.Scan.{edges_listed, scan_more, scan_bad, scan_none}
+use Rattle.steps.specs.Values.Scan.{Rest}
 use Rattle.graph.proofs.ends.end_pass.Given as goal
 
 abbrev pub invariant-loop-j : goal.invariant-loop-j

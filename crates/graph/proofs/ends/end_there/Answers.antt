@@ -5,7 +5,6 @@ use lib.ListN.{length, get_or}
 use Rattle.steps.specs.Nodes.{no_node}
 use Rattle.steps.specs.Table.Laws.{node_in}
 use Rattle.graph.specs.Ends.{no_node_lem, node_past, no_index, index_there}
-use borrow.Author.Rules.{rules}
 use Rattle.graph.proofs.ends.end_there.Goals as goal
 
 pub returns-then-node-eq0 : goal.returns-then-node-eq0

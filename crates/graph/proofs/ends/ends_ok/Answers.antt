@@ -2,7 +2,6 @@
 use Prim.Native.Nat.{◌+◌, ◌*◌}
 use Rattle.graph.specs.Table.{end_at}
 use Rattle.graph.specs.Ends.{ends_read}
-use borrow.Author.Rules.{rules}
 use Rattle.graph.proofs.ends.ends_ok.Goals as goal
 
 pub returns : goal.returns

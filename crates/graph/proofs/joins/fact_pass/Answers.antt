@@ -1,18 +1,12 @@
 -- The invariant is that searching on from edge j finds what searching all finds; the first edge that differs ends it.
 use borrow.Author.Rules.{rules}
-use lib.ListN.{length}
-use mathlib.Core.Path.{◌≡◌}
-use Rattle.lists.specs.Asks.{Promises₂}
 use Rattle.facts.specs.Owed.{room_kept}
-use Rattle.graph.specs.Graph.{Graph}
 use Rattle.graph.specs.Table.{no_edge}
-use Rattle.graph.specs.Joins.{EndedIn, edge_in}
+use Rattle.graph.specs.Joins.{edge_in}
 use native.Mathlib.Omega.{arith}
-use Prim.Native.Nat.{◌-◌, ◌≤◌}
-use Rattle.protocol.specs.Protocol.{Protocol}
 use Rattle.rewriting.specs.Checker.{facts_ok}
 use Rattle.steps.specs.Runs.{protocol_facts, rewrittens}
-use Rattle.steps.specs.Values.Scan.{Rest, rest_all}
+use Rattle.steps.specs.Values.Scan.{rest_all}
 use Rattle.graph.specs.Scan.{edges_listed, scan_more, scan_bad, scan_none}
 use Rattle.graph.proofs.joins.fact_pass.Goals as goal
 

@@ -4,7 +4,6 @@ use Prim.Native.Nat.{◌-◌}
 use lib.ListN.{get_or}
 use Rattle.steps.specs.Nodes.{no_node}
 use Rattle.graph.specs.Joins.{source_end, target_end, facts_in, facts_agree}
-use borrow.Author.Rules.{rules}
 use Rattle.graph.proofs.joins.facts_ok.Goals as goal
 
 pub overflow_sub-source : goal.overflow_sub-source

@@ -1,7 +1,6 @@
 -- The sources of the edges are counted, and these counts are what least_spent asks.
 use Rattle.graph.specs.Uses.Ends.{sources_inside, sources_counted}
 use native.Mathlib.Omega.{arith}
-use borrow.Author.Rules.{rules}
 use Rattle.graph.proofs.passes.conclusion_pass.Goals as goal
 
 pub count_ends-requires : goal.count_ends-requires

@@ -1,19 +1,12 @@
 -- The invariant is that searching on from node j finds what searching all finds; the first bad node ends it.
 use borrow.Author.Rules.{rules}
 use lib.ListN.{get_or}
-use mathlib.Core.List.{List}
-use Rattle.lists.specs.Asks.{Promises₃}
 use Rattle.steps.specs.Table.Laws.{node_in}
-use Rattle.steps.specs.Nodes.{Node, no_node}
-use Rattle.rewriting.specs.Graph.{Edge}
-use Rattle.graph.specs.Passes.{Into}
-use Rattle.graph.specs.Table.{NodesOf}
+use Rattle.steps.specs.Nodes.{no_node}
 use native.Mathlib.Omega.{arith}
-use Prim.Native.Nat.{ℕ, ◌-◌, ◌≤◌}
-use Rattle.protocol.specs.Protocol.{Protocol}
 use Rattle.rewriting.specs.Checker.{premises_ok}
 use Rattle.steps.specs.Runs.{protocol_facts, rewrittens, rewritten}
-use Rattle.steps.specs.Values.Scan.{Rest, rest_all}
+use Rattle.steps.specs.Values.Scan.{rest_all}
 use Rattle.graph.specs.Scan.{nodes_listed, scan_more, scan_bad, scan_none}
 use Rattle.graph.proofs.passes.least_unfed.Goals as goal
 

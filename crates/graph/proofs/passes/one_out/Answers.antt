@@ -5,7 +5,6 @@ use Rattle.facts.specs.Calls.{fact_at}
 use Rattle.steps.specs.Facts.{is_linear}
 use Rattle.lists.specs.Tests.{or_right}
 use borrow.Author.Tests.{le-leb, lt-leb}
-use borrow.Author.Rules.{rules}
 use Rattle.graph.proofs.passes.one_out.Goals as goal
 
 pub returns-then-count-le-ONE : goal.returns-then-count-le-ONE

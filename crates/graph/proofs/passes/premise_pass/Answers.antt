@@ -1,7 +1,6 @@
 -- The targets of the edges are counted, and these counts are what least_unfed asks.
 use Rattle.graph.specs.Uses.Ends.{targets_inside, targets_counted}
 use native.Mathlib.Omega.{arith}
-use borrow.Author.Rules.{rules}
 use Rattle.graph.proofs.passes.premise_pass.Goals as goal
 
 pub count_ends-requires : goal.count_ends-requires

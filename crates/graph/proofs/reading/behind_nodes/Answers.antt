@@ -1,6 +1,5 @@
 -- The edges end where the file does, or bytes are left over, or they do not read.
 use Rattle.graph.specs.Reading.{behind_end, behind_leftover, behind_fault}
-use borrow.Author.Rules.{rules}
 use Rattle.graph.proofs.reading.behind_nodes.Goals as goal
 
 pub returns-then-e-s : goal.returns-then-e-s

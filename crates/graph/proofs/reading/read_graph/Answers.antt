@@ -1,6 +1,5 @@
 -- The answer for the nodes is the graph's where they do not read; where they do, what is behind them decides.
 use Rattle.graph.specs.Reading.{graph_told, graph_broken, graph_unknown}
-use borrow.Author.Rules.{rules}
 use Rattle.graph.proofs.reading.read_graph.Goals as goal
 
 pub returns-in-End : goal.returns-in-End

@@ -4,7 +4,6 @@ use Rattle.graph.specs.Ruling.{uses_ruling, decided_as, ended_in}
 use Rattle.steps.specs.Values.Scan.{as_found, found_refused, found_passed}
 use mathlib.Core.Path.{ap, sym, ◌∙◌}
 use native.Mathlib.Omega.{arith}
-use borrow.Author.Rules.{rules}
 use Rattle.graph.proofs.ruling.rule_edges.Goals as goal
 
 pub returns-then-missing-ne0 : goal.returns-then-missing-ne0

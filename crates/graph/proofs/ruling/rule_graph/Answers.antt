@@ -1,6 +1,5 @@
 -- A file that reads has its nodes and edges in the tables, so rule_read rules on it; a fault is 3, an unknown rule 6.
-use Rattle.graph.specs.Ruling.{file_broken, file_unknown, file_read, file_in, file_answered}
-use borrow.Author.Rules.{rules}
+use Rattle.graph.proofs.Files.{file_broken, file_unknown, file_read, file_in, file_answered}
 use Rattle.graph.proofs.ruling.rule_graph.Goals as goal
 
 pub rule_read-requires : goal.rule_read-requires

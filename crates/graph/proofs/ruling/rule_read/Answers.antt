@@ -1,6 +1,5 @@
 -- The ruling of the nodes is the graph's where it refuses; where it does not, they are right, and the edges decide.
 use Rattle.graph.specs.Ruling.{nodes_refused, nodes_passed, read_right}
-use borrow.Author.Rules.{rules}
 use Rattle.graph.proofs.ruling.rule_read.Goals as goal
 
 pub rule_edges-requires : goal.rule_edges-requires

@@ -2,7 +2,6 @@
 use Rattle.rewriting.specs.Table.{passed}
 use mathlib.Core.Path.{refl, sym, ◌∙◌}
 use Rattle.steps.specs.Values.Scan.{found_refused, found_passed}
-use borrow.Author.Rules.{rules}
 use Rattle.graph.proofs.ruling.rule_uses.Goals as goal
 
 pub returns-then-unfed-ne0 : goal.returns-then-unfed-ne0

@@ -1,9 +1,7 @@
 -- The invariant is that each byte counts the ends among the first j edges, capped at 2; each turn adds one end.
-use borrow.Author.Rules.{rules}
 use native.Mathlib.Omega.{arith}
 use lib.ListN.{length, length-set}
 use mathlib.Core.Path.{◌≡◌, sym, subst}
-use Prim.Native.Nat.{◌-◌, ◌≤◌}
 use Rattle.graph.specs.Uses.Laws.{counted_none, counted_more}
 use Rattle.graph.specs.Uses.{Counted}
 use Rattle.graph.proofs.uses.count_ends.Goals as goal

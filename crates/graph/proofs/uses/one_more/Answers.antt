@@ -4,7 +4,6 @@ use mathlib.Core.Bool.{Bool}
 use mathlib.Core.Path.{ap, sym}
 use Rattle.lists.specs.Choice.{pick}
 use borrow.Author.Tests.{lt-ltb, le-ltb}
-use borrow.Author.Rules.{rules}
 use Rattle.graph.proofs.uses.one_more.Goals as goal
 
 pub returns-then-count-lt-TWICE : goal.returns-then-count-lt-TWICE

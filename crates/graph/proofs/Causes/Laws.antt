@@ -15,7 +15,7 @@ use Rattle.steps.specs.Runs.Equations.{AcceptedSame, graph_rows_same, absent_sam
 use Rattle.steps.specs.Causes.{graph_item, read_rows, read_ruling}
 use Rattle.steps.specs.Causes.Laws.{read_ruled, values_ruled}
 use Rattle.graph.specs.Graph.{Graph, GraphWithin, graph}
-use Rattle.graph.specs.Graph.Exact.{graph_form, graph_back}
+use Rattle.graph.proofs.Graph.Exact.{graph_form, graph_back}
 use Rattle.graph.specs.Causes.{graph_rows, ruling, graph_file_rows, graph_ruling, DependencyGraph}
 
 module _ (p : Protocol) (fit : Within p) where
