@@ -145,12 +145,12 @@ class Specs:
 
 def home(module):
     """The file of a module of this repository, and the type of the code that it is about, if it is about one."""
-    m = re.match(r"Rattle\.(\w+)\.specs\.(.+)$", module)
+    m = re.match(r"Rattle\.(\w+)\.(specs|proofs)\.(.+)$", module)
     if not m or not os.path.isdir(os.path.join(top, "crates", m[1])):
         return None, None
-    if m[2].startswith("declared."):
-        return f"crates/{m[1]}/src", m[2].split(".")[1]
-    return f"crates/{m[1]}/specs/{m[2].replace('.', '/')}.antt", None
+    if m[3].startswith("declared."):
+        return f"crates/{m[1]}/src", m[3].split(".")[1]
+    return f"crates/{m[1]}/{m[2]}/{m[3].replace('.', '/')}.antt", None
 
 
 def exported():
