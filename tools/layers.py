@@ -16,7 +16,7 @@ with open(os.path.join(top, "crates.txt"), encoding="utf8") as lines:
             faults += [f"crates.txt: {crate} uses {name}" for name in uses.split() if name in forms]
 for crate in above:
     for path in sorted(glob.glob(os.path.join(top, "crates", crate, "**", "*"), recursive=True)):
-        if not path.endswith((".antt", ".rt")):
+        if not path.endswith((".antt", ".rt")) or "/out/" in path:
             continue
         read += 1
         text = open(path, encoding="utf8").read()

@@ -2,6 +2,7 @@
 """Draws docs/architecture.svg from crates.txt: a box for each crate, at the height of its dependency depth, and a line to each crate that it uses directly
 and through no other. usage: picture.py [--check]      (--check: only say whether the stored picture differs, or docs/ARCHITECTURE.md has no line for a crate,
 and fail if so)"""
+import glob
 import os
 import re
 import sys
@@ -13,7 +14,7 @@ GROUPS = {
     "theory": ("definitions and laws, no code", "#e3d9f3", "#6b4fa0"),
     "code": ("proved code", "#d6e8f7", "#2f6a9e"),
     "calls": ("exported calls", "#ffe2b8", "#b36b00"),
-    "programs": ("the program", "#d8efd3", "#3b7d2c"),
+    "programs": ("the program, once for each case", "#d8efd3", "#3b7d2c"),
     "tests": ("cases: the proved table, test programs", "#ececec", "#6a6a6a"),
 }
 ROW, BOX, GAP, MARGIN, LETTER = 58, 32, 18, 30, 7.8
@@ -22,7 +23,7 @@ ROW, BOX, GAP, MARGIN, LETTER = 58, 32, 18, 30, 7.8
 def crates():
     """The crates in the order of crates.txt, each with what it uses."""
     lines = (line.split("#")[0].strip() for line in open(os.path.join(top, "crates.txt"), encoding="utf8"))
-    return {name: uses.split() for name, uses in (line.split(":") for line in lines if line)}
+    return {name.split()[0]: uses.split() for name, uses in (line.split(":") for line in lines if line)}
 
 
 def group(name):
@@ -31,9 +32,10 @@ def group(name):
         return "tests"
     if name.startswith("report"):
         return "programs"
-    if name == "checker":
+    if name in ("checker", "checker_c"):
         return "calls"
-    return "code" if os.path.isdir(os.path.join(top, "crates", name, "proofs")) else "theory"
+    files = glob.glob(os.path.join(top, "crates", name, "src", "**", "*.rt"), recursive=True)
+    return "code" if any(re.search(r"\bfn ", open(file, encoding="utf8").read()) for file in files) else "theory"
 
 
 def directly(uses):
@@ -139,9 +141,10 @@ def picture():
     wide = max(round(max(x[v] + width(v) / 2 for v in x)) + MARGIN, 640)
     high = legend + MARGIN + ROW * len(rows)
     kit = sorted({u for name in uses for u in uses[name] if u not in uses})
+    of_kit = f" {', '.join(kit)} are the kit's." if kit else ""
     out = [
         f'<svg xmlns="http://www.w3.org/2000/svg" viewBox="0 0 {wide} {high}" width="{wide}" height="{high}" font-family="DejaVu Sans, Verdana, sans-serif" font-size="13">',
-        f"<title>The crates; a line goes down to what a crate uses directly. {', '.join(kit)} are the kit's.</title>",
+        f"<title>The crates; a line goes down to what a crate uses directly.{of_kit}</title>",
         f'<rect width="{wide}" height="{high}" fill="#ffffff"/>',
     ]
     at, down = MARGIN, 20

@@ -65,13 +65,16 @@ def signature(text):
 
 
 def uses(name, found):
-    """Whether these are the words of a text that uses the name, also as an operator: `_∷_` as `a ∷ l`."""
-    return name in found or "_" in name and all(part in found for part in name.split("_") if part)
+    """Whether these are the words of a text that uses the name, also as an operator: `◌∷◌` as `a ∷ l`."""
+    return name in found or "◌" in name and all(part in found for part in name.split("◌") if part)
 
 
 def imported(line):
-    """The module, the names and the alias of an import, in a file of specs or of source."""
+    """The module, the names and the alias of an import, in a file of specs or of source. Without brackets and alias, the last word is a name."""
     m = re.match(r"(?:ghost )?use (\S+?)(?:\.\{([^}]*)\})?(?: as (\S+?))?;?$", line.rstrip())
+    if m and not m[2] and not m[3]:
+        module, _, name = m[1].rpartition(".")
+        return module, [name], None
     return m and (m[1], m[2] and m[2].split(", "), m[3])
 
 
@@ -81,10 +84,8 @@ def used(imports, text):
     for module, names, alias in imports:
         if names:
             yield from ((module, name) for name in names if uses(name, found))
-        elif alias:
-            yield from ((module, word[len(alias) + 1:]) for word in found if word.startswith(alias + "."))
         else:
-            yield module, "everything"
+            yield from ((module, word[len(alias) + 1:]) for word in found if word.startswith(alias + "."))
 
 
 class Specs:
@@ -144,17 +145,18 @@ class Specs:
 
 def home(module):
     """The file of a module of this repository, and the type of the code that it is about, if it is about one."""
-    m = re.match(r"Rattle·(\w+?)(?:·specs\.specs|\.specs)\.(.+)$", module)
-    if not m:
+    m = re.match(r"Rattle\.(\w+)\.(specs|proofs)\.(.+)$", module)
+    if not m or not os.path.isdir(os.path.join(top, "crates", m[1])):
         return None, None
-    if m[2].startswith("declared."):
-        return f"crates/{m[1]}/src", m[2].split(".")[1]
-    return f"crates/{m[1]}/specs/{m[2].replace('.', '/')}.antt", None
+    if m[3].startswith("declared."):
+        return f"crates/{m[1]}/src", m[3].split(".")[1]
+    return f"crates/{m[1]}/{m[2]}/{m[3].replace('.', '/')}.antt", None
 
 
 def exported():
     """The contract of each exported call, with its file and the imports there."""
-    for folder, _, names in os.walk(os.path.join(top, "crates")):
+    for folder, folders, names in os.walk(os.path.join(top, "crates")):
+        folders[:] = [name for name in folders if name != "out"]
         for path in (os.path.relpath(os.path.join(folder, name), top) for name in names if name.endswith(".rt")):
             text = read(path)
             for name, contract in re.findall(r'pub extern "C" fn (\w+)(.*?)\n\{', text, re.S):

@@ -1,4 +1,4 @@
-//! Links the archive that `rt staticlib checker` writes.
+//! Links the archive that `tools/archive` makes.
 
 use std::path::Path;
 
@@ -6,7 +6,7 @@ fn main() {
     let folder = Path::new(env!("CARGO_MANIFEST_DIR")).join("../../target/staticlib");
     let archive = folder.join("libchecker.a");
     if !archive.exists() {
-        eprintln!("target/staticlib/libchecker.a is missing: `rt staticlib checker`, in the repository's folder, proves the calls and makes it.");
+        eprintln!("target/staticlib/libchecker.a is missing: `tools/archive`, in the repository's folder, proves the calls and makes it.");
         std::process::exit(1);
     }
     println!("cargo:rerun-if-changed={}", archive.display());

@@ -19,8 +19,8 @@ pub mod ShutOut
 -- cases of drawing, and what a writer cannot be
 pub mod Drawings
 pub mod Writer
--- what demand 3 asks of its files is met: printed-property-fit, and printed-well, received-well and made-well of three step lists; and what it says
--- of them: printed-is-drawn, received-refused, made-refused
+-- what demand 3 asks of its files is met: printed_property_fit, and printed_well, received_well and made_well of three step lists; and what it says
+-- of them: printed_is_drawn, received_refused, made_refused
 pub mod Third
 -- the second table: what the definitions answer of files, as document 01 says
 pub mod Pinned

@@ -248,7 +248,7 @@ pub fn program(name: &str, input: &[u8]) -> String {
         .stdout(Stdio::piped())
         .spawn()
         .unwrap_or_else(|error| {
-            panic!("target/bin/{name}: {error}. `rt check {name}`, in the repository's folder, proves and makes it.")
+            panic!("target/bin/{name}: {error}. `tools/program {name}`, in the repository's folder, proves and makes it.")
         });
     // It reads all of its input before it writes.
     let mut stdin = child.stdin.take().expect("its input");

@@ -30,9 +30,12 @@ pub fn example_texts() -> Vec<PathBuf> {
     texts
 }
 
-/// An empty folder of this name.
+/// An empty folder of this name, outside the checkout: `rt ci` takes none in which a link is.
 pub fn folder(name: &str) -> PathBuf {
-    let folder = Path::new(env!("CARGO_TARGET_TMPDIR")).join(name);
+    let checkout = env!("CARGO_MANIFEST_DIR").replace('/', "-");
+    let folder = std::env::temp_dir()
+        .join(format!("levtosziv{checkout}"))
+        .join(name);
     let _ = std::fs::remove_dir_all(&folder);
     std::fs::create_dir_all(&folder).unwrap();
     folder
