@@ -95,12 +95,7 @@ fn show_parts(
         from: file.end,
         end: end,
     };
-    show_case(
-        rt,
-        part(input, under),
-        part(input, file),
-        part(input, list),
-    )
+    show_case(rt, part(input, under), part(input, file), part(input, list))
 }
 
 fn main(rt: HostRuntime) -> io::Result<()> {
