@@ -4,8 +4,11 @@
 // property are the length of its file, its file, and a step list. A length is two bytes, low byte first.
 #![tactic(auto)]
 
-ghost use Rattle.std.specs.Prelude.{◌≤◌, ◌<◌, ◌+◌, length};
+ghost use Rattle.std.specs.Prelude.{◌≤◌, ◌<◌, ◌+◌, length, IfOk};
 ghost use Rattle.case_file.specs.Case.{byte, length_bytes, room, Inside, Behind, CaseAt};
+
+use std::io;
+use std::io::Read;
 
 // The room for the input.
 pub const ROOM: usize = 65536;
@@ -20,7 +23,7 @@ const LENGTH: usize = 2;
 const BYTE: usize = 256;
 
 // A part of the input: where it begins and ends.
-#[derive(Drop)]
+#[derive(Clone, Copy)]
 pub struct Range {
     pub from: usize,
     pub end: usize,
@@ -28,7 +31,7 @@ pub struct Range {
 
 // The case at a place of the input, of which so much was read: its number from 1, its kind, what it is read under, its bytes, and where
 // the next one begins. Where no whole case is left, that is the same place.
-#[derive(Drop)]
+#[derive(Clone, Copy)]
 pub struct Case {
     pub number: usize,
     pub at: usize,
@@ -39,29 +42,30 @@ pub struct Case {
     pub read: usize,
 }
 
-pub fn show_text(text: &[u8]) {
-    io::write_all(libc::STDOUT_FILENO, text);
+// What shows something writes it to standard output at once; the one error is that of a write.
+pub fn show_text(rt: &impl Print, text: &[u8]) -> io::Result<()> {
+    rt.write_all(text)
 }
 
-fn show_number(n: usize) {
-    io::print_decimal(libc::STDOUT_FILENO, n as u64);
+fn show_number(rt: &impl Print, n: usize) -> io::Result<()> {
+    rt.print(n)
 }
 
 // Words, with their blanks, and a number.
-pub fn show(words: &[u8], n: usize) {
-    show_text(words);
-    show_number(n);
+pub fn show(rt: &impl Print, words: &[u8], n: usize) -> io::Result<()> {
+    show_text(rt, words)?;
+    show_number(rt, n)
 }
 
 // A blank and a number.
-pub fn show_more(n: usize) {
-    show(b" ", n);
+pub fn show_more(rt: &impl Print, n: usize) -> io::Result<()> {
+    show(rt, b" ", n)
 }
 
 // Document 01's refusal.
-pub fn show_refusal(number: usize, item: usize) {
-    show(b" refused ", number);
-    show_more(item);
+pub fn show_refusal(rt: &impl Print, number: usize, item: usize) -> io::Result<()> {
+    show(rt, b" refused ", number)?;
+    show_more(rt, item)
 }
 
 fn wide(x: u8) -> usize
@@ -115,20 +119,26 @@ fn no_case(number: usize, at: usize, read: usize) -> Case
 }
 
 // The case at a place. Its line is begun.
-fn case_at(s: &[u8; ROOM], number: usize, at: usize, read: usize) -> Case
+fn case_at(
+    rt: &impl Print,
+    s: &[u8; ROOM],
+    number: usize,
+    at: usize,
+    read: usize,
+) -> io::Result<Case>
     requires { (number ≤ at + 1) × (at ≤ read) × (read ≤ room) }
-    ensures { CaseAt at result }
+    ensures { IfOk result (λ c. CaseAt at c) }
 {
     if at == read {
-        return no_case(number, at, read);
+        return Ok(no_case(number, at, read));
     }
     let under = counted(s, at + 1, read);
     let bytes = counted(s, under.end, read);
     if bytes.from == under.end {
-        return no_case(number, at, read);
+        return Ok(no_case(number, at, read));
     }
-    show_number(number);
-    Case {
+    show_number(rt, number)?;
+    Ok(Case {
         number: number,
         at: at,
         kind: s[at],
@@ -136,24 +146,40 @@ fn case_at(s: &[u8; ROOM], number: usize, at: usize, read: usize) -> Case
         bytes: bytes,
         next: bytes.end,
         read: read,
+    })
+}
+
+// Reads until the room is full or the input ends, and gives how many bytes there are. The one error is that of a read; it leaves the bytes
+// read so far.
+fn read_full(from: &mut impl Read, s: &mut [u8; ROOM]) -> io::Result<usize>
+    ensures { IfOk result (λ n. n ≤ room) }
+{
+    let mut done: usize = 0;
+    while done < ROOM {
+        let n = from.read(&mut s[done..ROOM])?;
+        if n == 0 {
+            break;
+        }
+        done += n;
     }
+    Ok(done)
 }
 
-// Reads standard input, and gives its first case.
-pub fn first(s: &mut [u8; ROOM]) -> Case
-    ensures { CaseAt 0 result }
+// Reads standard input, and gives its first case. The one error is that of a read or a write; it leaves the bytes read so far.
+pub fn first(rt: &(impl Input + Print), s: &mut [u8; ROOM]) -> io::Result<Case>
+    ensures { IfOk result (λ c. CaseAt 0 c) }
 {
-    let n = io::read_full(libc::STDIN_FILENO, s);
-    case_at(s, 1, 0, n)
+    let n = read_full(&mut rt.reader(), s)?;
+    case_at(rt, s, 1, 0, n)
 }
 
-// Ends the line of a case, and gives the case behind it.
-pub fn next(s: &[u8; ROOM], c: Case) -> Case
+// Ends the line of a case, and gives the case behind it. The one error is that of a write.
+pub fn next(rt: &impl Print, s: &[u8; ROOM], c: Case) -> io::Result<Case>
     requires { CaseAt c.at c × (c.at < c.next) }
-    ensures { CaseAt c.next result }
+    ensures { IfOk result (λ following. CaseAt c.next following) }
 {
-    show_text(b"\n");
-    case_at(s, c.number + 1, c.next, c.read)
+    show_text(rt, b"\n")?;
+    case_at(rt, s, c.number + 1, c.next, c.read)
 }
 
 pub fn part<'a>(s: &'a [u8; ROOM], r: Range) -> &'a [u8]

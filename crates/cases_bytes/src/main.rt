@@ -7,6 +7,7 @@ ghost use Rattle.term.specs.Tags.{most_functions};
 
 use case_file::part;
 use number::Number;
+use std::io;
 use term::Part;
 
 // The tags of leaves and of built-in functions.
@@ -21,29 +22,25 @@ const SIGNING: [u8; 6] = *b"\x02\x02\x01\x02\x03\x00";
 // A slot for each tag.
 const SLOTS: usize = term::TAGS;
 
-fn show_number(s: &[u8]) {
+fn show_number(rt: &impl Print, s: &[u8]) -> io::Result<()> {
     match number::read_number(s, 0) {
         Number::Value(v, e) => {
-            case_file::show(b" value ", v as usize);
-            case_file::show(b" next ", e);
+            case_file::show(rt, b" value ", v as usize)?;
+            case_file::show(rt, b" next ", e)
         }
-        Number::Fault => {
-            case_file::show_text(b" fault");
-        }
+        Number::Fault => case_file::show_text(rt, b" fault"),
     }
 }
 
-fn show_term(s: &[u8], arities: &[u8])
+fn show_term(rt: &impl Print, s: &[u8], arities: &[u8]) -> io::Result<()>
     requires { length s.now ≤ room }
 {
     match term::term_end(s, arities, 0) {
         Part::End(e, n) => {
-            case_file::show(b" end ", e);
-            case_file::show(b" symbols ", n);
+            case_file::show(rt, b" end ", e)?;
+            case_file::show(rt, b" symbols ", n)
         }
-        Part::Fault => {
-            case_file::show_text(b" fault");
-        }
+        Part::Fault => case_file::show_text(rt, b" fault"),
     }
 }
 
@@ -66,21 +63,22 @@ fn declare(free: &[u8]) -> [u8; SLOTS] {
     arities
 }
 
-fn show(kind: u8, free: &[u8], s: &[u8])
+fn show(rt: &impl Print, kind: u8, free: &[u8], s: &[u8]) -> io::Result<()>
     requires { length s.now ≤ room }
 {
     if kind == case_file::NUMBER {
-        show_number(s);
+        show_number(rt, s)
     } else {
-        show_term(s, &declare(free));
+        show_term(rt, s, &declare(free))
     }
 }
 
-fn main() {
+fn main(rt: HostRuntime) -> io::Result<()> {
     let mut input = [0u8; case_file::ROOM];
-    let mut c = case_file::first(&mut input);
+    let mut c = case_file::first(&rt, &mut input)?;
     while c.at < c.next {
-        show(c.kind, part(&input, c.under), part(&input, c.bytes));
-        c = case_file::next(&input, c);
+        show(&rt, c.kind, part(&input, c.under), part(&input, c.bytes))?;
+        c = case_file::next(&rt, &input, c)?;
     }
+    Ok(())
 }

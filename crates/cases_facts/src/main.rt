@@ -10,6 +10,7 @@ ghost use Rattle.steps.specs.Causes.Good.{RightNodes};
 
 use case_file::part;
 use case_nodes::Ruled;
+use std::io;
 
 mod table; // the facts of the nodes, and their arguments
 mod outcome; // which of them are the same
@@ -19,43 +20,41 @@ const OUT: usize = 2 * facts::writing::FACT_ROOM;
 
 // The n nodes of a good case.
 fn show_nodes(
+    rt: &impl Print,
     p: &[u8; case_nodes::PREPARED],
     list: &[u8],
     nodes: &[usize; case_nodes::TABLE],
     n: usize,
-)
+) -> io::Result<()>
     requires { Asks₂ (RightNodes p.now list.now nodes.now n) }
 {
     let mut out = [0u8; OUT];
     let facts = table::facts_of(p, list, nodes, n);
-    outcome::show_facts(facts, &mut out, p, list, nodes, n);
-    outcome::show_bar();
+    outcome::show_facts(rt, facts, &mut out, p, list, nodes, n)?;
+    outcome::show_bar(rt)?;
     let arguments = table::arguments_of(facts, p, list, nodes, n);
-    outcome::show_arguments(arguments, &mut out, p, list, nodes, n);
-    outcome::show_bar();
-    outcome::show_names(arguments, &mut out, p, list, nodes, n);
+    outcome::show_arguments(rt, arguments, &mut out, p, list, nodes, n)?;
+    outcome::show_bar(rt)?;
+    outcome::show_names(rt, arguments, &mut out, p, list, nodes, n)
 }
 
-fn show_case(protocol: &[u8], list: &[u8])
+fn show_case(rt: &impl Print, protocol: &[u8], list: &[u8]) -> io::Result<()>
     requires { length list.now ≤ room }
 {
     let mut p = [0u8; case_nodes::PREPARED];
     let mut nodes = [0usize; case_nodes::TABLE];
     match case_nodes::rule_case(protocol, list, &mut p, &mut nodes) {
-        Ruled::Good(n) => {
-            show_nodes(&p, list, &nodes, n);
-        }
-        Ruled::Refused(number, item) => {
-            case_file::show_refusal(number, item);
-        }
+        Ruled::Good(n) => show_nodes(rt, &p, list, &nodes, n),
+        Ruled::Refused(number, item) => case_file::show_refusal(rt, number, item),
     }
 }
 
-fn main() {
+fn main(rt: HostRuntime) -> io::Result<()> {
     let mut input = [0u8; case_file::ROOM];
-    let mut c = case_file::first(&mut input);
+    let mut c = case_file::first(&rt, &mut input)?;
     while c.at < c.next {
-        show_case(part(&input, c.under), part(&input, c.bytes));
-        c = case_file::next(&input, c);
+        show_case(&rt, part(&input, c.under), part(&input, c.bytes))?;
+        c = case_file::next(&rt, &input, c)?;
     }
+    Ok(())
 }

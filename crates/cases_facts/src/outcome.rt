@@ -9,6 +9,7 @@ ghost use Rattle.cases_facts.specs.Table.{FactsListed, IsArgument, ArgumentsList
 use crate::table::{Argument, Arguments, Facts};
 use case_file::show_more;
 use facts::compare;
+use std::io;
 use term::Public;
 
 // The least public name, by its number.
@@ -30,8 +31,8 @@ const THIRD: usize = 3;
 const NO_NAME: usize = 0;
 
 // Ends a list of numbers.
-pub fn show_bar() {
-    case_file::show_text(b" |");
+pub fn show_bar(rt: &impl Print) -> io::Result<()> {
+    case_file::show_text(rt, b" |")
 }
 
 // The number, from 1, of the first fact that is the same as fact k; 0 if none is.
@@ -61,15 +62,24 @@ fn first_fact(
 }
 
 // Of each fact.
-pub fn show_facts(facts: Facts, out: &mut [u8], p: &[u8], s: &[u8], nodes: &[usize], n: usize)
+pub fn show_facts(
+    rt: &impl Print,
+    facts: Facts,
+    out: &mut [u8],
+    p: &[u8],
+    s: &[u8],
+    nodes: &[usize],
+    n: usize,
+) -> io::Result<()>
     requires { FactsListed p.now s.now nodes.now n facts × Asks₂ (RightNodes p.now s.now nodes.now n) × Room out.old fact_room }
 {
     let count = facts.n;
     let mut k: usize = 0;
     while k < count {
-        show_more(first_fact(facts, k, out, p, s, nodes, n));
+        show_more(rt, first_fact(facts, k, out, p, s, nodes, n))?;
         k += 1;
     }
+    Ok(())
 }
 
 // The number, from 1, of the first argument that is the same message as argument k; 0 if none is.
@@ -100,21 +110,23 @@ fn first_argument(
 
 // Of each argument.
 pub fn show_arguments(
+    rt: &impl Print,
     arguments: Arguments,
     out: &mut [u8],
     p: &[u8],
     s: &[u8],
     nodes: &[usize],
     n: usize,
-)
+) -> io::Result<()>
     requires { ArgumentsListed p.now s.now nodes.now n arguments × Asks₂ (RightNodes p.now s.now nodes.now n) × Room out.old fact_room }
 {
     let count = arguments.n;
     let mut k: usize = 0;
     while k < count {
-        show_more(first_argument(arguments, k, out, p, s, nodes, n));
+        show_more(rt, first_argument(arguments, k, out, p, s, nodes, n))?;
         k += 1;
     }
+    Ok(())
 }
 
 // Which of the three public names an argument is, from 1; 0 if it is none of them.
@@ -140,20 +152,22 @@ fn public_name(a: Argument, out: &mut [u8], p: &[u8], s: &[u8], nodes: &[usize],
 
 // Of each argument.
 pub fn show_names(
+    rt: &impl Print,
     arguments: Arguments,
     out: &mut [u8],
     p: &[u8],
     s: &[u8],
     nodes: &[usize],
     n: usize,
-)
+) -> io::Result<()>
     requires { ArgumentsListed p.now s.now nodes.now n arguments × Asks₂ (RightNodes p.now s.now nodes.now n) × Room out.old fact_room }
 {
     let each = arguments.each;
     let count = arguments.n;
     let mut k: usize = 0;
     while k < count {
-        show_more(public_name(each[k], out, p, s, nodes, n));
+        show_more(rt, public_name(each[k], out, p, s, nodes, n))?;
         k += 1;
     }
+    Ok(())
 }

@@ -18,7 +18,7 @@ const MOST_ARGUMENTS: usize = 256;
 const LISTS: usize = protocol::figures::LISTS;
 
 // The first n facts, each by its node, list and number.
-#[derive(Drop)]
+#[derive(Clone, Copy)]
 pub struct Facts {
     pub places: [FactId; MOST_FACTS],
     pub n: usize,
@@ -105,14 +105,14 @@ pub fn facts_of(p: &[u8], s: &[u8], nodes: &[usize], n: usize) -> Facts
 }
 
 // An argument of a fact, by its number from 0.
-#[derive(Drop)]
+#[derive(Clone, Copy)]
 pub struct Argument {
     pub place: FactId,
     pub number: usize,
 }
 
 // The first n arguments.
-#[derive(Drop)]
+#[derive(Clone, Copy)]
 pub struct Arguments {
     pub each: [Argument; MOST_ARGUMENTS],
     pub n: usize,

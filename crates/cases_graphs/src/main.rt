@@ -11,11 +11,12 @@ use case_file::part;
 use case_nodes::Fitness;
 use graph::ruling;
 use graph::ruling::GraphRuling;
+use std::io;
 
 const WORK: usize = graph::area::FACTS_END;
 
 // The graph's causes, under a prepared protocol.
-fn show_ruling(p: &[u8; case_nodes::PREPARED], file: &[u8])
+fn show_ruling(rt: &impl Print, p: &[u8; case_nodes::PREPARED], file: &[u8]) -> io::Result<()>
     requires { Asks (Prepared p.now) × (length file.now ≤ room) }
 {
     let mut nodes = [0usize; case_nodes::TABLE];
@@ -23,35 +24,30 @@ fn show_ruling(p: &[u8; case_nodes::PREPARED], file: &[u8])
     let mut work = [0u8; WORK];
     match ruling::rule_graph(p, file, &mut nodes, &mut edges, &mut work) {
         GraphRuling::Good(n, m) => {
-            case_file::show(b" good ", n);
-            case_file::show_more(m);
+            case_file::show(rt, b" good ", n)?;
+            case_file::show_more(rt, m)
         }
-        GraphRuling::Refused(number, item) => {
-            case_file::show_refusal(number, item);
-        }
+        GraphRuling::Refused(number, item) => case_file::show_refusal(rt, number, item),
     }
 }
 
 // The protocol's causes, then those of the graph.
-fn show_case(protocol: &[u8], file: &[u8])
+fn show_case(rt: &impl Print, protocol: &[u8], file: &[u8]) -> io::Result<()>
     requires { length file.now ≤ room }
 {
     let mut p = [0u8; case_nodes::PREPARED];
     match case_nodes::prepare_case(protocol, &mut p) {
-        Fitness::Fit => {
-            show_ruling(&p, file);
-        }
-        Fitness::Refused(number, item) => {
-            case_file::show_refusal(number, item);
-        }
+        Fitness::Fit => show_ruling(rt, &p, file),
+        Fitness::Refused(number, item) => case_file::show_refusal(rt, number, item),
     }
 }
 
-fn main() {
+fn main(rt: HostRuntime) -> io::Result<()> {
     let mut input = [0u8; case_file::ROOM];
-    let mut c = case_file::first(&mut input);
+    let mut c = case_file::first(&rt, &mut input)?;
     while c.at < c.next {
-        show_case(part(&input, c.under), part(&input, c.bytes));
-        c = case_file::next(&input, c);
+        show_case(&rt, part(&input, c.under), part(&input, c.bytes))?;
+        c = case_file::next(&rt, &input, c)?;
     }
+    Ok(())
 }

@@ -3,6 +3,7 @@
 
 use case_file::part;
 use checker::Written;
+use std::io;
 use term::MOST_FUNCTIONS;
 
 // Bytes are written in hexadecimal.
@@ -19,24 +20,25 @@ const OUTPUT: usize = 1024;
 // The work area that the call asks for.
 const WORK: usize = 65536;
 
-fn show_byte(x: u8) {
+fn show_byte(rt: &impl Print, x: u8) -> io::Result<()> {
     let n = x as usize;
     let digits = [b' ', DIGITS[n / BASE], DIGITS[n % BASE]];
-    case_file::show_text(&digits);
+    case_file::show_text(rt, &digits)
 }
 
-fn show_bytes(s: &[u8]) {
+fn show_bytes(rt: &impl Print, s: &[u8]) -> io::Result<()> {
     let mut i = 0;
     while i < s.len() {
-        show_byte(s[i]);
+        show_byte(rt, s[i])?;
         i += 1;
     }
+    Ok(())
 }
 
 // The canonical form of a term under a protocol that declares these free functions and nothing else.
-fn show_form(free: &[u8], term: &[u8]) {
+fn show_form(rt: &impl Print, free: &[u8], term: &[u8]) -> io::Result<()> {
     if MOST_FUNCTIONS < free.len() {
-        return;
+        return Ok(());
     }
     let mut protocol = [0u8; COUNTS + MOST_FUNCTIONS];
     protocol[0] = free.len() as u8;
@@ -48,20 +50,20 @@ fn show_form(free: &[u8], term: &[u8]) {
         Written::Length(n) => {
             let end = n as usize;
             if end <= OUTPUT {
-                show_bytes(&output[0..end]);
+                show_bytes(rt, &output[0..end])?;
             }
+            Ok(())
         }
-        Written::Refused(r) => {
-            case_file::show_refusal(r.number as usize, r.item as usize);
-        }
+        Written::Refused(r) => case_file::show_refusal(rt, r.number as usize, r.item as usize),
     }
 }
 
-fn main() {
+fn main(rt: HostRuntime) -> io::Result<()> {
     let mut input = [0u8; case_file::ROOM];
-    let mut c = case_file::first(&mut input);
+    let mut c = case_file::first(&rt, &mut input)?;
     while c.at < c.next {
-        show_form(part(&input, c.under), part(&input, c.bytes));
-        c = case_file::next(&input, c);
+        show_form(&rt, part(&input, c.under), part(&input, c.bytes))?;
+        c = case_file::next(&rt, &input, c)?;
     }
+    Ok(())
 }

@@ -13,75 +13,80 @@ use case_file::{Range, part};
 use case_nodes::{Fitness, Ruled};
 use property::ruling;
 use property::ruling::PropertyRuling;
+use std::io;
 
 // The room for the canonical bytes of two facts.
 const WORK: usize = 2 * facts::writing::FACT_ROOM;
 
 // The property's truth over the trace of the n nodes.
 fn show_truth(
+    rt: &impl Print,
     p: &[u8; case_nodes::PREPARED],
     file: &[u8],
     list: &[u8],
     nodes: &[usize; case_nodes::TABLE],
     n: usize,
-)
+) -> io::Result<()>
     requires { Passes p.now file.now × Asks₂ (RightNodes p.now list.now nodes.now n) }
 {
     let mut work = [0u8; WORK];
     let v = verdict::judge_nodes(p, file, list, nodes, n, &mut work);
     if v.truth {
-        case_file::show(b" true ", v.active);
+        case_file::show(rt, b" true ", v.active)
     } else {
-        case_file::show(b" false ", v.active);
+        case_file::show(rt, b" false ", v.active)
     }
 }
 
 // The causes of the step list, under a prepared protocol, behind a good property.
-fn show_nodes(p: &[u8; case_nodes::PREPARED], file: &[u8], list: &[u8])
+fn show_nodes(
+    rt: &impl Print,
+    p: &[u8; case_nodes::PREPARED],
+    file: &[u8],
+    list: &[u8],
+) -> io::Result<()>
     requires { Asks (Prepared p.now) × Passes p.now file.now × (length list.now ≤ room) }
 {
     let mut nodes = [0usize; case_nodes::TABLE];
     match case_nodes::rule_list(p, list, &mut nodes) {
-        Ruled::Good(n) => {
-            show_truth(p, file, list, &nodes, n);
-        }
-        Ruled::Refused(number, item) => {
-            case_file::show_refusal(number, item);
-        }
+        Ruled::Good(n) => show_truth(rt, p, file, list, &nodes, n),
+        Ruled::Refused(number, item) => case_file::show_refusal(rt, number, item),
     }
 }
 
 // The property's causes, then those of the step list.
-fn show_property(p: &[u8; case_nodes::PREPARED], file: &[u8], list: &[u8])
+fn show_property(
+    rt: &impl Print,
+    p: &[u8; case_nodes::PREPARED],
+    file: &[u8],
+    list: &[u8],
+) -> io::Result<()>
     requires { Asks (Prepared p.now) × (length list.now ≤ room) }
 {
     match ruling::rule_property(p, file) {
-        PropertyRuling::Good => {
-            show_nodes(p, file, list);
-        }
-        PropertyRuling::Refused(number, item) => {
-            case_file::show_refusal(number, item);
-        }
+        PropertyRuling::Good => show_nodes(rt, p, file, list),
+        PropertyRuling::Refused(number, item) => case_file::show_refusal(rt, number, item),
     }
 }
 
 // The protocol's causes, then those of the property and of the step list.
-fn show_case(protocol: &[u8], file: &[u8], list: &[u8])
+fn show_case(rt: &impl Print, protocol: &[u8], file: &[u8], list: &[u8]) -> io::Result<()>
     requires { length list.now ≤ room }
 {
     let mut p = [0u8; case_nodes::PREPARED];
     match case_nodes::prepare_case(protocol, &mut p) {
-        Fitness::Fit => {
-            show_property(&p, file, list);
-        }
-        Fitness::Refused(number, item) => {
-            case_file::show_refusal(number, item);
-        }
+        Fitness::Fit => show_property(rt, &p, file, list),
+        Fitness::Refused(number, item) => case_file::show_refusal(rt, number, item),
     }
 }
 
 // A case of the input: what it is read under, and its bytes.
-fn show_parts(input: &[u8; case_file::ROOM], under: Range, bytes: Range)
+fn show_parts(
+    rt: &impl Print,
+    input: &[u8; case_file::ROOM],
+    under: Range,
+    bytes: Range,
+) -> io::Result<()>
     requires { Inside under × Inside bytes }
 {
     let end = bytes.end;
@@ -90,14 +95,15 @@ fn show_parts(input: &[u8; case_file::ROOM], under: Range, bytes: Range)
         from: file.end,
         end: end,
     };
-    show_case(part(input, under), part(input, file), part(input, list));
+    show_case(rt, part(input, under), part(input, file), part(input, list))
 }
 
-fn main() {
+fn main(rt: HostRuntime) -> io::Result<()> {
     let mut input = [0u8; case_file::ROOM];
-    let mut c = case_file::first(&mut input);
+    let mut c = case_file::first(&rt, &mut input)?;
     while c.at < c.next {
-        show_parts(&input, c.under, c.bytes);
-        c = case_file::next(&input, c);
+        show_parts(&rt, &input, c.under, c.bytes)?;
+        c = case_file::next(&rt, &input, c)?;
     }
+    Ok(())
 }

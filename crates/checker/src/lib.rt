@@ -221,8 +221,7 @@ fn pack(answer: Written) -> u64
     }
 }
 
-#[unsafe(no_mangle)]
-pub extern "C" fn levtosziv_canonical(
+pub fn levtosziv_canonical(
     protocol: &[u8],
     term: &[u8],
     output: &mut [u8],
@@ -255,8 +254,7 @@ pub fn draw(protocol: &[u8], steps: &[u8], output: &mut [u8], work: &mut [u8]) -
     r
 }
 
-#[unsafe(no_mangle)]
-pub extern "C" fn levtosziv_draw(
+pub fn levtosziv_draw(
     protocol: &[u8],
     steps: &[u8],
     output: &mut [u8],
@@ -301,8 +299,7 @@ fn pack_ruling(ruling: Ruling) -> u64
     }
 }
 
-#[unsafe(no_mangle)]
-pub extern "C" fn levtosziv_check(
+pub fn levtosziv_check(
     protocol: &[u8],
     property: &[u8],
     graph: &[u8],

@@ -1,6 +1,8 @@
 // The program. It is run on the case that document 01 prints.
 #![tactic(auto)]
 
-fn main() {
-    report_files::report();
+use std::io;
+
+fn main(rt: HostRuntime) -> io::Result<()> {
+    report_files::report(&rt)
 }

@@ -1,6 +1,8 @@
 // The program on a graph of no nodes with the property that is false.
 #![tactic(auto)]
 
-fn main() {
-    report_files::report();
+use std::io;
+
+fn main(rt: HostRuntime) -> io::Result<()> {
+    report_files::report(&rt)
 }

@@ -1,14 +1,16 @@
 // What the program does: it reads the three files of the folder that it runs in, and writes the line of their ruling.
 #![tactic(auto)]
 
-ghost use Rattle.std.specs.Prelude.{◌≡◌, ◌≤◌, length};
-ghost use Rattle.io.specs.Counts.{IsPrefixLen};
+ghost use Rattle.std.specs.Prelude.{◌≡◌, ◌≤◌, length, take};
 ghost use Rattle.octets.specs.Splice.{splice};
 ghost use Rattle.checker.specs.Answer.{work_need};
 ghost use Rattle.checker.specs.Check.{check_outcome};
 ghost use Rattle.checker.specs.Line.{line_of, line_room};
 
 use checker::line;
+use std::io::Read;
+use std::rt::Files;
+use std::{fs, io};
 
 // One byte more than a file's limit, so that a longer file is seen as such.
 const PROTOCOL_ROOM: usize = checker::PROTOCOL_LIMIT + 1;
@@ -19,16 +21,28 @@ const GRAPH_ROOM: usize = checker::GRAPH_LIMIT + 1;
 
 // Reads a file to the start of a buffer, and gives how many bytes there are. "A file that cannot be opened counts as empty"; one that
 // cannot be read to its end counts as the bytes read so far.
-fn read_file(name: &[u8], buffer: &mut [u8]) -> usize
-    ensures { IsPrefixLen result buffer.new }
+fn read_file(rt: &impl Files, name: &str, buffer: &mut [u8]) -> usize
+    ensures { (result ≤ length buffer.new) × (result ≡ length (take result buffer.new)) }
 {
-    let file = os::open_read(name);
-    if file < 0 {
-        return 0;
+    match fs::open(rt, name) {
+        Ok(file) => read_full(file, buffer),
+        Err(_) => 0,
     }
-    let n = io::read_full(file, buffer);
-    libc::close(file);
-    n
+}
+
+// Reads until the buffer is full, the file ends or a read fails, and gives how many bytes there are.
+fn read_full<R: Read + Drop>(mut file: R, buffer: &mut [u8]) -> usize
+    ensures { (result ≤ length buffer.new) × (result ≡ length (take result buffer.new)) }
+{
+    let mut done: usize = 0;
+    while done < buffer.len() {
+        match file.read(&mut buffer[done..]) {
+            Ok(0) => break,
+            Ok(n) => done += n,
+            Err(_) => break,
+        }
+    }
+    done
 }
 
 // Writes the line of three files to the start of a buffer, and gives its length.
@@ -48,19 +62,19 @@ pub fn line_of(
 }
 
 // Writes the line of three files to standard output.
-fn print_line(protocol: &[u8], property: &[u8], graph: &[u8]) {
+fn print_line(rt: &impl Print, protocol: &[u8], property: &[u8], graph: &[u8]) -> io::Result<()> {
     let mut out = [0u8; line::LINE_ROOM];
     let n = line_of(protocol, property, graph, &mut out);
-    io::write_all(libc::STDOUT_FILENO, &out[..n]);
+    rt.write_all(&out[..n])
 }
 
 // "It reads protocol.bin, property.bin, graph.bin and writes one line with a line feed"
-pub fn report() {
+pub fn report(rt: &(impl Files + Print)) -> io::Result<()> {
     let mut protocol = [0u8; PROTOCOL_ROOM];
     let mut property = [0u8; PROPERTY_ROOM];
     let mut graph = [0u8; GRAPH_ROOM];
-    let n = read_file(b"protocol.bin", &mut protocol);
-    let m = read_file(b"property.bin", &mut property);
-    let k = read_file(b"graph.bin", &mut graph);
-    print_line(&protocol[..n], &property[..m], &graph[..k]);
+    let n = read_file(rt, "protocol.bin", &mut protocol);
+    let m = read_file(rt, "property.bin", &mut property);
+    let k = read_file(rt, "graph.bin", &mut graph);
+    print_line(rt, &protocol[..n], &property[..m], &graph[..k])
 }

@@ -1,6 +1,8 @@
 // The program where there are no files.
 #![tactic(auto)]
 
-fn main() {
-    report_files::report();
+use std::io;
+
+fn main(rt: HostRuntime) -> io::Result<()> {
+    report_files::report(&rt)
 }

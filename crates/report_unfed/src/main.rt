@@ -1,6 +1,8 @@
 // The program on that case without its last edge.
 #![tactic(auto)]
 
-fn main() {
-    report_files::report();
+use std::io;
+
+fn main(rt: HostRuntime) -> io::Result<()> {
+    report_files::report(&rt)
 }
