@@ -221,12 +221,7 @@ fn pack(answer: Written) -> u64
     }
 }
 
-pub fn levtosziv_canonical(
-    protocol: &[u8],
-    term: &[u8],
-    output: &mut [u8],
-    work: &mut [u8],
-) -> u64
+pub fn levtosziv_canonical(protocol: &[u8], term: &[u8], output: &mut [u8], work: &mut [u8]) -> u64
     ensures answer { result ≡ packed (canonical_outcome protocol.now term.now (length output.old) (length work.old)) }
     ensures wrote { output.new ≡ canonical_output protocol.now term.now output.old (length work.old) }
     ensures cleared { work.new ≡ canonical_work protocol.now term.now (length output.old) work.old }
@@ -254,12 +249,7 @@ pub fn draw(protocol: &[u8], steps: &[u8], output: &mut [u8], work: &mut [u8]) -
     r
 }
 
-pub fn levtosziv_draw(
-    protocol: &[u8],
-    steps: &[u8],
-    output: &mut [u8],
-    work: &mut [u8],
-) -> u64
+pub fn levtosziv_draw(protocol: &[u8], steps: &[u8], output: &mut [u8], work: &mut [u8]) -> u64
     ensures answer { result ≡ packed (draw_outcome protocol.now steps.now (length output.old) (length work.old)) }
     ensures wrote { output.new ≡ draw_output protocol.now steps.now output.old (length work.old) }
     ensures cleared { work.new ≡ draw_work protocol.now steps.now (length output.old) work.old }
@@ -299,12 +289,7 @@ fn pack_ruling(ruling: Ruling) -> u64
     }
 }
 
-pub fn levtosziv_check(
-    protocol: &[u8],
-    property: &[u8],
-    graph: &[u8],
-    work: &mut [u8],
-) -> u64
+pub fn levtosziv_check(protocol: &[u8], property: &[u8], graph: &[u8], work: &mut [u8]) -> u64
     ensures answer { result ≡ packed_ruling (check_outcome protocol.now property.now graph.now (length work.old)) }
     ensures cleared { work.new ≡ check_work protocol.now property.now graph.now work.old }
 {

@@ -1,0 +1,9 @@
+-- The packed answer of canonical_form, whose memory is left as it is.
+use mathlib.Core.Path.{ap, ◌∙◌}
+use Rattle.checker.specs.Answer.{packed}
+use borrow.Author.Rules.{rules}
+use Rattle.checker.proofs.levtosziv_canonical.Goals as goal
+
+pub returns : goal.returns
+returns c =
+    (c.pack.ensures ∙ ap packed c.canonical_form.ensures.answer, (c.canonical_form.ensures.wrote.0, c.canonical_form.ensures.wrote.1))

@@ -1,0 +1,9 @@
+-- The answer of draw, packed.
+use Rattle.checker.specs.Answer.{packed}
+use mathlib.Core.Path.{ap, ◌∙◌}
+use borrow.Author.Rules.{rules}
+use Rattle.checker.proofs.levtosziv_draw.Goals as goal
+
+pub returns : goal.returns
+returns c =
+    (c.pack.ensures ∙ ap packed c.draw.ensures.answer, (c.draw.ensures.wrote.0, c.draw.ensures.wrote.1))

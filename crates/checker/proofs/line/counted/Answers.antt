@@ -1,0 +1,22 @@
+-- Word, three numbers and line feed lie end to end, within the line's room.
+use Rattle.checker.specs.Line.Laws.{put_word, put_then}
+use native.Mathlib.Omega.{arith}
+use borrow.Author.Rules.{rules}
+use Rattle.checker.proofs.line.counted.Goals as goal
+
+pub returns : goal.returns
+returns c =
+    let w = c.copy_into-first in
+    let x = c.number-second in
+    let y = c.number-third in
+    let z = c.number-end in
+    let e = c.finish in
+    let first = put_word c.args.out.now c.args.word.now w.ensures.0 w.ensures.1 in record {
+      wrote = put_then (omega (arith, c.requires.0, c.requires.1, w.ensures.0)) first
+          (put_then (omega (arith, c.requires.0, c.requires.1, w.ensures.0, w.auto.0, x.ensures.1)) x.ensures.0
+          (put_then (omega (arith, c.requires.0, c.requires.1, w.ensures.0, w.auto.0, x.ensures.1, x.auto.0, y.ensures.1)) y.ensures.0
+          (put_then (omega (arith, c.requires.0, c.requires.1, w.ensures.0, w.auto.0, x.ensures.1, x.auto.0, y.ensures.1, y.auto.0, z.ensures.1))
+          z.ensures.0
+          e.ensures)));
+      fits = omega (arith, c.requires.0, w.ensures.0, x.ensures.1, y.ensures.1, z.ensures.1, e.ensures.ends);
+    }

@@ -1,0 +1,16 @@
+-- The three cases of a ruling, each its word and its numbers.
+use Rattle.checker.specs.Line.Laws.{put_line}
+use borrow.Author.Rules.{rules}
+use Rattle.checker.proofs.line.line.Goals as goal
+
+pub returns-in-Attack : goal.returns-in-Attack
+returns-in-Attack c =
+    put_line c.in-Attack.is c.counted.ensures.wrote c.counted.ensures.fits
+
+pub returns-in-Run : goal.returns-in-Run
+returns-in-Run c =
+    put_line c.in-Run.is c.counted-in-Run.ensures.wrote c.counted-in-Run.ensures.fits
+
+pub returns-in-Refused : goal.returns-in-Refused
+returns-in-Refused c =
+    put_line c.in-Refused.is c.refused.ensures.wrote c.refused.ensures.fits
