@@ -13,13 +13,12 @@ use Rattle.checker.proofs.canonical_form.Goals as goal
 pub returns-then-work-lt-WORK_NEED : goal.returns-then-work-lt-WORK_NEED
 returns-then-work-lt-WORK_NEED c =
     let e = work_short c.args.protocol.now c.args.term.now (length c.args.output.now) (length c.args.work.now)
-    c.if-work-lt-WORK_NEED.true in (
-      c.refused.ensures ∙ sym e,
-      (
-        output_kept c.args.protocol.now c.args.term.now c.args.output.now (length c.args.work.now) 1 0 e,
-        work_kept c.args.protocol.now c.args.term.now c.args.work.now (length c.args.output.now) c.if-work-lt-WORK_NEED.true,
-      ),
-    )
+    c.if-work-lt-WORK_NEED.true in
+    record {
+      answer = c.refused.ensures ∙ sym e;
+      wrote = output_kept c.args.protocol.now c.args.term.now c.args.output.now (length c.args.work.now) 1 0 e;
+      cleared = work_kept c.args.protocol.now c.args.term.now c.args.work.now (length c.args.output.now) c.if-work-lt-WORK_NEED.true;
+    }
 
 pub canonical_inside-r-requires : goal.canonical_inside-r-requires
 canonical_inside-r-requires c =
@@ -27,12 +26,11 @@ canonical_inside-r-requires c =
 
 pub returns : goal.returns
 returns c =
-    let i = c.canonical_inside-r.ensures (length c.args.work.now) c.if-work-lt-WORK_NEED.false in (
-      i.answer,
-      (
-        i.left,
-        c.clear.ensures ∙ ap (λ (n : ℕ). replicate n 0) (sym c.clear.auto.out ∙ same-length-2 c) ∙ work_cleared
-            c.args.protocol.now c.args.term.now
-            (length c.args.output.now) c.args.work.now c.if-work-lt-WORK_NEED.false,
-      ),
-    )
+    let i = c.canonical_inside-r.ensures (length c.args.work.now) c.if-work-lt-WORK_NEED.false in
+    record {
+      answer = i.answer;
+      wrote = i.left;
+      cleared = c.clear.ensures ∙ ap (λ (n : ℕ). replicate n 0) (search rules) ∙ work_cleared
+          c.args.protocol.now c.args.term.now
+          (length c.args.output.now) c.args.work.now c.if-work-lt-WORK_NEED.false;
+    }

@@ -24,6 +24,6 @@ returns c =
     record {
       answer = c.check_files-r.ensures (length c.args.work.now) c.if-work-lt-WORK_NEED.false;
       cleared = c.clear.ensures ∙ ap (λ (n : ℕ). replicate n 0)
-          (sym c.clear.auto.out ∙ same_length c) ∙ work_cleared c.args.protocol.now c.args.property.now
+          (search rules) ∙ work_cleared c.args.protocol.now c.args.property.now
           c.args.graph.now c.args.work.now c.if-work-lt-WORK_NEED.false;
     }

@@ -6,4 +6,4 @@ use Rattle.checker.proofs.levtosziv_canonical.Goals as goal
 
 pub returns : goal.returns
 returns c =
-    (c.pack.ensures ∙ ap packed c.canonical_form.ensures.answer, (c.canonical_form.ensures.wrote.0, c.canonical_form.ensures.wrote.1))
+    record { answer = c.pack.ensures ∙ ap packed c.canonical_form.ensures.answer; wrote = c.canonical_form.ensures.wrote; cleared = c.canonical_form.ensures.cleared }

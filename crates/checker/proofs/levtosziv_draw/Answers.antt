@@ -6,4 +6,4 @@ use Rattle.checker.proofs.levtosziv_draw.Goals as goal
 
 pub returns : goal.returns
 returns c =
-    (c.pack.ensures ∙ ap packed c.draw.ensures.answer, (c.draw.ensures.wrote.0, c.draw.ensures.wrote.1))
+    record { answer = c.pack.ensures ∙ ap packed c.draw.ensures.answer; wrote = c.draw.ensures.wrote; cleared = c.draw.ensures.cleared }

@@ -11,12 +11,12 @@ returns c =
     let y = c.number-third in
     let z = c.number-end in
     let e = c.finish in
-    let first = put_word c.args.out.now c.args.word.now w.ensures.0 w.ensures.1 in record {
-      wrote = put_then (omega (arith, c.requires.0, c.requires.1, w.ensures.0)) first
-          (put_then (omega (arith, c.requires.0, c.requires.1, w.ensures.0, w.auto.0, x.ensures.1)) x.ensures.0
-          (put_then (omega (arith, c.requires.0, c.requires.1, w.ensures.0, w.auto.0, x.ensures.1, x.auto.0, y.ensures.1)) y.ensures.0
-          (put_then (omega (arith, c.requires.0, c.requires.1, w.ensures.0, w.auto.0, x.ensures.1, x.auto.0, y.ensures.1, y.auto.0, z.ensures.1))
-          z.ensures.0
+    let first = put_word c.args.out.now c.args.word.now w.ensures.next w.ensures.wrote in record {
+      wrote = put_then (omega (arith, c.requires.0, c.requires.1, w.ensures.next)) first
+          (put_then (omega (arith, c.requires.0, c.requires.1, w.ensures.next, w.auto.out, x.ensures.fits)) x.ensures.wrote
+          (put_then (omega (arith, c.requires.0, c.requires.1, w.ensures.next, w.auto.out, x.ensures.fits, x.auto.out, y.ensures.fits)) y.ensures.wrote
+          (put_then (omega (arith, c.requires.0, c.requires.1, w.ensures.next, w.auto.out, x.ensures.fits, x.auto.out, y.ensures.fits, y.auto.out, z.ensures.fits))
+          z.ensures.wrote
           e.ensures)));
-      fits = omega (arith, c.requires.0, w.ensures.0, x.ensures.1, y.ensures.1, z.ensures.1, e.ensures.ends);
+      fits = omega (arith, c.requires.0, w.ensures.next, x.ensures.fits, y.ensures.fits, z.ensures.fits, e.ensures.ends);
     }

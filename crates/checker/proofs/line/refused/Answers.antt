@@ -11,10 +11,10 @@ returns c =
     let x = c.number-second in
     let y = c.number-end in
     let e = c.finish in
-    let first = put_word c.args.out.now refused_word w.ensures.0 w.ensures.1 in record {
-      wrote = put_then (omega (arith, c.requires, w.ensures.0)) first
-          (put_then (omega (arith, c.requires, w.ensures.0, w.auto.0, x.ensures.1)) x.ensures.0
-          (put_then (omega (arith, c.requires, w.ensures.0, w.auto.0, x.ensures.1, x.auto.0, y.ensures.1)) y.ensures.0
+    let first = put_word c.args.out.now refused_word w.ensures.next w.ensures.wrote in record {
+      wrote = put_then (omega (arith, c.requires, w.ensures.next)) first
+          (put_then (omega (arith, c.requires, w.ensures.next, w.auto.out, x.ensures.fits)) x.ensures.wrote
+          (put_then (omega (arith, c.requires, w.ensures.next, w.auto.out, x.ensures.fits, x.auto.out, y.ensures.fits)) y.ensures.wrote
           e.ensures));
-      fits = omega (arith, w.ensures.0, x.ensures.1, y.ensures.1, e.ensures.ends);
+      fits = omega (arith, w.ensures.next, x.ensures.fits, y.ensures.fits, e.ensures.ends);
     }
