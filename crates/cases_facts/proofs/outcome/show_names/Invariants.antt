@@ -8,9 +8,9 @@ use native.Mathlib.Omega.{arith}
 use Rattle.cases_facts.proofs.outcome.show_names.Given as goal
 
 abbrev pub invariant-loop-k : goal.invariant-loop-k
-invariant-loop-k l =
-    (l.out ≤ l.each) × (length l.initial.k ≡ length l.rt)
+invariant-loop-k g l =
+    (l.k ≤ l.count) × (length l.out ≡ length l.initial.out)
 
 abbrev pub decreases-loop-k : goal.decreases-loop-k
-decreases-loop-k l =
-    l.each - l.out
+decreases-loop-k g l =
+    l.count - l.k
