@@ -1,5 +1,4 @@
 -- A good case has right nodes, which is what show_nodes asks.
-use borrow.Author.Rules.{rules}
 use Rattle.case_nodes.specs.Good.{WhereGood}
 use mathlib.Core.Path.{subst}
 use Rattle.cases_facts.proofs.show_case.Goals as goal

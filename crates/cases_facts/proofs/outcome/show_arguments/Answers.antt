@@ -1,9 +1,6 @@
 -- The output keeps its length from turn to turn, and k stays below the count of arguments.
 use borrow.Author.Rules.{rules}
 use Rattle.facts.specs.Owed.{room_kept}
-use lib.ListN.{length}
-use mathlib.Core.Path.{◌≡◌}
-use Prim.Native.Nat.{◌-◌, ◌≤◌}
 use native.Mathlib.Omega.{arith}
 use Rattle.cases_facts.proofs.outcome.show_arguments.Goals as goal
 
