@@ -5,5 +5,5 @@ use borrow.Author.Rules.{rules}
 use Rattle.cases_graphs.proofs.show_case.Goals as goal
 
 pub show_ruling-requires : goal.show_ruling-requires
-show_ruling-requires c =
+show_ruling-requires g c =
     (subst (WhereFit _) c.in-Fit.is c.prepare_case.ensures, search rules)

@@ -5,11 +5,10 @@ use Rattle.steps.specs.Table.Laws.{all_rows}
 use Rattle.steps.specs.Table.{table_length}
 use lib.ListN.{replicate}
 use native.Mathlib.Omega.{arith}
-use borrow.Author.Rules.{rules}
 use Rattle.cases_graphs.proofs.show_ruling.Goals as goal
 
 pub rule_graph-requires : goal.rule_graph-requires
-rule_graph-requires c = (
+rule_graph-requires g c = (
   c.requires.0,
   omega (arith, c.requires.1),
   all_rows c.args.file.now (λ i. (c.type_inv.file i).fits) 0 (replicate table_length 0)

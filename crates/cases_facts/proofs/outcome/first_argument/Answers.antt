@@ -1,9 +1,6 @@
 -- Both arguments are of right nodes, and the output keeps its length: that is what same_argument asks.
 use borrow.Author.Rules.{rules}
 use Rattle.facts.specs.Owed.{asks_facts, room_kept}
-use lib.ListN.{length}
-use mathlib.Core.Path.{◌≡◌}
-use Prim.Native.Nat.{◌-◌, ◌≤◌}
 use native.Mathlib.Omega.{arith}
 use Rattle.cases_facts.proofs.outcome.first_argument.Goals as goal
 

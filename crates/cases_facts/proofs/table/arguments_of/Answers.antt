@@ -1,7 +1,5 @@
 -- The invariant is that all that is in the table are arguments of the nodes' facts; an empty table is so.
-use borrow.Author.Rules.{rules}
-use Rattle.cases_facts.specs.Table.{ArgumentsListed, IsArgument, no_argument, filled_none}
-use Prim.Native.Nat.{◌-◌, ◌≤◌}
+use Rattle.cases_facts.specs.Table.{IsArgument, no_argument, filled_none}
 use native.Mathlib.Omega.{arith}
 use Rattle.cases_facts.proofs.table.arguments_of.Goals as goal
 

@@ -1,8 +1,6 @@
 -- The invariant is that all that is in the table are arguments of the nodes' facts; an empty table is so.
-use borrow.Author.Rules.{rules}
-use Rattle.cases_facts.specs.Table.{ArgumentsListed, IsArgument, no_argument, filled_none}
+use Rattle.cases_facts.specs.Table.{ArgumentsListed}
 use Prim.Native.Nat.{◌-◌, ◌≤◌}
-use native.Mathlib.Omega.{arith}
 use Rattle.cases_facts.proofs.table.arguments_of.Given as goal
 
 abbrev pub invariant-loop-k : goal.invariant-loop-k

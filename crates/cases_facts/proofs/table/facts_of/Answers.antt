@@ -1,7 +1,5 @@
 -- The invariant is that all that is in the table are facts of the nodes; an empty table is so.
-use borrow.Author.Rules.{rules}
-use Rattle.cases_facts.specs.Table.{IsFact, FactsListed, no_fact_id, filled_none}
-use Prim.Native.Nat.{◌-◌, ◌≤◌}
+use Rattle.cases_facts.specs.Table.{IsFact, no_fact_id, filled_none}
 use native.Mathlib.Omega.{arith}
 use Rattle.cases_facts.proofs.table.facts_of.Goals as goal
 

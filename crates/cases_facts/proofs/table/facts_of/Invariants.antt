@@ -1,8 +1,6 @@
 -- The invariant is that all that is in the table are facts of the nodes; an empty table is so.
-use borrow.Author.Rules.{rules}
-use Rattle.cases_facts.specs.Table.{IsFact, FactsListed, no_fact_id, filled_none}
+use Rattle.cases_facts.specs.Table.{FactsListed}
 use Prim.Native.Nat.{◌-◌, ◌≤◌}
-use native.Mathlib.Omega.{arith}
 use Rattle.cases_facts.proofs.table.facts_of.Given as goal
 
 abbrev pub invariant-loop-j : goal.invariant-loop-j

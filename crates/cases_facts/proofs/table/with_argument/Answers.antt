@@ -1,7 +1,6 @@
 -- A full table stays as it is; else the argument is one more of its kind.
 use Rattle.cases_facts.specs.Table.{no_argument, IsArgument, filled_more}
 use native.Mathlib.Omega.{arith}
-use borrow.Author.Rules.{rules}
 use Rattle.cases_facts.proofs.table.with_argument.Goals as goal
 
 pub returns : goal.returns

@@ -1,9 +1,6 @@
 -- The invariant is that all that is in the table are arguments; a number below the arity is one of the fact's.
-use borrow.Author.Rules.{rules}
-use Rattle.facts.specs.Owed.{asks_listed, has_one}
 use Rattle.cases_facts.specs.Table.{ArgumentsListed}
 use Prim.Native.Nat.{◌-◌, ◌≤◌}
-use native.Mathlib.Omega.{arith}
 use Rattle.cases_facts.proofs.table.with_arguments.Given as goal
 
 abbrev pub invariant-loop-i : goal.invariant-loop-i

@@ -1,7 +1,6 @@
 -- A full table stays as it is; else the fact is one more of its kind.
 use Rattle.cases_facts.specs.Table.{no_fact_id, IsFact, filled_more}
 use native.Mathlib.Omega.{arith}
-use borrow.Author.Rules.{rules}
 use Rattle.cases_facts.proofs.table.with_fact.Goals as goal
 
 pub returns : goal.returns

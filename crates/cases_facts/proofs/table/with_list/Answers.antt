@@ -1,8 +1,5 @@
 -- The invariant is that all that is in the table are facts; a number below the list's count is one of the node's.
-use borrow.Author.Rules.{rules}
 use Rattle.facts.specs.Owed.{asks_node, has_fact}
-use Rattle.cases_facts.specs.Table.{FactsListed}
-use Prim.Native.Nat.{◌-◌, ◌≤◌}
 use native.Mathlib.Omega.{arith}
 use Rattle.cases_facts.proofs.table.with_list.Goals as goal
 

@@ -1,9 +1,6 @@
 -- The invariant is that all that is in the table are facts; a number below the list's count is one of the node's.
-use borrow.Author.Rules.{rules}
-use Rattle.facts.specs.Owed.{asks_node, has_fact}
 use Rattle.cases_facts.specs.Table.{FactsListed}
 use Prim.Native.Nat.{◌-◌, ◌≤◌}
-use native.Mathlib.Omega.{arith}
 use Rattle.cases_facts.proofs.table.with_list.Given as goal
 
 abbrev pub invariant-loop-i : goal.invariant-loop-i

@@ -1,8 +1,6 @@
 -- The invariant is that all that is in the table are facts; with_list keeps it for each of the three lists.
-use borrow.Author.Rules.{rules}
 use Rattle.cases_facts.specs.Table.{FactsListed}
 use Prim.Native.Nat.{◌-◌, ◌≤◌}
-use native.Mathlib.Omega.{arith}
 use Rattle.cases_facts.proofs.table.with_node.Given as goal
 
 abbrev pub invariant-loop-list : goal.invariant-loop-list
