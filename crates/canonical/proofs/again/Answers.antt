@@ -5,7 +5,6 @@ use Prim.Native.Nat.{ℕ}
 use Rattle.octets.specs.Head.{stands_part}
 use Rattle.octets.specs.Compare.{compare_bytes, is_equal}
 use Rattle.canonical.proofs.Parts.{bytes_are}
-use borrow.Author.Rules.{rules}
 use Rattle.canonical.proofs.again.Goals as goal
 
 pub returns : goal.returns

@@ -2,7 +2,6 @@
 use native.Mathlib.Omega.{arith}
 use mathlib.Core.Path.{sym}
 use Rattle.canonical.proofs.Parts.{here_inside, leaf_inside, leaf_ends}
-use borrow.Author.Rules.{rules}
 use Rattle.canonical.proofs.argument_end.Goals as goal
 
 pub returns-then-left-eq0 : goal.returns-then-left-eq0

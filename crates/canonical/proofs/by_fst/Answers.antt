@@ -1,6 +1,5 @@
 -- The row is that of fst in the table of rules.
 use Rattle.canonical.proofs.Rules.{fst_row, row_asks, row_done}
-use borrow.Author.Rules.{rules}
 use Rattle.canonical.proofs.by_fst.Goals as goal
 
 pub by_rule-requires : goal.by_rule-requires

@@ -5,7 +5,6 @@ use native.Mathlib.Omega.{arith}
 use lib.ListN.{replicate}
 use Rattle.canonical.proofs.Matching.{function_inside, function_other}
 use Rattle.canonical.proofs.Rules.{ruled_fits, ruled_asks, ruled_stays}
-use borrow.Author.Rules.{rules}
 use Rattle.canonical.proofs.by_rule.Goals as goal
 
 pub overflow_add-o : goal.overflow_add-o

@@ -1,7 +1,6 @@
 -- The output's part from o on is lent as a whole slice; what is made at its start lies at o of the output.
 use native.Mathlib.Omega.{arith}
 use Rattle.canonical.proofs.Lent.{part_ready, part_ends, part_done}
-use borrow.Author.Rules.{rules}
 use Rattle.canonical.proofs.canonical_into.Goals as goal
 
 pub make-n-requires : goal.make-n-requires

@@ -1,6 +1,5 @@
 -- A message has no variable, so no value is looked for, and filled in it is itself.
 use Rattle.canonical.proofs.Messages.{message_ready, message_canon}
-use borrow.Author.Rules.{rules}
 use Rattle.canonical.proofs.canonical_term.Goals as goal
 
 pub canonical_into-n-requires : goal.canonical_into-n-requires

@@ -2,7 +2,6 @@
 use Rattle.canonical.proofs.Closing.{as_tag, exp_asks, stays_done, product_asks, product_done, exp_done, other_done}
 use Rattle.canonical.specs.Loose.Laws.{stays_product, stays_base}
 use mathlib.Core.Path.{sym, ◌∙◌}
-use borrow.Author.Rules.{rules}
 use Rattle.canonical.proofs.close.Goals as goal
 
 pub returns-then-is_product-2 : goal.returns-then-is_product-2

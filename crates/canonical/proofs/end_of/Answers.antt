@@ -1,7 +1,6 @@
 -- What term_end tells where a term stands; where none does, nothing is promised.
 use mathlib.Core.Path.{sym, ◌∙◌}
 use Rattle.canonical.proofs.Parts.{end_is, end_none}
-use borrow.Author.Rules.{rules}
 use Rattle.canonical.proofs.end_of.Goals as goal
 
 pub returns-in-End : goal.returns-in-End

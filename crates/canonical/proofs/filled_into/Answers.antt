@@ -1,7 +1,5 @@
 -- The invariant is that what is written and the filled-in bytes of the terms left are the filled-in bytes of all; each turn reads a byte at least.
-use Rattle.canonical.proofs.Plain.{Walk, walk_first, walk_asks, walk_next, walk_done}
-use Prim.Native.Nat.{◌-◌}
-use lib.ListN.{length}
+use Rattle.canonical.proofs.Plain.{walk_first, walk_asks, walk_next, walk_done}
 use native.Mathlib.Omega.{arith}
 use Rattle.canonical.proofs.filled_into.Goals as goal
 

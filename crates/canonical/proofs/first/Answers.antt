@@ -2,7 +2,6 @@
 use mathlib.Core.Path.{sym, ◌∙◌}
 use Rattle.canonical.specs.First.{first_of, of_leaf, of_op, of_none}
 use mathlib.Core.Bool.{true, false}
-use borrow.Author.Rules.{rules}
 use Rattle.canonical.proofs.first.Goals as goal
 
 pub returns-in-Leaf : goal.returns-in-Leaf

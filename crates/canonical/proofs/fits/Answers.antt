@@ -1,9 +1,6 @@
 -- The invariant is that what is left has the solutions that the whole has; each turn reads a byte of the patterns at least.
-use borrow.Author.Rules.{rules}
 use native.Mathlib.Omega.{arith}
-use lib.ListN.{length}
-use Prim.Native.Nat.{◌-◌}
-use Rattle.canonical.proofs.Matching.{Walked, walked_first, walked_asks, walked_ahead, walked_next, walked_none, walked_done}
+use Rattle.canonical.proofs.Matching.{walked_first, walked_asks, walked_ahead, walked_next, walked_none, walked_done}
 use Rattle.canonical.proofs.fits.Goals as goal
 
 pub loop-i-init : goal.loop-i-init

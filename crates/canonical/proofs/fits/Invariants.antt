@@ -1,9 +1,7 @@
 -- The invariant is that what is left has the solutions that the whole has; each turn reads a byte of the patterns at least.
-use borrow.Author.Rules.{rules}
-use native.Mathlib.Omega.{arith}
 use lib.ListN.{length}
 use Prim.Native.Nat.{◌-◌}
-use Rattle.canonical.proofs.Matching.{Walked, walked_first, walked_asks, walked_ahead, walked_next, walked_none, walked_done}
+use Rattle.canonical.proofs.Matching.{Walked}
 use Rattle.canonical.proofs.fits.Given as goal
 
 abbrev pub invariant-loop-i : goal.invariant-loop-i

@@ -4,7 +4,6 @@ use mathlib.Core.List.{List}
 use Prim.Native.Nat.{ℕ}
 use Rattle.octets.specs.Compare.{compare_bytes, is_equal}
 use Rattle.canonical.proofs.Messages.{canon_within, canon_long, canon_part, decides_canonical}
-use borrow.Author.Rules.{rules}
 use Rattle.canonical.proofs.is_canonical.Goals as goal
 
 pub canonical_term-n-requires : goal.canonical_term-n-requires

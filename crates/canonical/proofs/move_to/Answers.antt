@@ -1,7 +1,6 @@
 -- The bytes that stood from one place to another stand at o, and nothing before o is touched.
 use mathlib.Core.Path.{refl}
 use Rattle.canonical.proofs.Writes.{moved}
-use borrow.Author.Rules.{rules}
 use Rattle.canonical.proofs.move_to.Goals as goal
 
 pub returns : goal.returns

@@ -3,7 +3,6 @@ use native.Mathlib.Omega.{arith}
 use mathlib.Core.Path.{refl}
 use Rattle.canonical.proofs.Writes.{number_small, part_length}
 use Rattle.canonical.proofs.Leaves.{value_of, value_fits, value_done, name_of, name_done}
-use borrow.Author.Rules.{rules}
 use Rattle.canonical.proofs.put_leaf.Goals as goal
 
 pub offset_bounds-starts-number : goal.offset_bounds-starts-number

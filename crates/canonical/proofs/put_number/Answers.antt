@@ -2,7 +2,6 @@
 use native.Mathlib.Omega.{arith}
 use Rattle.number.specs.Groups.{groups}
 use Rattle.canonical.proofs.Writes.{number_small, spliced}
-use borrow.Author.Rules.{rules}
 use Rattle.canonical.proofs.put_number.Goals as goal
 
 pub overflow_cast-n : goal.overflow_cast-n

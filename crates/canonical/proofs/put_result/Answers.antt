@@ -1,7 +1,6 @@
 -- A variable's value is moved down, and a constant is copied.
 use native.Mathlib.Omega.{arith}
 use Rattle.canonical.proofs.Rules.{given_some, given_two, given_small, given_bounds, given_value, given_room, given_constant}
-use borrow.Author.Rules.{rules}
 use Rattle.canonical.proofs.put_result.Goals as goal
 
 pub bounds-res-0 : goal.bounds-res-0

@@ -4,7 +4,6 @@ use Rattle.canonical.proofs.Functions.{tag_asks}
 use Rattle.canonical.proofs.Making.{ahead, leaf_asks}
 use lib.ListN.{length}
 use native.Mathlib.Omega.{arith}
-use borrow.Author.Rules.{rules}
 use Rattle.canonical.proofs.put_symbol.Goals as goal
 
 pub put_leaf-r-requires : goal.put_leaf-r-requires

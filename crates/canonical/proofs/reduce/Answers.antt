@@ -2,7 +2,6 @@
 use native.Mathlib.Omega.{arith}
 use mathlib.Core.Path.{◌≡◌}
 use Rattle.canonical.proofs.Closing.{as_tag, by_tag, free_done}
-use borrow.Author.Rules.{rules}
 use Rattle.canonical.proofs.reduce.Goals as goal
 
 pub by_dec-requires : goal.by_dec-requires

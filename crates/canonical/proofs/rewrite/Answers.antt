@@ -1,7 +1,6 @@
 -- The arguments are an instance of the rule's patterns, and the result is written, or they are none, and nothing changes.
 use native.Mathlib.Omega.{arith}
 use Rattle.canonical.proofs.Rules.{ruled_fits, ruled_asks, ruled_stays, ruled_gives, ruled_done}
-use borrow.Author.Rules.{rules}
 use Rattle.canonical.proofs.rewrite.Goals as goal
 
 pub overflow_add-o : goal.overflow_add-o

@@ -2,7 +2,6 @@
 use native.Mathlib.Omega.{arith}
 use Rattle.canonical.proofs.Matching.{function_inside, function_other, function_same, number_inside, number_small, argument_here}
 use Rattle.canonical.proofs.Matching.{variable_first, value_inside, again_inside, variable_other, variable_again}
-use borrow.Author.Rules.{rules}
 use Rattle.canonical.proofs.step.Goals as goal
 
 pub bounds-out-at : goal.bounds-out-at

@@ -1,7 +1,6 @@
 -- The packed answer of canonical_form, whose memory is left as it is.
 use mathlib.Core.Path.{ap, ◌∙◌}
 use Rattle.checker.specs.Answer.{packed}
-use borrow.Author.Rules.{rules}
 use Rattle.checker.proofs.levtosziv_canonical.Goals as goal
 
 pub returns : goal.returns

@@ -3,7 +3,6 @@ use lib.ListN.{length}
 use mathlib.Core.Path.{ap, sym, ◌∙◌, subst}
 use Rattle.checker.specs.Check.Bounds.{OutcomeSmall, check_small}
 use Rattle.checker.specs.Check.{packed_ruling}
-use borrow.Author.Rules.{rules}
 use Rattle.checker.proofs.levtosziv_check.Goals as goal
 
 pub pack_ruling-requires : goal.pack_ruling-requires

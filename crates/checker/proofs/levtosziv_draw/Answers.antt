@@ -1,7 +1,6 @@
 -- The answer of draw, packed.
 use Rattle.checker.specs.Answer.{packed}
 use mathlib.Core.Path.{ap, ◌∙◌}
-use borrow.Author.Rules.{rules}
 use Rattle.checker.proofs.levtosziv_draw.Goals as goal
 
 pub returns : goal.returns

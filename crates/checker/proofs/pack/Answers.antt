@@ -1,7 +1,6 @@
 -- The two cases of an answer; the sums stay below 2 to the 64th.
 use mathlib.Core.Path.{ap, sym}
 use Rattle.checker.specs.Answer.{written, packed}
-use borrow.Author.Rules.{rules}
 use Rattle.checker.proofs.pack.Goals as goal
 
 pub returns-in-Length : goal.returns-in-Length

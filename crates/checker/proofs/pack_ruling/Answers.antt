@@ -3,7 +3,6 @@ use native.Mathlib.Omega.{arith}
 use mathlib.Core.Path.{ap, sym, ◌∙◌, subst}
 use Rattle.checker.specs.Check.Bounds.{OutcomeSmall}
 use Rattle.checker.specs.Check.{ruled, packed_ruling}
-use borrow.Author.Rules.{rules}
 use Rattle.checker.proofs.pack_ruling.Goals as goal
 
 pub pack_counts-requires : goal.pack_counts-requires

@@ -2,7 +2,6 @@
 use Rattle.number.specs.Groups.{number_limit}
 use mathlib.Core.Path.{sym, ◌∙◌}
 use Rattle.checker.specs.Files.Answers.{file_fault, file_leftover, file_variable, file_large, file_small}
-use borrow.Author.Rules.{rules}
 use Rattle.checker.proofs.term_file.Goals as goal
 
 pub returns-then-e-term : goal.returns-then-e-term

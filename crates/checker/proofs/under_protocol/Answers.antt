@@ -2,7 +2,6 @@
 use Rattle.checker.specs.Canonical.Inside.{holds_term, no_layout, too_large, form_of_lem, judges_refused, judges_formed}
 use Rattle.checker.specs.Files.{term_ruling}
 use mathlib.Core.Path.{sym, ◌∙◌}
-use borrow.Author.Rules.{rules}
 use Rattle.checker.proofs.under_protocol.Goals as goal
 
 pub write_form-requires : goal.write_form-requires

@@ -5,7 +5,6 @@ use native.Mathlib.Omega.{arith}
 use lib.Seq.{length-take-le}
 use Rattle.checker.specs.Canonical.Contracts.{Formed}
 use Rattle.checker.specs.declared.Written.TheVariants.{Length}
-use borrow.Author.Rules.{rules}
 use Rattle.checker.proofs.write_form.Goals as goal
 
 pub canonical_term-n-requires : goal.canonical_term-n-requires

@@ -1,13 +1,9 @@
 -- Together, the slice that is left falling: what is gathered and the pending terms' factors are all the terms' factors, and a turned sign negates.
-use borrow.Author.Rules.{rules}
-use Rattle.factors.proofs.CollectPaths.{on_gone, turn_asks, turn_gone, leaf_gone, factor_gone, Walk}
+use Rattle.factors.proofs.CollectPaths.{on_gone, turn_asks, turn_gone, leaf_gone, factor_gone}
 use Rattle.factors.proofs.CollectPaths.{walk_first, walk_done, term_asks, walk_inside, walk_more, walk_next, mul_more, mul_next}
 use Rattle.factors.proofs.EnterPaths.{leaf_asks, leaf_entered}
-use lib.ListN.{length}
 use mathlib.Core.Path.{refl, sym, ◌∙◌}
 use native.Mathlib.Omega.{arith}
-use Prim.Native.Nat.{◌-◌, ◌+◌, ◌*◌, ℕ, ◌<◌}
-use Prim.Native.Nat.{ℕ, ◌<◌}
 use Rattle.factors.proofs.+collect_one_term.Goals as goal
 
 pub collect-loop-left-init : goal.collect-loop-left-init

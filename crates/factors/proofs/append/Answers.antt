@@ -2,7 +2,6 @@
 use Rattle.factors.proofs.EnterPaths.{enter_few, appended}
 use lib.ListN.{length-set}
 use native.Mathlib.Omega.{arith}
-use borrow.Author.Rules.{rules}
 use Rattle.factors.proofs.append.Goals as goal
 
 pub overflow_mul-at : goal.overflow_mul-at

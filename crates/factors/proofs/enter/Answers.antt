@@ -2,7 +2,6 @@
 use native.Mathlib.Omega.{arith}
 use Rattle.factors.proofs.EnterPaths.{enter_few, enter_asks, enter_within, enter_fits, row_fits, entered_same, entered_new}
 use lib.ListN.{length-set}
-use borrow.Author.Rules.{rules}
 use Rattle.factors.proofs.enter.Goals as goal
 
 pub overflow_add-e : goal.overflow_add-e

@@ -2,7 +2,6 @@
 use mathlib.Core.Path.{refl}
 use native.Mathlib.Omega.{arith}
 use Rattle.factors.proofs.EnterPaths.{one_asks, one_short, one_entered, walked, walked_end}
-use borrow.Author.Rules.{rules}
 use Rattle.factors.proofs.enter_at.Goals as goal
 
 pub enter-p-requires : goal.enter-p-requires

@@ -2,7 +2,6 @@
 use Rattle.factors.proofs.EnterPaths.{enter_few, enter_asks, row_fits, entered_same}
 use native.Mathlib.Omega.{arith}
 use mathlib.Core.Path.{refl}
-use borrow.Author.Rules.{rules}
 use Rattle.factors.proofs.enter_leaf.Goals as goal
 
 pub hinted-h-requires : goal.hinted-h-requires

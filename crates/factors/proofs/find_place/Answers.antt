@@ -1,9 +1,7 @@
 -- The invariant is that the entries below lo come before the key and those from hi on behind it; the entries ascend, so each look narrows that.
-use borrow.Author.Rules.{rules}
-use Prim.Native.Nat.{ℕ, ◌+◌, ◌-◌, ◌*◌, ◌≤◌, ◌<◌}
+use Prim.Native.Nat.{ℕ, ◌+◌, ◌*◌, ◌≤◌, ◌<◌}
 use native.Mathlib.Omega.{arith}
-use mathlib.Core.Logic.{⊎_elim}
-use Rattle.factors.proofs.EnterPaths.{Between, between_all, found_between, found_same, Narrowed, narrowed_less, narrowed_greater}
+use Rattle.factors.proofs.EnterPaths.{between_all, found_between, found_same, Narrowed, narrowed_less, narrowed_greater}
 use Rattle.factors.proofs.find_place.Goals as goal
 use Rattle.factors.proofs.find_place.Goals.{in-Less, in-Greater}
 

@@ -1,9 +1,6 @@
 -- The invariant is that the entries below lo come before the key and those from hi on behind it; the entries ascend, so each look narrows that.
-use borrow.Author.Rules.{rules}
-use Prim.Native.Nat.{◌+◌, ◌-◌, ◌*◌, ◌≤◌, ◌<◌}
-use native.Mathlib.Omega.{arith}
-use mathlib.Core.Logic.{⊎_elim}
-use Rattle.factors.proofs.EnterPaths.{Between, between_all, found_between, found_same, Narrowed, narrowed_less, narrowed_greater}
+use Prim.Native.Nat.{◌-◌, ◌≤◌, ◌<◌}
+use Rattle.factors.proofs.EnterPaths.{Between}
 use Rattle.factors.proofs.find_place.Given as goal
 
 abbrev pub invariant-loop-lo : goal.invariant-loop-lo

@@ -2,7 +2,6 @@
 use Rattle.factors.proofs.EnterPaths.{same_leaf}
 use native.Mathlib.Omega.{arith}
 use Prim.Native.Nat.{◌+◌, ◌*◌}
-use borrow.Author.Rules.{rules}
 use Rattle.factors.proofs.hinted.Goals as goal
 
 pub returns-then-n-h : goal.returns-then-n-h

@@ -4,7 +4,6 @@ use Rattle.lists.specs.Choice.{clash}
 use borrow.Author.Tests.{ltb-true}
 use native.Mathlib.Omega.{arith}
 use Prim.Native.Nat.{◌+◌, ◌-◌, ◌*◌}
-use borrow.Author.Rules.{rules}
 use Rattle.factors.proofs.is_behind.Goals as goal
 
 pub returns-then-n-eq0 : goal.returns-then-n-eq0

@@ -2,7 +2,6 @@
 use lib.ListN.{get_or-eq_default}
 use mathlib.Core.Path.{sym}
 use native.Mathlib.Omega.{arith}
-use borrow.Author.Rules.{rules}
 use Rattle.factors.proofs.mul_takes.Goals as goal
 
 pub overflow_cast-result : goal.overflow_cast-result

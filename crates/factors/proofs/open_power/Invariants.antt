@@ -1,11 +1,7 @@
 -- The invariant is that the elements from j on have moved up by one and the others stand; each turn moves one.
-use borrow.Author.Rules.{rules}
-use Rattle.factors.proofs.EnterPaths.{Moving, moving_first, moving_next, moved}
-use native.Mathlib.Omega.{arith}
+use Rattle.factors.proofs.EnterPaths.{Moving}
 use Prim.Native.Nat.{◌≤◌}
 use lib.IntN.{pos}
-use mir.ValLaws.{to_z-of_z}
-use mir.Syntax.{w32}
 use Rattle.factors.proofs.open_power.Given as goal
 
 abbrev pub invariant-loop-j : goal.invariant-loop-j

@@ -1,9 +1,6 @@
 -- The invariant is that the elements from j on have moved up by two and the others stand; each turn moves one.
-use borrow.Author.Rules.{rules}
-use Rattle.factors.proofs.EnterPaths.{Moving, moving_first, moving_next, moved}
-use native.Mathlib.Omega.{arith}
+use Rattle.factors.proofs.EnterPaths.{Moving}
 use Prim.Native.Nat.{◌≤◌}
-use mathlib.Core.Path.{refl}
 use Rattle.factors.proofs.open_row.Given as goal
 
 abbrev pub invariant-loop-j : goal.invariant-loop-j

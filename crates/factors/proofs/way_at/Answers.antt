@@ -2,7 +2,6 @@
 use Rattle.factors.specs.Way.{way_of}
 use Rattle.factors.specs.Way.Laws.{way_one, way_mul, way_inv, way_other}
 use mathlib.Core.Path.{ap, sym, ◌∙◌}
-use borrow.Author.Rules.{rules}
 use Rattle.factors.proofs.way_at.Goals as goal
 
 pub returns-then-t-eq-ONE : goal.returns-then-t-eq-ONE

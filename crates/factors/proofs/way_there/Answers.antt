@@ -1,7 +1,6 @@
 -- A byte that is a whole number is a whole tag: where a term stands, a leaf has its number behind it.
 use Rattle.factors.specs.Way.Laws.{there_inside, name_inside, there_name}
 use native.Mathlib.Omega.{arith}
-use borrow.Author.Rules.{rules}
 use Rattle.factors.proofs.way_there.Goals as goal
 
 pub bounds-src-at : goal.bounds-src-at

@@ -2,7 +2,6 @@
 use mathlib.Core.Path.{ap, sym, ◌∙◌}
 use Rattle.number.specs.Reading.Numbers.{below_yes, below_no, below_none}
 use Rattle.number.specs.Reading.{as_read}
-use borrow.Author.Rules.{rules}
 use Rattle.number.proofs.below.Goals as goal
 
 pub returns-then-v-n : goal.returns-then-v-n

@@ -1,11 +1,8 @@
 -- Each turn takes one group off the rest; the bytes counted and the groups of the rest are together one more than the number's groups.
 use Rattle.number.specs.Groups.Laws.{groups_one, groups_more, groups_short}
-use Rattle.number.specs.Groups.{groups}
-use borrow.Author.Rules.{rules}
 use native.Mathlib.Omega.{arith}
-use mathlib.Core.Path.{◌≡◌, ap}
+use mathlib.Core.Path.{ap}
 use lib.ListN.{length}
-use Prim.Native.Nat.{◌+◌}
 use Rattle.number.proofs.number_len.Goals as goal
 
 pub loop-rest-init : goal.loop-rest-init

@@ -1,6 +1,5 @@
 -- Each turn puts one group to the value so far; the number is always what the groups so far make of the rest (`Sofar`).
-use borrow.Author.Rules.{rules}
-use Rattle.number.specs.Reading.Stepwise.{Sofar, sofar_first, sofar_none, sofar_end, sofar_room, sofar_small, sofar_last, sofar_more}
+use Rattle.number.specs.Reading.Stepwise.{sofar_first, sofar_none, sofar_end, sofar_room, sofar_small, sofar_last, sofar_more}
 use Rattle.number.specs.Reading.Numbers.{number_in, now_end, now_one}
 use Rattle.number.specs.Groups.{most_groups}
 use native.Mathlib.Omega.{arith}

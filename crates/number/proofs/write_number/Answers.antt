@@ -1,6 +1,5 @@
 -- The invariant is that writing the rest's groups at i would give what is promised; each turn writes the lowest of them,
 -- which the low seven bits are: they are the remainder by 128 (`and_mask`).
-use borrow.Author.Rules.{rules}
 use Rattle.number.specs.Groups.Laws.{groups_one, groups_more, groups_some}
 use Rattle.number.specs.Groups.{groups}
 use Rattle.octets.specs.Splice.Laws.{splice_cons, sets_splice}

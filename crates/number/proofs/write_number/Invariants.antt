@@ -1,16 +1,10 @@
 -- The invariant is that writing the rest's groups at i would give what is promised; each turn writes the lowest of them,
 -- which the low seven bits are: they are the remainder by 128 (`and_mask`).
-use borrow.Author.Rules.{rules}
-use Rattle.number.specs.Groups.Laws.{groups_one, groups_more, groups_some}
 use Rattle.number.specs.Groups.{groups}
-use Rattle.octets.specs.Splice.Laws.{splice_cons, sets_splice}
 use Rattle.octets.specs.Splice.{splice}
-use native.Mathlib.Omega.{arith}
-use lib.Bits.{bit_and, and_mask}
-use mathlib.Core.Path.{◌≡◌, ap, sym, ◌∙◌, refl}
-use lib.ListN.{length, length-set}
-use mathlib.Core.List.{◌∷◌}
-use Prim.Native.Nat.{◌+◌, ◌/◌}
+use mathlib.Core.Path.{◌≡◌}
+use lib.ListN.{length}
+use Prim.Native.Nat.{◌+◌}
 use Rattle.number.proofs.write_number.Given as goal
 
 abbrev pub invariant-loop-rest : goal.invariant-loop-rest

@@ -2,9 +2,7 @@
 use borrow.Author.Rules.{rules}
 use Rattle.octets.specs.Zeros.{zeros_more, zeros_all}
 use native.Mathlib.Omega.{arith}
-use lib.ListN.{length, take, replicate, length-set}
-use mathlib.Core.Path.{◌≡◌}
-use Prim.Native.Nat.{◌≤◌, ◌-◌}
+use lib.ListN.{length, length-set}
 use Rattle.octets.proofs.clear.Goals as goal
 
 pub loop-i-smaller : goal.loop-i-smaller

@@ -1,8 +1,5 @@
 -- Each turn writes one zero; the invariant is that the first i bytes are zeros, and at the end these are all.
-use borrow.Author.Rules.{rules}
-use Rattle.octets.specs.Zeros.{zeros_more, zeros_all}
-use native.Mathlib.Omega.{arith}
-use lib.ListN.{length, take, replicate, length-set}
+use lib.ListN.{length, take, replicate}
 use mathlib.Core.Path.{◌≡◌}
 use Prim.Native.Nat.{◌≤◌, ◌-◌}
 use Rattle.octets.proofs.clear.Given as goal

@@ -1,9 +1,6 @@
 -- The invariant is that the rests from i on compare as the whole strings do; each return is a case of the order at i.
 use Rattle.octets.specs.Compare.Laws.{less_at, greater_at, same_at, b_ends, a_ends, both_end}
-use Rattle.octets.specs.Compare.{compare_bytes}
-use lib.ListN.{length, drop}
-use mathlib.Core.Path.{◌≡◌, sym, ◌∙◌}
-use Prim.Native.Nat.{◌≤◌, ◌-◌}
+use mathlib.Core.Path.{sym, ◌∙◌}
 use borrow.Author.Rules.{rules}
 use Rattle.octets.proofs.compare_bytes.Goals as goal
 

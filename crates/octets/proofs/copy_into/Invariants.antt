@@ -1,12 +1,7 @@
 -- The invariant is that the slice is its entry with the first i bytes of the source spliced in; each turn adds one.
-use lib.Seq.{take_all}
-use lib.ListN.{set, get_or, length-set, length, take}
-use native.Mathlib.Omega.{arith}
-use mathlib.Core.Path.{ap, ◌≡◌, sym, ◌∙◌}
-use mathlib.Core.List.{List}
-use Prim.Native.Nat.{ℕ, ◌+◌, ◌≤◌, ◌-◌}
-use Rattle.octets.specs.Splice.Laws.{splice_copy, splice_nil}
-use borrow.Author.Rules.{rules}
+use lib.ListN.{length, take}
+use mathlib.Core.Path.{◌≡◌}
+use Prim.Native.Nat.{◌≤◌, ◌-◌}
 use Rattle.octets.specs.Splice.{splice}
 use Rattle.octets.proofs.copy_into.Given as goal
 

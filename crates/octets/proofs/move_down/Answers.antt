@@ -4,7 +4,7 @@ use lib.ListN.{set, get_or, length-set, length-drop, length, take, drop}
 use native.Mathlib.Omega.{arith}
 use mathlib.Core.Path.{ap, ap₂, ◌≡◌, sym, ◌∙◌}
 use mathlib.Core.List.{List}
-use Prim.Native.Nat.{ℕ, ◌+◌, ◌≤◌, ◌-◌}
+use Prim.Native.Nat.{ℕ, ◌+◌, ◌-◌}
 use Rattle.octets.specs.Splice.Laws.{splice_copy, splice_nil, splice_behind}
 use borrow.Author.Rules.{rules}
 use Rattle.octets.specs.Splice.{splice}

@@ -7,7 +7,7 @@ use lib.Seq.{get_or-drop, get_or-take, length-take-le, drop-length}
 use lib.ListN.{length, take, drop, set, get_or, length-set, length-drop}
 use mathlib.Core.List.{List}
 use mathlib.Core.Path.{◌≡◌, ap, ap₂, sym, ◌∙◌}
-use Prim.Native.Nat.{ℕ, ◌≤◌, ◌-◌, ◌+◌}
+use Prim.Native.Nat.{ℕ, ◌-◌, ◌+◌}
 use Rattle.octets.proofs.move_up.Goals as goal
 
 pub loop-i-init : goal.loop-i-init

@@ -1,13 +1,8 @@
 -- As move_down from the other end: the bytes from i on are spliced in, and the byte read next lies before all that is written.
-use borrow.Author.Rules.{rules}
-use Rattle.octets.specs.Splice.Laws.{splice_copy_back, splice_nil, splice_before}
 use Rattle.octets.specs.Splice.{splice}
-use native.Mathlib.Omega.{arith}
-use lib.Seq.{get_or-drop, get_or-take, length-take-le, drop-length}
-use lib.ListN.{length, take, drop, set, get_or, length-set, length-drop}
-use mathlib.Core.List.{List}
-use mathlib.Core.Path.{◌≡◌, ap, ap₂, sym, ◌∙◌}
-use Prim.Native.Nat.{ℕ, ◌≤◌, ◌-◌, ◌+◌}
+use lib.ListN.{length, take, drop}
+use mathlib.Core.Path.{◌≡◌}
+use Prim.Native.Nat.{◌≤◌, ◌+◌}
 use Rattle.octets.proofs.move_up.Given as goal
 
 abbrev pub invariant-loop-i : goal.invariant-loop-i

@@ -1,10 +1,8 @@
 -- The invariant is that the bytes before i, as told so far, and the rests from i on are the same just where the whole strings are.
-use borrow.Author.Rules.{rules}
-use Rattle.octets.specs.Compare.Laws.{SameSoFar, so_far_none, so_far_more, so_far_all, other_lengths}
+use Rattle.octets.specs.Compare.Laws.{SameSoFar}
 use lib.ListN.{length}
 use Prim.Native.Nat.{◌≤◌, ◌-◌}
 use mathlib.Core.Path.{◌≡◌}
-use native.Mathlib.Omega.{arith}
 use Rattle.octets.proofs.same_bytes.Given as goal
 
 abbrev pub invariant-loop-i : goal.invariant-loop-i

@@ -1,5 +1,5 @@
 -- One entry of the table, the facts of a list, one list.
-use Rattle.std.specs.Prelude.{ℕ, ◌+◌, ◌-◌, ◌*◌, ◌≤◌, ◌<◌, List, ◌≡◌, refl, length, get_or}
+use Rattle.std.specs.Prelude.{ℕ, ◌+◌, ◌*◌, ◌≤◌, ◌<◌, List, ◌≡◌, refl, length, get_or}
 use Rattle.std.proofs.Common.{ap, ap₂, sym, ◌∙◌, subst, arith, length-append, length-take-le}
 use Rattle.protocol.specs.Figures.{most_facts, fact_limit}
 use Rattle.lists.specs.Asks.{Asks}

@@ -1,6 +1,6 @@
 -- The entries of one rule number after another.
-use Rattle.std.specs.Prelude.{ℕ, ◌+◌, ◌-◌, ◌*◌, ◌/◌, ◌%◌, ◌<◌, List, ◌≡◌, refl, length}
-use Rattle.std.proofs.Math.Option.{Option, some, none, none-ne-some}
+use Rattle.std.specs.Prelude.{ℕ, ◌+◌, ◌*◌, ◌/◌, ◌%◌, ◌<◌, List, ◌≡◌, refl, length}
+use Rattle.std.proofs.Math.Option.{some, none, none-ne-some}
 use Rattle.std.proofs.Common.{ap, ap₂, sym, ◌∙◌, subst, subst₂, arith}
 use Rattle.protocol.specs.Figures.{list_count}
 use Rattle.lists.specs.Asks.{Asks}

@@ -1,10 +1,5 @@
 -- The loop goes down the tower: at each step the exp there is opened, and its exponent joins those behind.
-use Rattle.product.proofs.ExponentPaths.{Down, down_begins, down_inside, down_next, down_ends}
-use Rattle.product.specs.Inner.{Behind}
-use Rattle.term.specs.Term.{Term}
-use Rattle.lists.specs.Asks.{Promises₂}
-use lib.ListN.{length}
-use Prim.Native.Nat.{ℕ, ◌-◌}
+use Rattle.product.proofs.ExponentPaths.{down_begins, down_inside, down_next, down_ends}
 use mathlib.Core.Path.{sym, ◌∙◌}
 use native.Mathlib.Omega.{arith}
 use Rattle.product.proofs.base_of.Goals as goal

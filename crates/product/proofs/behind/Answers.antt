@@ -1,7 +1,6 @@
 -- The part that term_part hands back is as long as the term.
 use native.Mathlib.Omega.{arith}
 use Rattle.product.proofs.PowerPaths.{behind_is, behind_within}
-use borrow.Author.Rules.{rules}
 use Rattle.product.proofs.behind.Goals as goal
 
 pub overflow_add-result : goal.overflow_add-result

@@ -3,7 +3,6 @@ use Rattle.product.proofs.ExponentPaths.{tower_asks, base_asks, base_after, fact
 use borrow.Author.Tests.{eqb-true}
 use mathlib.Core.Bool.{and-eq-true_iff}
 use mathlib.Core.Path.{sym, ◌∙◌}
-use borrow.Author.Rules.{rules}
 use Rattle.product.proofs.exponent.Goals as goal
 
 pub base_of-b-requires : goal.base_of-b-requires

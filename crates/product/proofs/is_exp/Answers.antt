@@ -1,7 +1,6 @@
 -- By the three symbols that can stand there.
 use Rattle.product.specs.Tower.{is_exp}
 use mathlib.Core.Path.{ap, sym, ◌∙◌}
-use borrow.Author.Rules.{rules}
 use Rattle.product.proofs.is_exp.Goals as goal
 
 pub returns-in-Leaf : goal.returns-in-Leaf

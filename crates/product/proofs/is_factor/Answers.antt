@@ -1,7 +1,6 @@
 -- By the four ways.
 use Rattle.product.specs.Tower.{is_factor}
 use mathlib.Core.Path.{ap, sym, ◌∙◌}
-use borrow.Author.Rules.{rules}
 use Rattle.product.proofs.is_factor.Goals as goal
 
 pub returns-in-On : goal.returns-in-On

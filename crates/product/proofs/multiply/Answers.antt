@@ -2,7 +2,6 @@
 use Rattle.product.proofs.ProductPaths.{multiply_asks, multiply_inside, multiply_end, multiplied_none, multiplied_some}
 use mathlib.Core.Path.{refl}
 use native.Mathlib.Omega.{arith}
-use borrow.Author.Rules.{rules}
 use Rattle.product.proofs.multiply.Goals as goal
 
 pub write_product-n-requires : goal.write_product-n-requires

@@ -1,11 +1,5 @@
 -- The invariant is that no entry from i up to j stands on the side.
-use borrow.Author.Rules.{rules}
-use lib.IntN.{pos}
-use lib.ListN.{get_or}
-use mathlib.Core.Path.{◌≡◌}
 use native.Mathlib.Omega.{arith}
-use Prim.Native.Nat.{ℕ, ◌≤◌, ◌<◌, ◌-◌}
-use Rattle.product.specs.Side.{rise}
 use Rattle.product.proofs.RisePaths.{rises_asks, next_here, next_more, next_end}
 use Rattle.product.proofs.next_row.Goals as goal
 

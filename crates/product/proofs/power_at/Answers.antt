@@ -2,7 +2,6 @@
 use Rattle.product.proofs.PowerPaths.{power_asks, power_order, power_end, powered_none, powered_some}
 use mathlib.Core.Path.{refl}
 use native.Mathlib.Omega.{arith}
-use borrow.Author.Rules.{rules}
 use Rattle.product.proofs.power_at.Goals as goal
 
 pub write_product-n-requires : goal.write_product-n-requires

@@ -2,7 +2,6 @@
 use Rattle.product.proofs.PutPaths.{short_room, short_wrote}
 use lib.ListN.{length-set}
 use native.Mathlib.Omega.{arith}
-use borrow.Author.Rules.{rules}
 use Rattle.product.proofs.put_all.Goals as goal
 
 pub bounds-out-o : goal.bounds-out-o

@@ -2,7 +2,6 @@
 use Rattle.product.proofs.PutPaths.{all_asks, all_wrote, but_last_asks, last_asks, last_wrote}
 use mathlib.Core.Path.{refl}
 use native.Mathlib.Omega.{arith}
-use borrow.Author.Rules.{rules}
 use Rattle.product.proofs.put_factor.Goals as goal
 
 pub put_all-requires : goal.put_all-requires

@@ -1,13 +1,10 @@
 -- The invariant is that i copies are written up to p; the source lies before them, so it is not touched.
-use borrow.Author.Rules.{rules}
-use Rattle.product.proofs.PutPaths.{many_first, many_room, many_behind, many_more}
 use Rattle.product.specs.Chain.{repeated}
 use Rattle.product.specs.Writing.{bytes_in}
 use Rattle.octets.specs.Splice.Prefix.{Wrote}
 use Prim.Native.Nat.{◌≤◌, ◌-◌}
-use native.Mathlib.Omega.{arith}
-use mathlib.Core.Path.{◌≡◌, refl, sym, ◌∙◌}
-use lib.ListN.{length, length-set}
+use mathlib.Core.Path.{◌≡◌}
+use lib.ListN.{length}
 use Rattle.product.proofs.put_many.Given as goal
 
 abbrev pub invariant-loop-i : goal.invariant-loop-i

@@ -3,7 +3,6 @@ use Rattle.product.proofs.ProductPaths.{collect_asks, table_asks, table_wrote}
 use lib.Seq.{length-take-le}
 use mathlib.Core.Path.{sym}
 use native.Mathlib.Omega.{arith}
-use borrow.Author.Rules.{rules}
 use Rattle.product.proofs.write_product.Goals as goal
 
 pub slice_bounds-collect-end-3 : goal.slice_bounds-collect-end-3

@@ -1,13 +1,9 @@
 -- The invariant is that what is written and the rows from i on are the whole side; each turn writes a factor as often as it rises.
-use borrow.Author.Rules.{rules}
-use Rattle.product.proofs.LayPaths.{lay_held, next_asks, Laying, laying_first, laying_done, lay_put, laying_next}
+use Rattle.product.proofs.LayPaths.{lay_held, next_asks, laying_first, laying_done, lay_put, laying_next}
 use Rattle.product.proofs.RisePaths.{rises_asks}
-use Rattle.product.specs.Inner.{Lay}
-use Rattle.message.specs.Product.{Exps}
-use Prim.Native.Nat.{◌+◌, ◌-◌, ◌*◌}
+use Prim.Native.Nat.{◌+◌, ◌*◌}
 use native.Mathlib.Omega.{arith}
-use mathlib.Core.Path.{◌≡◌, refl, ◌∙◌}
-use lib.ListN.{length}
+use mathlib.Core.Path.{refl, ◌∙◌}
 use Rattle.product.proofs.write_rows.Goals as goal
 
 pub next_row-i-requires : goal.next_row-i-requires

@@ -1,12 +1,9 @@
 -- The invariant is that what is written and the rows from i on are the whole side; each turn writes a factor as often as it rises.
-use borrow.Author.Rules.{rules}
-use Rattle.product.proofs.LayPaths.{lay_held, next_asks, Laying, laying_first, laying_done, lay_put, laying_next}
-use Rattle.product.proofs.RisePaths.{rises_asks}
+use Rattle.product.proofs.LayPaths.{Laying}
 use Rattle.product.specs.Inner.{Lay}
 use Rattle.message.specs.Product.{Exps}
-use Prim.Native.Nat.{◌+◌, ◌-◌, ◌*◌}
-use native.Mathlib.Omega.{arith}
-use mathlib.Core.Path.{◌≡◌, refl, ◌∙◌}
+use Prim.Native.Nat.{◌-◌}
+use mathlib.Core.Path.{◌≡◌}
 use lib.ListN.{length}
 use Rattle.product.proofs.write_rows.Given as goal
 

@@ -1,7 +1,6 @@
 -- No row below zero, none above, or both: P, inv(N), or mul(P, inv(N)).
 use Rattle.product.proofs.LayPaths.{both_held, next_asks, up_asks, up_wrote, down_asks, down_wrote, first_asks, second_asks, second_wrote}
 use native.Mathlib.Omega.{arith}
-use borrow.Author.Rules.{rules}
 use Rattle.product.proofs.write_table.Goals as goal
 
 pub next_row-d-requires : goal.next_row-d-requires

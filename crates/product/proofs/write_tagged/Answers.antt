@@ -3,7 +3,6 @@ use mathlib.Core.Path.{◌∙◌}
 use lib.ListN.{length-set}
 use Rattle.product.proofs.LayPaths.{tag_inside, tagged_asks, tagged_wrote}
 use native.Mathlib.Omega.{arith}
-use borrow.Author.Rules.{rules}
 use Rattle.product.proofs.write_tagged.Goals as goal
 
 pub bounds-out-o : goal.bounds-out-o

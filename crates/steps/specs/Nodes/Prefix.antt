@@ -1,6 +1,6 @@
 -- The reading of a node list depends on the bytes up to its end alone: the same bytes up to there, any bytes behind, give the same
 -- nodes and the same end.
-use Rattle.std.specs.Prelude.{ℕ, ◌+◌, ◌≤◌, ◌<◌, List, ◌++◌, ◌≡◌, length, take, drop}
+use Rattle.std.specs.Prelude.{ℕ, ◌≤◌, ◌<◌, List, ◌++◌, ◌≡◌, length, take, drop}
 use Rattle.std.proofs.Common.{ap, sym, ◌∙◌, arith, length-append, length-drop, take-append-drop, length-take-le, take_at}
 use Rattle.std.proofs.lemmas.List.{drop-append-le}
 use Rattle.octets.specs.Head.{Bytes, Stands, stands_within}

@@ -10,7 +10,6 @@ use Rattle.lists.specs.All.Laws.{all_map, all_both, all_nth, all_at, map_all}
 use Rattle.lists.specs.Pairs.{Pairs, nothing, more, pairs_head, pairs_tail, pairs_length}
 use Rattle.term.specs.Term.{variable, Term, leaf, Formed}
 use Rattle.term.specs.Arity.{arity, tag_arities}
-use Rattle.term.specs.Reader.{terms}
 use Rattle.message.specs.Equations.Older.{older_arities, OlderSame, alike, older_same}
 use Rattle.message.specs.Substitution.{sub}
 use Rattle.message.specs.Substitution.Laws.{sub_formed}

@@ -2,7 +2,6 @@
 use mathlib.Core.Path.{ap, sym, ◌∙◌}
 use Rattle.number.specs.Reading.{as_read}
 use Rattle.term.specs.Reader.{name_at}
-use borrow.Author.Rules.{rules}
 use Rattle.term.proofs.leaf_at.Goals as goal
 
 pub returns-in-Value : goal.returns-in-Value

@@ -3,7 +3,6 @@ use Rattle.term.specs.Walk.Laws.{step_of}
 use Rattle.term.specs.declared.Step.TheVariants.{Takes}
 use mathlib.Core.Path.{ap, sym, ◌∙◌}
 use mathlib.Core.Bool.{Bool}
-use borrow.Author.Rules.{rules}
 use Rattle.term.proofs.one_symbol.Goals as goal
 
 pub returns-in-Leaf : goal.returns-in-Leaf

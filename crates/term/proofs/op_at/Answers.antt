@@ -5,7 +5,6 @@ use mathlib.Core.Path.{ap, sym, ◌∙◌}
 use mathlib.Core.Option.{Option}
 use Rattle.term.specs.Reader.{op_at}
 use Rattle.term.specs.Arity.Laws.{arity_none, arity_some}
-use borrow.Author.Rules.{rules}
 use Rattle.term.proofs.op_at.Goals as goal
 
 pub returns-then-k : goal.returns-then-k

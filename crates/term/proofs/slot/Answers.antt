@@ -1,6 +1,5 @@
 -- Inside the table the slot is read; outside of it the default of `get_or` is the value of an undeclared tag.
 use Rattle.term.specs.Arity.Laws.{slot_inside, slot_outside}
-use borrow.Author.Rules.{rules}
 use Rattle.term.proofs.slot.Goals as goal
 
 pub returns-then-tag-arities : goal.returns-then-tag-arities

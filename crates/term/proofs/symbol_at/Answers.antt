@@ -2,7 +2,6 @@
 use mathlib.Core.Path.{ap, sym, ◌∙◌}
 use Rattle.number.specs.Reading.{as_read}
 use Rattle.term.specs.Reader.Laws.{symbol_leaf, symbol_op, symbol_none}
-use borrow.Author.Rules.{rules}
 use Rattle.term.proofs.symbol_at.Goals as goal
 
 pub returns-then-tag-lt-FIRST_FUNCTION : goal.returns-then-tag-lt-FIRST_FUNCTION

@@ -2,7 +2,6 @@
 use mathlib.Core.Path.{sym, ◌∙◌}
 use Rattle.term.specs.Walk.Exact.{end_within, part_bytes, none_bytes}
 use native.Mathlib.Omega.{arith}
-use borrow.Author.Rules.{rules}
 use Rattle.term.proofs.term_part.Goals as goal
 
 pub slice_bounds-result-count : goal.slice_bounds-result-count

@@ -3,7 +3,6 @@ use mathlib.Core.Path.{ap, sym, ◌∙◌}
 use Rattle.number.specs.Reading.{many}
 use Rattle.term.specs.Reader.{term}
 use Rattle.term.specs.Walk.Laws.{walks_part, part_of}
-use borrow.Author.Rules.{rules}
 use Rattle.term.proofs.terms_end.Goals as goal
 
 pub returns-in-End : goal.returns-in-End

@@ -2,7 +2,6 @@
 use mathlib.Core.Path.{◌∙◌}
 use Rattle.term.specs.Reader.{term}
 use Rattle.term.specs.Walk.Laws.{walks_one}
-use borrow.Author.Rules.{rules}
 use Rattle.term.proofs.walk_term.Goals as goal
 
 pub returns : goal.returns

@@ -1,12 +1,9 @@
 -- The invariant is that the tally so far, put to the walk of the pending terms, is the whole walk; each turn takes a symbol off, so the file bounds the turns.
 use borrow.Author.Rules.{rules}
-use Rattle.term.specs.Walk.Laws.{tally, tally_begins, step_ahead, walk_turn, walk_fault, walk_done}
-use Rattle.term.specs.Walk.{walks}
+use Rattle.term.specs.Walk.Laws.{tally_begins, step_ahead, walk_turn, walk_fault, walk_done}
 use Rattle.term.specs.Reader.{term}
 use Rattle.number.specs.Reading.{many}
-use mathlib.Core.Path.{◌≡◌, sym, ◌∙◌}
-use Prim.Native.Nat.{◌+◌, ◌-◌, ◌*◌, ◌≤◌}
-use lib.ListN.{length}
+use mathlib.Core.Path.{sym, ◌∙◌}
 use native.Mathlib.Omega.{arith}
 use Rattle.term.proofs.walk_terms.Goals as goal
 

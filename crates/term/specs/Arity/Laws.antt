@@ -1,5 +1,5 @@
 -- The laws of arities: what each tag's slot is; tags are few, and so are arguments.
-use Rattle.std.specs.Prelude.{ℕ, zero, suc, ◌+◌, ◌-◌, ◌≤◌, ◌<◌, List, [], ◌∷◌, ◌++◌, ◌≡◌, refl, length, get_or, ltb}
+use Rattle.std.specs.Prelude.{ℕ, zero, suc, ◌+◌, ◌≤◌, ◌<◌, List, [], ◌∷◌, ◌++◌, ◌≡◌, refl, length, get_or, ltb}
 use Rattle.std.proofs.Math.Option.{some, none}
 use Rattle.std.proofs.Common.{ap, sym, ◌∙◌, length-append, get_or-append-add}
 use native.Mathlib.Omega.{arith}

@@ -1,5 +1,5 @@
 -- The laws of the encoding: it is read in one way only, and a symbol takes a byte at least; a wider range of numbers.
-use Rattle.std.specs.Prelude.{ℕ, ◌+◌, ◌≤◌, ◌<◌, List, ◌++◌, ◌≡◌, refl, length}
+use Rattle.std.specs.Prelude.{ℕ, ◌≤◌, ◌<◌, List, ◌++◌, ◌≡◌, refl, length}
 use Rattle.std.proofs.Common.{append_assoc, ap, ap₂, sym, ◌∙◌, arith, length-append}
 use Rattle.std.proofs.Math.Option.{Option, some}
 use Rattle.number.specs.Groups.{groups}

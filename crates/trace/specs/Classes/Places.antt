@@ -1,5 +1,5 @@
 -- The class of one place more.
-use Rattle.std.specs.Prelude.{ℕ, suc, ◌+◌, ◌*◌, ◌-◌, ◌%◌, ◌≤◌, ◌<◌, List, Bool, true, false, ◌≡◌, refl, length, get_or, set, ltb}
+use Rattle.std.specs.Prelude.{ℕ, suc, ◌+◌, ◌*◌, ◌%◌, ◌≤◌, ◌<◌, List, Bool, true, false, ◌≡◌, refl, length, get_or, set, ltb}
 use Rattle.std.proofs.Common.{ap, sym, ◌∙◌, subst, arith, ltb-true}
 use Rattle.lists.specs.Choice.{pick}
 use Rattle.message.specs.Canon.{canon}

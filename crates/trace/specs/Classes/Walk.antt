@@ -1,5 +1,5 @@
 -- The arguments at two places, compared; the chain of a place, walked.
-use Rattle.std.specs.Prelude.{ℕ, suc, ◌-◌, ◌/◌, ◌%◌, ◌<◌, List, Bool, true, ◌↔◌, ◌≡◌, length, get_or}
+use Rattle.std.specs.Prelude.{ℕ, suc, ◌/◌, ◌%◌, ◌<◌, List, Bool, true, ◌↔◌, ◌≡◌, length, get_or}
 use Rattle.std.proofs.Math.Path.{ap}
 use Rattle.std.proofs.Common.{sym, ◌∙◌, subst, arith}
 use Rattle.lists.specs.All.Laws.{all_inside}

@@ -1,9 +1,6 @@
 -- The tables are those of the nodes' trace, so what the judge answers of their numbers it answers of the trace.
-use lib.Seq.{length-take-le}
-use mathlib.Core.Path.{sym}
 use Rattle.protocol.specs.Protocol.{fact_arities}
 use Rattle.verdict.specs.Judged.Joined.{posed_property, lent_shape, lent_truth}
-use borrow.Author.Rules.{rules}
 use Rattle.verdict.proofs.verdict_of.Goals as goal
 
 pub active_nodes-active-requires : goal.active_nodes-active-requires

@@ -1,5 +1,5 @@
 -- The first free element that passes a test, the table with one element less, and with one more.
-use Rattle.std.specs.Prelude.{ℕ, zero, suc, ◌+◌, ◌≤◌, ◌<◌, List, [], ◌∷◌, ◌++◌, Bool, true, false, cond, ◌≡◌, refl, length, get_or, set}
+use Rattle.std.specs.Prelude.{ℕ, zero, suc, ◌≤◌, ◌<◌, List, [], ◌∷◌, ◌++◌, Bool, true, false, cond, ◌≡◌, refl, length, get_or, set}
 use Rattle.std.proofs.Common.{append-nil, ap, ap₂, sym, ◌∙◌, arith, get_or-set_same, get_or-set_other}
 use Rattle.std.proofs.Math.Option.{none, some}
 use Rattle.lists.specs.Choice.{by_order}

@@ -1,7 +1,6 @@
 -- The three lengths in order, then the files: the clauses of the sizes' rows.
 use mathlib.Core.Path.{sym, ◌∙◌}
 use Rattle.checker.specs.Check.Cases.{protocol_over, property_over, graph_over, sized}
-use borrow.Author.Rules.{rules}
 use Rattle.checker.proofs.checking.check_files.Goals as goal
 
 pub returns-then-protocol-gt-PROTOCOL_LIMIT : goal.returns-then-protocol-gt-PROTOCOL_LIMIT

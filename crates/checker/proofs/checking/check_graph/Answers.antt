@@ -1,6 +1,5 @@
 -- Small tables where the file is short and its count says few nodes; both answers are the graph's.
 use native.Mathlib.Omega.{arith}
-use borrow.Author.Rules.{rules}
 use Rattle.checker.proofs.checking.check_graph.Goals as goal
 
 pub check_small-requires : goal.check_small-requires

@@ -5,7 +5,6 @@ use Rattle.graph.specs.Table.{edge_table}
 use Rattle.graph.specs.Table.Room.{all_fields}
 use Rattle.steps.specs.Table.Laws.{all_rows}
 use native.Mathlib.Omega.{arith}
-use borrow.Author.Rules.{rules}
 use Rattle.checker.proofs.checking.check_large.Goals as goal
 
 pub check_with-requires : goal.check_with-requires

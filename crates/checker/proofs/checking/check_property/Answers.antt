@@ -1,6 +1,5 @@
 -- A property that passes is what check_graph asks; a refusal is handed on.
 use Rattle.checker.specs.Check.Inside.{property_passed, property_under_lem, property_judged, property_turned, property_limits}
-use borrow.Author.Rules.{rules}
 use Rattle.checker.proofs.checking.check_property.Goals as goal
 
 pub check_graph-requires : goal.check_graph-requires

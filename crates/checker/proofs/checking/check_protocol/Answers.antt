@@ -5,7 +5,6 @@ use Rattle.rules.specs.Fit.Laws.{verdict_of}
 use Rattle.rules.specs.Fit.Meaning.Verdicts.{broken_place}
 use Rattle.checker.specs.Files.Verdict.{ruled_malformed, ruled_broken}
 use Rattle.checker.specs.Check.Inside.{its, protocol_judged, protocol_turned}
-use borrow.Author.Rules.{rules}
 use Rattle.checker.proofs.checking.check_protocol.Goals as goal
 
 pub check_property-requires : goal.check_property-requires

@@ -6,7 +6,6 @@ use Prim.Native.Nat.{◌*◌}
 use Rattle.graph.specs.Table.Room.{few_fields_lem}
 use Rattle.steps.specs.Table.Laws.{few_rows}
 use native.Mathlib.Omega.{arith}
-use borrow.Author.Rules.{rules}
 use Rattle.checker.proofs.checking.check_small.Goals as goal
 
 pub check_with-requires : goal.check_with-requires

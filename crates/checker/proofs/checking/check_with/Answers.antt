@@ -1,7 +1,6 @@
 -- A graph that passes has right nodes in their table, so it is judged; a refusal is handed on, its number and item in range.
 use Rattle.checker.specs.Check.Inside.{good_graph, good_posed, graph_judged, graph_turned, graph_limits}
 use native.Mathlib.Omega.{arith}
-use borrow.Author.Rules.{rules}
 use Rattle.checker.proofs.checking.check_with.Goals as goal
 
 pub rule_graph-requires : goal.rule_graph-requires

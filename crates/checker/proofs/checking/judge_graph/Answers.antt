@@ -2,7 +2,6 @@
 use Rattle.checker.specs.Check.Inside.{told}
 use Rattle.graph.specs.Area.{facts_room}
 use mathlib.Core.Path.{sym, ◌∙◌}
-use borrow.Author.Rules.{rules}
 use Rattle.checker.proofs.checking.judge_graph.Goals as goal
 
 pub judge_nodes-verdict-requires : goal.judge_nodes-verdict-requires

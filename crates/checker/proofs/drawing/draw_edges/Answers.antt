@@ -1,7 +1,6 @@
 -- The edges that were chosen are those that are defined, and no choice is refusal 14.
 use native.Mathlib.Omega.{arith}
 use Rattle.checker.specs.Draw.Inside.{drawn_edges, missing_few, drawn_missing}
-use borrow.Author.Rules.{rules}
 use Rattle.checker.proofs.drawing.draw_edges.Goals as goal
 
 pub choose_sources-requires : goal.choose_sources-requires

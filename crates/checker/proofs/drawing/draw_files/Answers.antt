@@ -8,7 +8,6 @@ use Rattle.rules.specs.Fit.Laws.{verdict_of}
 use lib.ListN.{length}
 use mathlib.Core.Path.{ap, sym, ◌∙◌}
 use native.Mathlib.Omega.{arith}
-use borrow.Author.Rules.{rules}
 use Rattle.checker.proofs.drawing.draw_files.Goals as goal
 
 pub returns-then-protocol-gt-PROTOCOL_LIMIT : goal.returns-then-protocol-gt-PROTOCOL_LIMIT

@@ -1,6 +1,5 @@
 -- Each node has eight premises at most, so either table has fields for the edges of its nodes.
 use native.Mathlib.Omega.{arith}
-use borrow.Author.Rules.{rules}
 use Rattle.checker.proofs.drawing.draw_nodes.Goals as goal
 
 pub draw_edges-requires : goal.draw_edges-requires

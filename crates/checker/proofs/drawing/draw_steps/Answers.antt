@@ -4,7 +4,6 @@ use Rattle.steps.specs.Table.{row_length, few_nodes, table_length}
 use Prim.Native.Nat.{◌*◌}
 use Rattle.steps.specs.Table.Laws.{few_rows, all_rows}
 use native.Mathlib.Omega.{arith}
-use borrow.Author.Rules.{rules}
 use Rattle.checker.proofs.drawing.draw_steps.Goals as goal
 
 pub draw_with-requires : goal.draw_with-requires

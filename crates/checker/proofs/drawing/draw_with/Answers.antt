@@ -1,7 +1,6 @@
 -- A list that is ruled good is drawn from its nodes; a refusal of it is the call's.
 use native.Mathlib.Omega.{arith}
 use Rattle.checker.specs.Draw.Inside.{steps_drawable, stopped_small, steps_refused}
-use borrow.Author.Rules.{rules}
 use Rattle.checker.proofs.drawing.draw_with.Goals as goal
 
 pub draw_nodes-requires : goal.draw_nodes-requires

@@ -1,7 +1,6 @@
 -- The need is the length of the steps and the edges behind them; the output is short below it.
 use Rattle.checker.specs.Draw.Inside.{edged_short, edged_room, edged_written}
 use mathlib.Core.Path.{refl}
-use borrow.Author.Rules.{rules}
 use Rattle.checker.proofs.drawing.write_drawn.Goals as goal
 
 pub returns-then-output-need : goal.returns-then-output-need

@@ -1,7 +1,6 @@
 -- Word, three numbers and line feed lie end to end, within the line's room.
 use Rattle.checker.specs.Line.Laws.{put_word, put_then}
 use native.Mathlib.Omega.{arith}
-use borrow.Author.Rules.{rules}
 use Rattle.checker.proofs.line.counted.Goals as goal
 
 pub returns : goal.returns

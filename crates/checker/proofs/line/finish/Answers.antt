@@ -2,7 +2,6 @@
 use Rattle.checker.specs.Line.Laws.{put_one}
 use Rattle.checker.specs.Line.{line_feed}
 use native.Mathlib.Omega.{arith}
-use borrow.Author.Rules.{rules}
 use Rattle.checker.proofs.line.finish.Goals as goal
 
 pub returns : goal.returns

@@ -1,6 +1,5 @@
 -- The three cases of a ruling, each its word and its numbers.
 use Rattle.checker.specs.Line.Laws.{put_line}
-use borrow.Author.Rules.{rules}
 use Rattle.checker.proofs.line.line.Goals as goal
 
 pub returns-in-Attack : goal.returns-in-Attack

@@ -5,7 +5,6 @@ use lib.ListN.{length-set}
 use Rattle.checker.specs.Line.Laws.{decimal_few, put_one, put_then}
 use Rattle.checker.specs.Line.{blank}
 use native.Mathlib.Omega.{arith}
-use borrow.Author.Rules.{rules}
 use Rattle.checker.proofs.line.number.Goals as goal
 
 pub decimal-requires : goal.decimal-requires

@@ -2,7 +2,6 @@
 use Rattle.checker.specs.Line.Laws.{put_word, put_then}
 use Rattle.checker.specs.Line.{refused_word}
 use native.Mathlib.Omega.{arith}
-use borrow.Author.Rules.{rules}
 use Rattle.checker.proofs.line.refused.Goals as goal
 
 pub returns : goal.returns

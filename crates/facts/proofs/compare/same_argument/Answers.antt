@@ -2,7 +2,6 @@
 use Rattle.facts.specs.Calls.Laws.{fact_listed}
 use Rattle.facts.specs.Calls.Bytes.{arguments_test}
 use Rattle.facts.specs.Calls.Meaning.{same_argument_means}
-use borrow.Author.Rules.{rules}
 use Rattle.facts.proofs.compare.same_argument.Goals as goal
 
 pub fact_place-k-requires : goal.fact_place-k-requires

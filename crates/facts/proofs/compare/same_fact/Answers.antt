@@ -2,7 +2,6 @@
 use Rattle.facts.specs.Calls.Meaning.{fact_formed, same_fact_means}
 use Rattle.facts.specs.Calls.Laws.{fact_listed, plains_in}
 use Rattle.facts.specs.Calls.Bytes.{same_by_bytes, same_by_plain}
-use borrow.Author.Rules.{rules}
 use Rattle.facts.proofs.compare.same_fact.Goals as goal
 
 pub fact_place-i-requires : goal.fact_place-i-requires

@@ -1,6 +1,5 @@
 -- The count that stands at the list's place is the number of the rule's facts, and so of the node's.
 use Rattle.facts.specs.Rules.{list_counted}
-use borrow.Author.Rules.{rules}
 use Rattle.facts.proofs.counts.fact_count.Goals as goal
 
 pub returns : goal.returns

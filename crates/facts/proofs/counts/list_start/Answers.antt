@@ -1,7 +1,6 @@
 -- The row's rule number has an entry in the table of list places.
 use native.Mathlib.Omega.{arith}
 use Rattle.steps.specs.Table.Laws.{node_listed}
-use borrow.Author.Rules.{rules}
 use Rattle.facts.proofs.counts.list_start.Goals as goal
 
 pub overflow_mul-number : goal.overflow_mul-number

@@ -1,5 +1,4 @@
 -- The mark of the fact that is kept.
-use borrow.Author.Rules.{rules}
 use Rattle.facts.proofs.marks.fact_mark.Goals as goal
 
 pub returns : goal.returns

@@ -6,7 +6,6 @@ use Rattle.facts.specs.Calls.Meaning.{fact_formed}
 use Rattle.facts.specs.Calls.{fact_at}
 use Rattle.facts.specs.Kept.{written_kept}
 use Rattle.facts.specs.Marks.{fact_marked, symbol_small, put_inside}
-use borrow.Author.Rules.{rules}
 use Rattle.facts.proofs.marks.keep_fact.Goals as goal
 
 pub slice_bounds-mark_bytes-end : goal.slice_bounds-mark_bytes-end

@@ -1,9 +1,6 @@
 -- The invariant is that h is the mark of the first i bytes; it stays below the limit, so no product overflows.
-use borrow.Author.Rules.{rules}
-use lib.ListN.{length}
-use Prim.Native.Nat.{◌-◌, ◌≤◌, ◌<◌}
 use native.Mathlib.Omega.{arith}
-use Rattle.facts.specs.Marks.{mark_limit, Marked, marked_none, marked_more, marked_all, mark_small}
+use Rattle.facts.specs.Marks.{marked_none, marked_more, marked_all, mark_small}
 use Rattle.facts.proofs.marks.mark_bytes.Goals as goal
 
 pub loop-i-init : goal.loop-i-init

@@ -1,9 +1,7 @@
 -- The invariant is that h is the mark of the first i bytes; it stays below the limit, so no product overflows.
-use borrow.Author.Rules.{rules}
 use lib.ListN.{length}
 use Prim.Native.Nat.{◌-◌, ◌≤◌, ◌<◌}
-use native.Mathlib.Omega.{arith}
-use Rattle.facts.specs.Marks.{mark_limit, Marked, marked_none, marked_more, marked_all, mark_small}
+use Rattle.facts.specs.Marks.{mark_limit, Marked}
 use Rattle.facts.proofs.marks.mark_bytes.Given as goal
 
 abbrev pub invariant-loop-i : goal.invariant-loop-i

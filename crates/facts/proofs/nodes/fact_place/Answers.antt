@@ -3,7 +3,6 @@ use Rattle.facts.specs.Rules.{list_known, fact_few, fact_entered}
 use Rattle.steps.specs.Table.Laws.{node_listed}
 use mathlib.Core.Path.{◌∙◌}
 use native.Mathlib.Omega.{arith}
-use borrow.Author.Rules.{rules}
 use Rattle.facts.proofs.nodes.fact_place.Goals as goal
 
 pub overflow_mul-number : goal.overflow_mul-number

@@ -1,6 +1,5 @@
 -- At the place that is found, `write_fact` promises just this.
 use Rattle.facts.specs.Calls.Laws.{fact_listed}
-use borrow.Author.Rules.{rules}
 use Rattle.facts.proofs.nodes.node_fact.Goals as goal
 
 pub fact_place-place-requires : goal.fact_place-place-requires

@@ -4,7 +4,6 @@ use Rattle.steps.specs.Table.{place_count, places_at}
 use Rattle.facts.specs.Rules.{symbol_is}
 use Rattle.facts.specs.Calls.Laws.{wanted_ready, wanted_done}
 use native.Mathlib.Omega.{arith}
-use borrow.Author.Rules.{rules}
 use Rattle.facts.proofs.nodes.write_fact.Goals as goal
 
 pub symbol_of-symbol-requires : goal.symbol_of-symbol-requires

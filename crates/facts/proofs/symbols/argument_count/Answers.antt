@@ -2,7 +2,6 @@
 use mathlib.Core.Path.{◌∙◌}
 use native.Mathlib.Omega.{arith}
 use Rattle.facts.specs.Calls.Laws.{symbol_known, arity_is}
-use borrow.Author.Rules.{rules}
 use Rattle.facts.proofs.symbols.argument_count.Goals as goal
 
 pub arity_of-requires : goal.arity_of-requires

@@ -1,7 +1,6 @@
 -- Filling in values leaves the symbol, so the rule's fact tells it.
 use native.Mathlib.Omega.{arith}
 use Rattle.facts.specs.Rules.{symbol_is}
-use borrow.Author.Rules.{rules}
 use Rattle.facts.proofs.symbols.fact_symbol.Goals as goal
 
 pub symbol_of-requires : goal.symbol_of-requires

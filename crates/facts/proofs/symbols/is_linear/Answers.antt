@@ -1,7 +1,6 @@
 -- The prepared protocol's entry for the symbol is 1 exactly where it is linear.
 use native.Mathlib.Omega.{arith}
 use Rattle.facts.specs.Calls.Laws.{symbol_known, linear_is}
-use borrow.Author.Rules.{rules}
 use Rattle.facts.proofs.symbols.is_linear.Goals as goal
 
 pub overflow_add-result : goal.overflow_add-result

@@ -3,7 +3,6 @@ use mathlib.Core.Path.{sym}
 use native.Mathlib.Omega.{arith}
 use Rattle.prepared.specs.Prepared.Laws.{slots_length}
 use Rattle.facts.specs.Writing.Argument.{argument_ready, argument_done}
-use borrow.Author.Rules.{rules}
 use Rattle.facts.proofs.writing.argument_into.Goals as goal
 
 pub term_at-at-requires : goal.term_at-at-requires

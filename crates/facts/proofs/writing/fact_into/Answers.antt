@@ -3,7 +3,6 @@ use mathlib.Core.Path.{sym}
 use native.Mathlib.Omega.{arith}
 use Rattle.prepared.specs.Prepared.Laws.{slots_length}
 use Rattle.facts.specs.Writing.Whole.{symbol_listed, fact_ready, fact_done}
-use borrow.Author.Rules.{rules}
 use Rattle.facts.proofs.writing.fact_into.Goals as goal
 
 pub symbol_of-y-requires : goal.symbol_of-y-requires

@@ -1,6 +1,5 @@
 -- The three cases of `Wanted`.
 use Rattle.facts.specs.Writing.Whole.{ready_as, done_as}
-use borrow.Author.Rules.{rules}
 use Rattle.facts.proofs.writing.wanted_into.Goals as goal
 
 pub fact_into-requires : goal.fact_into-requires

@@ -1,8 +1,6 @@
 -- The invariant is that no entry between `from` and e has the symbol.
-use borrow.Author.Rules.{rules}
-use Rattle.lists.specs.Scan.{Scanning, scanning_begins, scanning_next, scanning_found, scanning_ends}
+use Rattle.lists.specs.Scan.{scanning_begins, scanning_next, scanning_found, scanning_ends}
 use native.Mathlib.Omega.{arith}
-use Prim.Native.Nat.{◌-◌}
 use mathlib.Core.Path.{sym, ◌∙◌}
 use Rattle.judge.proofs.entries.next_of.Goals as goal
 

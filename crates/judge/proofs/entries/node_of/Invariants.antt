@@ -1,9 +1,6 @@
 -- The invariant is that entry e is not before the node's first; it is the node's where the next one's begin behind it.
-use Rattle.judge.specs.Tables.Entries.{node_inside, node_next, node_found}
 use Rattle.judge.specs.Tables.{Past}
-use borrow.Author.Rules.{rules}
 use lib.ListN.{length}
-use native.Mathlib.Omega.{arith}
 use Prim.Native.Nat.{◌-◌}
 use Rattle.judge.proofs.entries.node_of.Given as goal
 

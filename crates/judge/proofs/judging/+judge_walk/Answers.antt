@@ -4,13 +4,11 @@ use Rattle.judge.specs.Judging.Returns.{fits_inside, says_false, says_atom, fits
 use Rattle.judge.specs.Judging.Walking.{Walking, walking_begins, walking_behind, walking_ends, walking_miss, walking_match}
 use Rattle.judge.specs.Tables.{total}
 use Rattle.lists.specs.Scan.{Next}
-use lib.ListN.{length}
 use native.Mathlib.Omega.{arith}
-use Prim.Native.Nat.{ℕ, ◌<◌, ◌+◌, ◌-◌, ◌*◌}
-use mathlib.Core.Logic.{⊎_elim}
+use Prim.Native.Nat.{ℕ, ◌+◌}
 use mathlib.Core.Bool.{Bool}
 use mathlib.Core.Path.{refl, sym, subst, subst₂, ◌∙◌}
-use Prim.Native.Nat.{ℕ, ◌<◌}
+use Prim.Native.Nat.{ℕ}
 use Rattle.judge.proofs.judging.+judge_walk.Goals as goal
 use Rattle.judge.proofs.judging.+judge_walk.Goals.{walk-then-m, walk-else-m}
 

@@ -1,16 +1,7 @@
 -- Together, the formula left falling: judge has a case for each tag; walk's invariant is that `truth` folds the matches among the entries before e.
-use Rattle.judge.specs.Judging.Returns.{body_formed, body_fits, body_ends}
-use Rattle.judge.specs.Judging.Returns.{fits_inside, says_false, says_atom, fits_left, fits_right, says_pair, fits_body, says_quant}
-use Rattle.judge.specs.Judging.Walking.{Walking, walking_begins, walking_behind, walking_ends, walking_miss, walking_match}
-use Rattle.judge.specs.Tables.{total}
-use Rattle.lists.specs.Scan.{Next}
+use Rattle.judge.specs.Judging.Walking.{Walking}
 use lib.ListN.{length}
-use native.Mathlib.Omega.{arith}
-use Prim.Native.Nat.{ℕ, ◌<◌, ◌+◌, ◌-◌, ◌*◌}
-use mathlib.Core.Logic.{⊎_elim}
-use mathlib.Core.Bool.{Bool}
-use mathlib.Core.Path.{refl, sym, subst, subst₂, ◌∙◌}
-use Prim.Native.Nat.{ℕ, ◌<◌}
+use Prim.Native.Nat.{◌+◌, ◌-◌, ◌*◌}
 use Rattle.judge.proofs.judging.+judge_walk.Given as goal
 
 abbrev pub decreases-judge : goal.decreases-judge

@@ -1,7 +1,6 @@
 -- The ranges of the tag are those of `atom_at`; each call says that atom's truth.
 use Rattle.judge.specs.Judging.Atoms.{as_equal, as_times, as_action, said_action}
 use Rattle.judge.specs.Judging.{traced}
-use borrow.Author.Rules.{rules}
 use Rattle.judge.proofs.judging.atom.Goals as goal
 
 pub returns-then-tag-lt-BEFORE : goal.returns-then-tag-lt-BEFORE

@@ -2,7 +2,6 @@
 use Rattle.judge.specs.Judging.Atoms.{said_equal}
 use Rattle.judge.specs.Reading.Parts.{code_fits}
 use native.Mathlib.Omega.{arith}
-use borrow.Author.Rules.{rules}
 use Rattle.judge.proofs.judging.equal.Goals as goal
 
 pub overflow_cast-t : goal.overflow_cast-t

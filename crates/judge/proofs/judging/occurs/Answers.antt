@@ -1,9 +1,8 @@
 -- The invariant is that `found` tells of the entries before e; entries of another symbol cannot be the fact.
-use Rattle.judge.specs.Judging.Walking.{Occurring, occurring_begins, occurring_next, occurring_ends}
-use Rattle.judge.specs.Tables.{total}
+use Rattle.judge.specs.Judging.Walking.{occurring_begins, occurring_next, occurring_ends}
 use Rattle.lists.specs.Scan.{Next}
 use native.Mathlib.Omega.{arith}
-use Prim.Native.Nat.{ℕ, ◌+◌, ◌-◌}
+use Prim.Native.Nat.{ℕ, ◌+◌}
 use mathlib.Core.Path.{subst}
 use Rattle.judge.proofs.judging.occurs.Goals as goal
 

@@ -1,10 +1,6 @@
 -- The invariant is that `found` tells of the entries before e; entries of another symbol cannot be the fact.
-use Rattle.judge.specs.Judging.Walking.{Occurring, occurring_begins, occurring_next, occurring_ends}
-use Rattle.judge.specs.Tables.{total}
-use Rattle.lists.specs.Scan.{Next}
-use native.Mathlib.Omega.{arith}
-use Prim.Native.Nat.{ℕ, ◌+◌, ◌-◌}
-use mathlib.Core.Path.{subst}
+use Rattle.judge.specs.Judging.Walking.{Occurring}
+use Prim.Native.Nat.{◌-◌}
 use Rattle.judge.proofs.judging.occurs.Given as goal
 
 abbrev pub invariant-loop-e : goal.invariant-loop-e

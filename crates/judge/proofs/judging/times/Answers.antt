@@ -1,6 +1,5 @@
 -- Both variables are bound to node numbers, so their order or equality is the atom's.
 use Rattle.judge.specs.Judging.Atoms.{said_times}
-use borrow.Author.Rules.{rules}
 use Rattle.judge.proofs.judging.times.Goals as goal
 
 pub returns : goal.returns

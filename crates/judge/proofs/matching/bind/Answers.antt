@@ -4,9 +4,9 @@ use Rattle.judge.specs.Bindings.{finish, put}
 use borrow.Author.Rules.{rules}
 use lib.ListN.{get_or, length}
 use native.Mathlib.Omega.{arith}
-use Prim.Native.Nat.{ℕ, ◌+◌, ◌-◌, ◌≤◌, ◌<◌}
+use Prim.Native.Nat.{ℕ, ◌+◌, ◌-◌, ◌<◌}
 use mathlib.Core.List.{List}
-use mathlib.Core.Path.{◌≡◌, refl, sym, ap, ◌∙◌}
+use mathlib.Core.Path.{refl, sym, ap, ◌∙◌}
 use Rattle.judge.proofs.matching.bind.Goals as goal
 
 pub loop-j-init : goal.loop-j-init

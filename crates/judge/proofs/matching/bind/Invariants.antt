@@ -1,12 +1,8 @@
 -- The invariant is that binding the terms below j to what is bound so far gives what binding all gives; each turn binds the last.
-use Rattle.judge.specs.Bindings.Slots.{finish_step, finish_none, put_new, put_old, new_inside}
-use Rattle.judge.specs.Bindings.{finish, put}
-use borrow.Author.Rules.{rules}
-use lib.ListN.{get_or, length}
-use native.Mathlib.Omega.{arith}
-use Prim.Native.Nat.{ℕ, ◌+◌, ◌-◌, ◌≤◌, ◌<◌}
-use mathlib.Core.List.{List}
-use mathlib.Core.Path.{◌≡◌, refl, sym, ap, ◌∙◌}
+use Rattle.judge.specs.Bindings.{finish}
+use lib.ListN.{get_or}
+use Prim.Native.Nat.{◌+◌, ◌≤◌}
+use mathlib.Core.Path.{◌≡◌}
 use Rattle.judge.proofs.matching.bind.Given as goal
 
 abbrev pub invariant-loop-j : goal.invariant-loop-j

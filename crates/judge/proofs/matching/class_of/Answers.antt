@@ -5,7 +5,6 @@ use lib.ListN.{get_or}
 use native.Mathlib.Omega.{arith}
 use Prim.Native.Nat.{ℕ, ◌+◌, ◌-◌}
 use mathlib.Core.Path.{ap, ap₂, ◌∙◌}
-use borrow.Author.Rules.{rules}
 use Rattle.judge.proofs.matching.class_of.Goals as goal
 
 pub returns-then-t-lt-SCOPE : goal.returns-then-t-lt-SCOPE

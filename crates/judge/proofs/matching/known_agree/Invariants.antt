@@ -1,13 +1,10 @@
 -- The invariant is that `same` tells of those of the first j terms that are no new variables.
-use Rattle.judge.specs.Bindings.Tests.{all_step}
 use Rattle.judge.specs.Bindings.{all_up, value, is_new}
-use borrow.Author.Rules.{rules}
 use lib.Dec.{eqb}
-use lib.ListN.{get_or, length}
-use native.Mathlib.Omega.{arith}
-use Prim.Native.Nat.{◌+◌, ◌-◌, ◌≤◌, ◌<◌}
-use mathlib.Core.Bool.{◌&&◌, ◌||◌}
-use mathlib.Core.Path.{◌≡◌, refl, ap, ap₂, ◌∙◌}
+use lib.ListN.{get_or}
+use Prim.Native.Nat.{◌+◌, ◌-◌, ◌≤◌}
+use mathlib.Core.Bool.{◌||◌}
+use mathlib.Core.Path.{◌≡◌}
 use Rattle.judge.proofs.matching.known_agree.Given as goal
 
 abbrev pub invariant-loop-j : goal.invariant-loop-j

@@ -1,9 +1,5 @@
 -- Where what is known differs nothing matches; else the new variables are bound, and agreement under these values decides.
 use Rattle.judge.specs.Judging.Guards.{matching_known, matching_made}
-use Rattle.lists.specs.Tests.{not_split}
-use lib.ListN.{length-map}
-use mathlib.Core.Path.{sym, ◌∙◌}
-use borrow.Author.Rules.{rules}
 use Rattle.judge.proofs.matching.match_guard.Goals as goal
 
 pub returns-then-not-timed-same : goal.returns-then-not-timed-same

@@ -1,6 +1,5 @@
 -- The invariant is that i lies behind the first j sorts, where they read.
-use Rattle.judge.specs.Reading.Lists.{Sorting, sorting_begins, sorting_next, sorting_ends}
-use Prim.Native.Nat.{◌-◌}
+use Rattle.judge.specs.Reading.Lists.{sorting_begins, sorting_next, sorting_ends}
 use native.Mathlib.Omega.{arith}
 use Rattle.judge.proofs.reading.pass_sorts.Goals as goal
 

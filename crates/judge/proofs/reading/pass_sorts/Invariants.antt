@@ -1,7 +1,6 @@
 -- The invariant is that i lies behind the first j sorts, where they read.
-use Rattle.judge.specs.Reading.Lists.{Sorting, sorting_begins, sorting_next, sorting_ends}
+use Rattle.judge.specs.Reading.Lists.{Sorting}
 use Prim.Native.Nat.{◌-◌}
-use native.Mathlib.Omega.{arith}
 use Rattle.judge.proofs.reading.pass_sorts.Given as goal
 
 abbrev pub invariant-loop-j : goal.invariant-loop-j

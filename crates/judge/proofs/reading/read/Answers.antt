@@ -2,7 +2,6 @@
 use Rattle.judge.specs.Reading.Parts.{number_is, number_none}
 use Rattle.number.specs.Reading.{as_read}
 use mathlib.Core.Path.{refl, sym, ap, ◌∙◌}
-use borrow.Author.Rules.{rules}
 use Rattle.judge.proofs.reading.read.Goals as goal
 
 pub returns-in-Value : goal.returns-in-Value

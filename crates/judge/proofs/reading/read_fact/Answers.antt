@@ -4,7 +4,6 @@ use Rattle.judge.specs.Reading.{FactIs, TermsAre}
 use native.Mathlib.Omega.{arith}
 use Prim.Native.Nat.{ℕ}
 use mathlib.Core.Path.{sym, subst}
-use borrow.Author.Rules.{rules}
 use Rattle.judge.proofs.reading.read_fact.Goals as goal
 
 pub terms-ts-requires : goal.terms-ts-requires

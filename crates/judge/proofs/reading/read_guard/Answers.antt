@@ -1,7 +1,6 @@
 -- Count, sorts, fact and time one behind the other: whatever head reads there, these are its parts.
 use Rattle.judge.specs.Reading.Parts.{tells_guard}
 use mathlib.Core.Path.{refl}
-use borrow.Author.Rules.{rules}
 use Rattle.judge.proofs.reading.read_guard.Goals as goal
 
 pub returns : goal.returns

@@ -9,7 +9,6 @@ use native.Mathlib.Omega.{arith}
 use Prim.Native.Nat.{◌+◌}
 use mathlib.Core.Bool.{Bool}
 use mathlib.Core.Path.{subst}
-use borrow.Author.Rules.{rules}
 use Rattle.judge.proofs.reading.term.Goals as goal
 
 pub returns-then-tag-eq-VARIABLE : goal.returns-then-tag-eq-VARIABLE

@@ -1,8 +1,8 @@
 -- The invariant is that the first j codes are those of the terms read up to i; each turn adds one.
 use Rattle.judge.specs.Reading.Parts.{code_fits}
-use Rattle.judge.specs.Reading.Lists.{Coding, coding_begins, coding_next, coding_ends}
+use Rattle.judge.specs.Reading.Lists.{coding_begins, coding_next, coding_ends}
 use lib.ListN.{length-replicate}
-use Prim.Native.Nat.{ℕ, ◌-◌}
+use Prim.Native.Nat.{ℕ}
 use native.Mathlib.Omega.{arith}
 use Rattle.judge.proofs.reading.terms.Goals as goal
 

@@ -1,6 +1,5 @@
 -- The ranges of the tag tell which two parts, or which fact, are passed over.
 use Rattle.judge.specs.Judging.Atoms.{ends_equal, ends_times, ends_action}
-use borrow.Author.Rules.{rules}
 use Rattle.judge.proofs.skipping.skip_atom.Goals as goal
 
 pub returns-then-tag-lt-BEFORE : goal.returns-then-tag-lt-BEFORE

@@ -3,7 +3,6 @@ use Rattle.prepared.specs.Filling.Numbers.{written_few, place_small, as_written,
 use lib.Seq.{length-take-le}
 use mathlib.Core.Path.{sym}
 use native.Mathlib.Omega.{arith}
-use borrow.Author.Rules.{rules}
 use Rattle.prepared.proofs.filling.enter_rule.Goals as goal
 
 pub slice_bounds-own-end : goal.slice_bounds-own-end

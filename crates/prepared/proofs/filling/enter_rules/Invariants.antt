@@ -1,12 +1,9 @@
 -- The invariant is that the first n rows are entered and what lies before the places is as it was; each turn adds a row.
-use borrow.Author.Rules.{rules}
-use Rattle.prepared.specs.Filling.Numbers.{rows_none, rows_more, rows_end}
 use Rattle.prepared.specs.Filling.{Source, Rows}
 use Rattle.prepared.specs.Sections.{rule_count}
 use lib.ListN.{length}
-use native.Mathlib.Omega.{arith}
 use Prim.Native.Nat.{◌-◌, ◌≤◌}
-use mathlib.Core.Path.{◌≡◌, refl}
+use mathlib.Core.Path.{◌≡◌}
 use Rattle.prepared.proofs.filling.enter_rules.Given as goal
 
 abbrev pub invariant-loop-n : goal.invariant-loop-n

@@ -1,7 +1,6 @@
 -- Five writes to sections that lie apart; one theorem over all of them says what stands there at the end.
 use Rattle.prepared.specs.Filling.Whole.{laid_slots, laid_symbols, laid_flags, laid_file, body_laid}
 use native.Mathlib.Omega.{arith}
-use borrow.Author.Rules.{rules}
 use Rattle.prepared.proofs.filling.lay.Goals as goal
 
 pub copy_into-requires : goal.copy_into-requires

@@ -5,11 +5,11 @@ use Rattle.prepared.specs.Prepared.{linear}
 use Rattle.octets.specs.Splice.Laws.{splice_nil}
 use Rattle.octets.specs.Splice.{splice}
 use lib.Seq.{take_all}
-use lib.ListN.{length, take, length-set}
+use lib.ListN.{length-set}
 use native.Mathlib.Omega.{arith}
-use Prim.Native.Nat.{ℕ, ◌-◌, ◌≤◌}
+use Prim.Native.Nat.{ℕ}
 use mathlib.Core.List.{List, map}
-use mathlib.Core.Path.{◌≡◌, ap, sym, ◌∙◌}
+use mathlib.Core.Path.{ap, sym, ◌∙◌}
 use Rattle.prepared.proofs.filling.linears_into.Goals as goal
 
 pub loop-i-init : goal.loop-i-init

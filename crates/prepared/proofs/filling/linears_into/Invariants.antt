@@ -1,15 +1,10 @@
 -- The invariant is that the first i flags are turned and spliced in; each turn adds one.
-use borrow.Author.Rules.{rules}
-use Rattle.prepared.specs.Filling.Lists.{linear_more}
 use Rattle.prepared.specs.Prepared.{linear}
-use Rattle.octets.specs.Splice.Laws.{splice_nil}
 use Rattle.octets.specs.Splice.{splice}
-use lib.Seq.{take_all}
-use lib.ListN.{length, take, length-set}
-use native.Mathlib.Omega.{arith}
-use Prim.Native.Nat.{ℕ, ◌-◌, ◌≤◌}
-use mathlib.Core.List.{List, map}
-use mathlib.Core.Path.{◌≡◌, ap, sym, ◌∙◌}
+use lib.ListN.{length, take}
+use Prim.Native.Nat.{◌-◌, ◌≤◌}
+use mathlib.Core.List.{map}
+use mathlib.Core.Path.{◌≡◌}
 use Rattle.prepared.proofs.filling.linears_into.Given as goal
 
 abbrev pub invariant-loop-i : goal.invariant-loop-i

@@ -4,7 +4,6 @@ use Rattle.rules.specs.Fit.Laws.{verdict_of}
 use lib.ListN.{length-take}
 use native.Mathlib.Omega.{arith}
 use mathlib.Core.Path.{ap, sym, ◌∙◌}
-use borrow.Author.Rules.{rules}
 use Rattle.prepared.proofs.filling.prepare_body.Goals as goal
 
 pub slice_bounds-ars-end : goal.slice_bounds-ars-end

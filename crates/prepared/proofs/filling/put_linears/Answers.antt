@@ -9,7 +9,6 @@ use Prim.Native.Nat.{ℕ}
 use native.Mathlib.Omega.{arith}
 use mathlib.Core.List.{List}
 use mathlib.Core.Path.{ap, ◌∙◌}
-use borrow.Author.Rules.{rules}
 use Rattle.prepared.proofs.filling.put_linears.Goals as goal
 
 pub slice_bounds-put_padded-end : goal.slice_bounds-put_padded-end

@@ -2,7 +2,6 @@
 use Rattle.prepared.specs.Filling.Lists.{splice_padded}
 use Rattle.octets.specs.Splice.{splice}
 use mathlib.Core.Path.{ap, ◌∙◌}
-use borrow.Author.Rules.{rules}
 use Rattle.prepared.proofs.filling.put_padded.Goals as goal
 
 pub returns : goal.returns

@@ -8,7 +8,6 @@ use Rattle.rules.specs.Numbered.Slots.{slot_few}
 use Rattle.rules.specs.Numbered.{rule_room}
 use Rattle.prepared.specs.Sections.{written_at, rules_at}
 use Rattle.prepared.specs.Filling.{placed}
-use borrow.Author.Rules.{rules}
 use Rattle.prepared.proofs.filling.put_rule.Goals as goal
 
 pub slot_of-requires : goal.slot_of-requires

@@ -3,7 +3,6 @@ use Rattle.prepared.specs.Prepared.Laws.{part_at}
 use Rattle.prepared.specs.Sections.{arities_at}
 use Rattle.protocol.specs.Figures.{symbol_count}
 use mathlib.Core.Path.{sym, ◌∙◌}
-use borrow.Author.Rules.{rules}
 use Rattle.prepared.proofs.finding.arity_of.Goals as goal
 
 pub returns : goal.returns

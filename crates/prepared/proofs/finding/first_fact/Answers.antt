@@ -2,7 +2,6 @@
 use mathlib.Core.Path.{◌∙◌}
 use Rattle.prepared.specs.Prepared.{slots_of, arities_of}
 use Rattle.protocol.specs.Places.Ends.{fact_first}
-use borrow.Author.Rules.{rules}
 use Rattle.prepared.proofs.finding.first_fact.Goals as goal
 
 pub returns : goal.returns

@@ -1,7 +1,6 @@
 -- The two tables are parts of the slice; with these the call's promise is the one here.
 use Rattle.prepared.specs.Prepared.Laws.{slots_length}
 use mathlib.Core.Path.{sym}
-use borrow.Author.Rules.{rules}
 use Rattle.prepared.proofs.finding.list_at.Goals as goal
 
 pub slice_bounds-list_at-end : goal.slice_bounds-list_at-end

@@ -1,7 +1,6 @@
 -- A number past the last, an entry of 0, any other entry: the three cases of what `Body` says of the places.
 use Rattle.prepared.specs.Finding.{rule_past, found_none, found_some}
 use native.Mathlib.Omega.{arith}
-use borrow.Author.Rules.{rules}
 use Rattle.prepared.proofs.finding.rule_place.Goals as goal
 
 pub returns-then-number-ge-RULE_COUNT : goal.returns-then-number-ge-RULE_COUNT

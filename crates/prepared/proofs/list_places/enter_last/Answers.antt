@@ -9,7 +9,6 @@ use Rattle.prepared.specs.Sections.{body_length}
 use Rattle.prepared.specs.Prepared.{fact_place_in}
 use Rattle.prepared.specs.Lists.Entries.{list_small_lem, count_few, first_facts, first_body, last_small, list_empty, list_last}
 use Rattle.prepared.specs.Lists.{FirstFacts}
-use borrow.Author.Rules.{rules}
 use Rattle.prepared.proofs.list_places.enter_last.Goals as goal
 
 pub slice_bounds-count_of-end-2 : goal.slice_bounds-count_of-end-2

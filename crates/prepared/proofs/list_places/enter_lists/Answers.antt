@@ -10,7 +10,6 @@ use Rattle.prepared.specs.Sections.{body_length}
 use Rattle.prepared.specs.Prepared.Longer.{front_bytes}
 use Rattle.prepared.specs.Prepared.{body_of, prepared_facts}
 use Rattle.prepared.specs.Lists.Numbers.{premises_of, actions_of_lem, conclusions_of, list_asked, lists_more}
-use borrow.Author.Rules.{rules}
 use Rattle.prepared.proofs.list_places.enter_lists.Goals as goal
 
 pub slice_bounds-list_at-end-2 : goal.slice_bounds-list_at-end-2

@@ -5,7 +5,6 @@ use mathlib.Core.Path.{sym}
 use Rattle.prepared.specs.Sections.{body_length}
 use Rattle.prepared.specs.Prepared.{body_of}
 use Rattle.prepared.specs.Lists.Numbers.{lists_of, none_found, lists_none}
-use borrow.Author.Rules.{rules}
 use Rattle.prepared.proofs.list_places.enter_number.Goals as goal
 
 pub slice_bounds-rule_place-end-2 : goal.slice_bounds-rule_place-end-2

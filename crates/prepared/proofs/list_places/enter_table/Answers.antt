@@ -1,14 +1,12 @@
 -- The invariant is that the entries of the first n rules are right and the body stays; each turn enters a number.
-use borrow.Author.Rules.{rules}
 use Rattle.prepared.specs.Lists.{Listing}
-use Rattle.prepared.specs.Prepared.{Body, body_of}
-use Rattle.prepared.specs.Sections.{rule_count, prepared_length}
+use Rattle.prepared.specs.Prepared.{Body}
+use Rattle.prepared.specs.Sections.{rule_count}
 use Rattle.lists.specs.Asks.{Asks}
-use Prim.Native.Nat.{ℕ, ◌-◌, ◌≤◌, ◌*◌}
+use Prim.Native.Nat.{ℕ, ◌*◌}
 use mathlib.Core.List.{List}
 use mathlib.Core.Path.{◌≡◌, refl, sym, ◌∙◌, subst}
 use native.Mathlib.Omega.{arith}
-use lib.ListN.{length}
 use Rattle.prepared.proofs.list_places.enter_table.Goals as goal
 
 pub loop-n-init : goal.loop-n-init

@@ -6,7 +6,6 @@ use Rattle.rules.specs.Fit.Laws.{verdict_of}
 use Rattle.prepared.specs.Sections.{body_length}
 use Rattle.prepared.specs.Filling.{BodyAs}
 use Rattle.prepared.specs.Lists.Whole.{joined_long, joined_as, joined_ready, all_prepared}
-use borrow.Author.Rules.{rules}
 use Rattle.prepared.proofs.list_places.prepare.Goals as goal
 
 pub slice_bounds-prepare_body-end-2 : goal.slice_bounds-prepare_body-end-2

@@ -1,7 +1,6 @@
 -- Past the table the default of `get_or` is the value of an undeclared symbol; inside of it the slot is read.
 use Rattle.property.specs.Walk.Facts.{arity_out, arity_in}
 use mathlib.Core.Path.{refl}
-use borrow.Author.Rules.{rules}
 use Rattle.property.proofs.facts.arity_of.Goals as goal
 
 pub returns-then-arities-symbol : goal.returns-then-arities-symbol

@@ -2,7 +2,6 @@
 use Rattle.property.specs.Walk.Facts.{from_undeclared, from_end, from_fault}
 use Rattle.property.specs.Walk.{scope_of}
 use mathlib.Core.Path.{sym, ◌∙◌}
-use borrow.Author.Rules.{rules}
 use Rattle.property.proofs.facts.guard_terms.Goals as goal
 
 pub returns-then-count : goal.returns-then-count

@@ -3,7 +3,6 @@ use Rattle.property.specs.Walk.Facts.{timed_end, timed_none}
 use Rattle.property.specs.Walk.{scope_of}
 use Rattle.number.specs.Reading.{as_read, read_number}
 use mathlib.Core.Path.{ap, sym, ◌∙◌}
-use borrow.Author.Rules.{rules}
 use Rattle.property.proofs.facts.guard_time.Goals as goal
 
 pub returns-in-Value : goal.returns-in-Value

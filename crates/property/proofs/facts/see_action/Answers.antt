@@ -2,7 +2,6 @@
 use Rattle.property.specs.Walk.Facts.{action_end, action_none}
 use Rattle.property.specs.Walk.{scope_of}
 use mathlib.Core.Path.{sym, ◌∙◌}
-use borrow.Author.Rules.{rules}
 use Rattle.property.proofs.facts.see_action.Goals as goal
 
 pub returns-in-At : goal.returns-in-At

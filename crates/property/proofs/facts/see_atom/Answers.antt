@@ -1,7 +1,6 @@
 -- The ranges of the tag are those of `atom_at`: equal, times, action.
 use Rattle.property.specs.Walk.Facts.{atom_equal, atom_times, atom_action}
 use Rattle.property.specs.Walk.{scope_of}
-use borrow.Author.Rules.{rules}
 use Rattle.property.proofs.facts.see_atom.Goals as goal
 
 pub returns-then-tag-lt-BEFORE : goal.returns-then-tag-lt-BEFORE

@@ -5,7 +5,6 @@ use Rattle.property.specs.Formula.{tmp}
 use Rattle.number.specs.declared.Seen.TheVariants.{End}
 use Rattle.number.specs.Reading.{as_read, seen}
 use mathlib.Core.Path.{ap, sym, ◌∙◌}
-use borrow.Author.Rules.{rules}
 use Rattle.property.proofs.facts.see_time.Goals as goal
 
 pub returns-in-Value : goal.returns-in-Value

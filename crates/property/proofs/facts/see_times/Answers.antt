@@ -3,7 +3,6 @@ use Rattle.property.specs.Walk.Facts.{times_end, times_none}
 use Rattle.property.specs.Walk.{scope_of}
 use mathlib.Core.List.{[]}
 use mathlib.Core.Path.{sym, ◌∙◌}
-use borrow.Author.Rules.{rules}
 use Rattle.property.proofs.facts.see_times.Goals as goal
 
 pub returns-in-End : goal.returns-in-End

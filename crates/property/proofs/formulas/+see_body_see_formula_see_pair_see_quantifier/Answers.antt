@@ -1,14 +1,11 @@
 -- Together, by recursion over the levels left: each clause of `formula_at` and `fit` is the answer of the call for that tag.
-use borrow.Author.Rules.{rules}
 use Rattle.property.specs.Walk.Formulas.{pair_end, pair_fault, quant_room, quant_end, quant_fault, body_false}
 use Rattle.property.specs.Walk.Formulas.{body_atom, body_pair, body_quant, level_none, level_tag, level_fault}
 use Rattle.property.specs.Walk.{scope_of, HeadIs}
 use Rattle.property.specs.Layout.{scoped_at, formula_at}
 use Rattle.number.specs.Reading.{as_read}
-use Prim.Native.Nat.{ℕ, ◌+◌, ◌*◌, ◌<◌}
 use native.Mathlib.Omega.{arith}
 use mathlib.Core.Path.{ap, sym, ◌∙◌, subst}
-use Prim.Native.Nat.{ℕ, ◌<◌}
 use Rattle.property.proofs.formulas.+see_body_see_formula_see_pair_see_quantifier.Goals as goal
 
 pub see_body-returns-then-tag-eq-FALSE : goal.see_body-returns-then-tag-eq-FALSE

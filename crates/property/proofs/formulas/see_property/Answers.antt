@@ -1,7 +1,6 @@
 -- The formula ends where the file does, or bytes are left over, or it does not read.
 use Rattle.property.specs.Walk.Formulas.{property_end, property_left, property_none}
 use mathlib.Core.Path.{sym, ◌∙◌}
-use borrow.Author.Rules.{rules}
 use Rattle.property.proofs.formulas.see_property.Goals as goal
 
 pub returns-then-e-f : goal.returns-then-e-f

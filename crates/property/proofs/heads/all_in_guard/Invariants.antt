@@ -1,11 +1,9 @@
 -- The invariant is that `ok` tells of the first j new variables; each turn joins one.
-use borrow.Author.Rules.{rules}
-use Rattle.property.specs.Walk.Heads.{Guarding, guarding_begins, guarding_next, guarding_ends}
+use Rattle.property.specs.Walk.Heads.{Guarding}
 use Rattle.property.specs.Layout.{term_at}
 use Rattle.property.specs.Formula.{Term}
 use Rattle.number.specs.Reading.{got, many}
 use Prim.Native.Nat.{ℕ, ◌-◌, ◌≤◌}
-use native.Mathlib.Omega.{arith}
 use mathlib.Core.List.{List}
 use mathlib.Core.Path.{◌≡◌}
 use Rattle.property.proofs.heads.all_in_guard.Given as goal

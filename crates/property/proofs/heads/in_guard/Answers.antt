@@ -1,6 +1,5 @@
 -- The sort that stands at x decides which of the two tests `in_guard` is.
 use Rattle.property.specs.Walk.Heads.{in_message, in_time}
-use borrow.Author.Rules.{rules}
 use Rattle.property.proofs.heads.in_guard.Goals as goal
 
 pub returns-then-wide-eq-MESSAGE_SORT : goal.returns-then-wide-eq-MESSAGE_SORT

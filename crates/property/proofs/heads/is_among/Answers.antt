@@ -4,7 +4,6 @@ use Rattle.property.specs.Layout.{term_at}
 use Rattle.property.specs.Fit.{is_var}
 use Rattle.number.specs.Reading.{many}
 use mathlib.Core.Path.{sym, ◌∙◌}
-use borrow.Author.Rules.{rules}
 use Rattle.property.proofs.heads.is_among.Goals as goal
 
 pub returns-in-End : goal.returns-in-End

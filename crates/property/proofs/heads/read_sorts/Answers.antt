@@ -1,9 +1,9 @@
 -- The invariant is that j sorts are read up to i and stand behind those in scope, which stay; each turn adds one.
 use borrow.Author.Rules.{rules}
-use Rattle.property.specs.Walk.Heads.{Sorting, sorting_begins, sorting_next, sorting_ends, sorting_stops}
+use Rattle.property.specs.Walk.Heads.{sorting_begins, sorting_next, sorting_ends, sorting_stops}
 use Rattle.property.specs.Walk.{SortIs}
 use lib.ListN.{length}
-use Prim.Native.Nat.{◌+◌, ◌-◌, ◌≤◌, ◌<◌}
+use Prim.Native.Nat.{◌+◌, ◌<◌}
 use native.Mathlib.Omega.{arith}
 use mathlib.Core.Path.{◌≡◌, subst}
 use Rattle.property.proofs.heads.read_sorts.Goals as goal

@@ -2,7 +2,6 @@
 use Rattle.property.specs.Walk.Heads.{scoped_by, scoped_many, scoped_fault}
 use Rattle.number.specs.Reading.{as_read}
 use mathlib.Core.Path.{ap, sym, ◌∙◌}
-use borrow.Author.Rules.{rules}
 use Rattle.property.proofs.heads.see_head.Goals as goal
 
 pub returns-then-n-k-gt-MOST_SCOPE : goal.returns-then-n-k-gt-MOST_SCOPE

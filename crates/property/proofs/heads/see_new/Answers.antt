@@ -1,7 +1,6 @@
 -- The guard in the scope with the new variables, and each of these in it; a fault of the guard is the head's.
 use Rattle.property.specs.Walk.Heads.{new_end, new_none}
 use mathlib.Core.Path.{refl, sym, ◌∙◌}
-use borrow.Author.Rules.{rules}
 use Rattle.property.proofs.heads.see_new.Goals as goal
 
 pub returns-in-At : goal.returns-in-At

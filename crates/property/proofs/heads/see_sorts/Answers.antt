@@ -2,7 +2,6 @@
 use Rattle.property.specs.Walk.Heads.{sorts_by, sorts_none}
 use Rattle.property.specs.Walk.{SortsAre}
 use mathlib.Core.Path.{subst}
-use borrow.Author.Rules.{rules}
 use Rattle.property.proofs.heads.see_sorts.Goals as goal
 
 pub returns-in-At : goal.returns-in-At

@@ -3,7 +3,6 @@ use Rattle.property.specs.Causes.Code.{body_tabled, ruled_good, ruled_unfit, rul
 use Rattle.property.specs.Layout.{property}
 use Rattle.protocol.specs.Protocol.{fact_arities}
 use mathlib.Core.Path.{sym, ◌∙◌}
-use borrow.Author.Rules.{rules}
 use Rattle.property.proofs.ruling.rule_property.Goals as goal
 
 pub see_property-requires : goal.see_property-requires

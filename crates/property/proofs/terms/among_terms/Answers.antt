@@ -2,11 +2,10 @@
 use borrow.Author.Rules.{rules}
 use Rattle.property.specs.Layout.{term_at}
 use Rattle.property.specs.Fit.{is_var}
-use Rattle.number.specs.declared.Seen.TheVariants.{End}
 use Rattle.number.specs.Reading.Many.{walk_none, walk_more, walk_stop}
 use Rattle.number.specs.Reading.{many, seen}
 use Rattle.lists.specs.Lists.{any_by}
-use Prim.Native.Nat.{ℕ, ◌-◌, ◌≤◌}
+use Prim.Native.Nat.{ℕ}
 use native.Mathlib.Omega.{arith}
 use mathlib.Core.Path.{◌≡◌, ap, sym, ◌∙◌}
 use Rattle.property.proofs.terms.among_terms.Goals as goal

@@ -1,14 +1,11 @@
 -- The invariant is that the first j terms were seen to end at i with this answer; each turn sees one more.
-use borrow.Author.Rules.{rules}
 use Rattle.property.specs.Layout.{term_at}
 use Rattle.property.specs.Fit.{is_var}
 use Rattle.number.specs.declared.Seen.TheVariants.{End}
-use Rattle.number.specs.Reading.Many.{walk_none, walk_more, walk_stop}
 use Rattle.number.specs.Reading.{many, seen}
 use Rattle.lists.specs.Lists.{any_by}
-use Prim.Native.Nat.{ℕ, ◌-◌, ◌≤◌}
-use native.Mathlib.Omega.{arith}
-use mathlib.Core.Path.{◌≡◌, ap, sym, ◌∙◌}
+use Prim.Native.Nat.{◌-◌, ◌≤◌}
+use mathlib.Core.Path.{◌≡◌}
 use Rattle.property.proofs.terms.among_terms.Given as goal
 
 abbrev pub invariant-loop-j : goal.invariant-loop-j

@@ -6,7 +6,6 @@ use Rattle.property.specs.Fit.{term_fits}
 use Rattle.number.specs.declared.Seen.TheVariants.{End}
 use mathlib.Core.Bool.{true}
 use mathlib.Core.Path.{refl, ap, sym, ◌∙◌}
-use borrow.Author.Rules.{rules}
 use Rattle.property.proofs.terms.fit_term.Goals as goal
 
 pub returns-in-Variable : goal.returns-in-Variable

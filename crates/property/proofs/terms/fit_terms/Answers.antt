@@ -4,10 +4,9 @@ use Rattle.property.specs.Walk.Chain.{each_none, each_more, each_stop}
 use Rattle.property.specs.Walk.{scope_of}
 use Rattle.property.specs.Layout.{term_at}
 use Rattle.property.specs.Fit.{term_fits}
-use Rattle.number.specs.declared.Seen.TheVariants.{End}
 use Rattle.number.specs.Reading.{many, seen}
 use Rattle.lists.specs.Lists.{all_by}
-use Prim.Native.Nat.{ℕ, ◌-◌, ◌≤◌}
+use Prim.Native.Nat.{ℕ}
 use native.Mathlib.Omega.{arith}
 use mathlib.Core.Path.{◌≡◌, ap, sym, ◌∙◌}
 use Rattle.property.proofs.terms.fit_terms.Goals as goal

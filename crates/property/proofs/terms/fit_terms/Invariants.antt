@@ -1,15 +1,12 @@
 -- The invariant is that the first j terms were seen to end at i, and whether all of them fit; each turn sees one more.
-use borrow.Author.Rules.{rules}
-use Rattle.property.specs.Walk.Chain.{each_none, each_more, each_stop}
 use Rattle.property.specs.Walk.{scope_of}
 use Rattle.property.specs.Layout.{term_at}
 use Rattle.property.specs.Fit.{term_fits}
 use Rattle.number.specs.declared.Seen.TheVariants.{End}
 use Rattle.number.specs.Reading.{many, seen}
 use Rattle.lists.specs.Lists.{all_by}
-use Prim.Native.Nat.{ℕ, ◌-◌, ◌≤◌}
-use native.Mathlib.Omega.{arith}
-use mathlib.Core.Path.{◌≡◌, ap, sym, ◌∙◌}
+use Prim.Native.Nat.{◌-◌, ◌≤◌}
+use mathlib.Core.Path.{◌≡◌}
 use Rattle.property.proofs.terms.fit_terms.Given as goal
 
 abbrev pub invariant-loop-j : goal.invariant-loop-j

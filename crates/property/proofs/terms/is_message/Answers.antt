@@ -1,7 +1,6 @@
 -- Outside the scope nothing is; inside, sort 0 is message.
 use Rattle.property.specs.Walk.Terms.{scope_out, scope_message}
 use Rattle.property.specs.Formula.{msg}
-use borrow.Author.Rules.{rules}
 use Rattle.property.proofs.terms.is_message.Goals as goal
 
 pub returns-then-n-x : goal.returns-then-n-x

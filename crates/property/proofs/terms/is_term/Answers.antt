@@ -4,7 +4,6 @@ use Rattle.property.specs.Layout.{term_at}
 use Rattle.property.specs.Fit.{is_var}
 use mathlib.Core.Bool.{false}
 use mathlib.Core.Path.{refl, sym, ◌∙◌}
-use borrow.Author.Rules.{rules}
 use Rattle.property.proofs.terms.is_term.Goals as goal
 
 pub returns-in-Variable : goal.returns-in-Variable

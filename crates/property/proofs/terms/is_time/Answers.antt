@@ -1,7 +1,6 @@
 -- Outside the scope nothing is; inside, any sort but message is time.
 use Rattle.property.specs.Walk.Terms.{scope_out, scope_time}
 use Rattle.property.specs.Formula.{tmp}
-use borrow.Author.Rules.{rules}
 use Rattle.property.proofs.terms.is_time.Goals as goal
 
 pub returns-then-n-x : goal.returns-then-n-x

@@ -2,7 +2,6 @@
 use Rattle.property.specs.Walk.Terms.{leaf_variable, leaf_name, leaf_none}
 use Rattle.number.specs.Reading.{as_read, read_number}
 use mathlib.Core.Path.{ap, sym, ◌∙◌}
-use borrow.Author.Rules.{rules}
 use Rattle.property.proofs.terms.leaf_of.Goals as goal
 
 pub returns-then-tag-eq-VARIABLE : goal.returns-then-tag-eq-VARIABLE

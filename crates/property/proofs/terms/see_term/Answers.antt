@@ -2,7 +2,6 @@
 use Rattle.property.specs.Walk.Terms.{term_leaf, term_none}
 use Rattle.number.specs.Reading.{as_read}
 use mathlib.Core.Path.{ap, sym, ◌∙◌}
-use borrow.Author.Rules.{rules}
 use Rattle.property.proofs.terms.see_term.Goals as goal
 
 pub returns-in-Value : goal.returns-in-Value

@@ -7,7 +7,6 @@ use Rattle.number.specs.Reading.Numbers.{below_inside}
 use Rattle.number.specs.Reading.{as_read, below}
 use mathlib.Core.Path.{ap, sym, ◌∙◌}
 use native.Mathlib.Omega.{arith}
-use borrow.Author.Rules.{rules}
 use Rattle.protocol.proofs.index.functions.Goals as goal
 
 pub functions_from-requires : goal.functions_from-requires

@@ -3,10 +3,10 @@ use borrow.Author.Rules.{rules}
 use Rattle.protocol.specs.Index.Fill.{Slotting, slots_begin, slots_next}
 use Rattle.number.specs.Reading.Many.{many_stop}
 use Rattle.number.specs.Reading.Numbers.{below_inside}
-use Rattle.number.specs.Reading.{as_read, below}
+use Rattle.number.specs.Reading.{as_read}
 use mathlib.Core.Path.{◌≡◌, ap, sym, ◌∙◌, subst}
-use Prim.Native.Nat.{ℕ, ◌-◌, ◌≤◌, ◌<◌}
-use lib.ListN.{length, length-set}
+use Prim.Native.Nat.{ℕ, ◌<◌}
+use lib.ListN.{length-set}
 use native.Mathlib.Omega.{arith}
 use Rattle.protocol.proofs.index.functions_from.Goals as goal
 

@@ -2,7 +2,6 @@
 use Rattle.protocol.specs.Index.Fill.{own_got, own_first, own_second}
 use Rattle.number.specs.Reading.{as_read}
 use mathlib.Core.Path.{ap, sym, ◌∙◌}
-use borrow.Author.Rules.{rules}
 use Rattle.protocol.proofs.index.own_at.Goals as goal
 
 pub returns-in_default : goal.returns-in_default

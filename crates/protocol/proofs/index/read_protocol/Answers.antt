@@ -8,7 +8,6 @@ use Rattle.number.specs.Reading.{below, counted}
 use Prim.Native.Nat.{◌+◌, ◌≤◌}
 use lib.ListN.{take, length-take}
 use native.Mathlib.Omega.{arith}
-use borrow.Author.Rules.{rules}
 use Rattle.protocol.proofs.index.read_protocol.Goals as goal
 
 pub returns-in_default : goal.returns-in_default

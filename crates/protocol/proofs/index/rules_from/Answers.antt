@@ -6,8 +6,8 @@ use Rattle.number.specs.Reading.Many.{Came, came_none, came_more, came_stop}
 use Rattle.number.specs.Reading.Laws.{cut_seen, cut_fault}
 use mathlib.Core.Path.{◌≡◌, sym, ◌∙◌, subst}
 use mathlib.Core.Bool.{false}
-use Prim.Native.Nat.{ℕ, ◌-◌, ◌≤◌, ◌<◌}
-use lib.ListN.{length, get_or, length-set}
+use Prim.Native.Nat.{ℕ, ◌<◌}
+use lib.ListN.{length, length-set}
 use native.Mathlib.Omega.{arith}
 use Rattle.protocol.proofs.index.rules_from.Goals as goal
 

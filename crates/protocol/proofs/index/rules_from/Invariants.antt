@@ -1,14 +1,9 @@
 -- The invariant is that j rules are read up to i and each earlier place is that of its rule; a turn enters one place.
-use borrow.Author.Rules.{rules}
-use Rattle.protocol.specs.Index.Fill.{places_more, places_end}
-use Rattle.protocol.specs.Protocol.{Rule, empty_rule, rule}
-use Rattle.number.specs.Reading.Many.{Came, came_none, came_more, came_stop}
-use Rattle.number.specs.Reading.Laws.{cut_seen, cut_fault}
-use mathlib.Core.Path.{◌≡◌, sym, ◌∙◌, subst}
-use mathlib.Core.Bool.{false}
+use Rattle.protocol.specs.Protocol.{rule}
+use Rattle.number.specs.Reading.Many.{Came}
+use mathlib.Core.Path.{◌≡◌}
 use Prim.Native.Nat.{ℕ, ◌-◌, ◌≤◌, ◌<◌}
-use lib.ListN.{length, get_or, length-set}
-use native.Mathlib.Omega.{arith}
+use lib.ListN.{length, get_or}
 use Rattle.protocol.proofs.index.rules_from.Given as goal
 
 abbrev pub invariant-loop-j : goal.invariant-loop-j

@@ -3,7 +3,7 @@ use borrow.Author.Rules.{rules}
 use Rattle.protocol.specs.Index.Fill.{Owned, as_own, own_begins, own_more, own_small}
 use Rattle.number.specs.Reading.Many.{many_stop, many_length}
 use mathlib.Core.Path.{◌≡◌, ap, sym, ◌∙◌, subst}
-use Prim.Native.Nat.{ℕ, ◌+◌, ◌-◌, ◌≤◌, ◌<◌}
+use Prim.Native.Nat.{ℕ, ◌+◌, ◌<◌}
 use lib.ListN.{length, length-set}
 use native.Mathlib.Omega.{arith}
 use Rattle.protocol.proofs.index.symbols_from.Goals as goal

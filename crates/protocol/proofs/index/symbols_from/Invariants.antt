@@ -1,11 +1,8 @@
 -- The invariant is that j own symbols are read and stand in both tables behind the four built-in ones; each turn adds one.
-use borrow.Author.Rules.{rules}
-use Rattle.protocol.specs.Index.Fill.{Owned, as_own, own_begins, own_more, own_small}
-use Rattle.number.specs.Reading.Many.{many_stop, many_length}
-use mathlib.Core.Path.{◌≡◌, ap, sym, ◌∙◌, subst}
-use Prim.Native.Nat.{ℕ, ◌+◌, ◌-◌, ◌≤◌, ◌<◌}
-use lib.ListN.{length, length-set}
-use native.Mathlib.Omega.{arith}
+use Rattle.protocol.specs.Index.Fill.{Owned}
+use mathlib.Core.Path.{◌≡◌}
+use Prim.Native.Nat.{◌-◌, ◌≤◌}
+use lib.ListN.{length}
 use Rattle.protocol.proofs.index.symbols_from.Given as goal
 
 abbrev pub invariant-loop-j : goal.invariant-loop-j

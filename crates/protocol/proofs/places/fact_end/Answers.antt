@@ -2,7 +2,6 @@
 use Rattle.protocol.specs.Protocol.{fact}
 use Rattle.protocol.specs.Protocol.Walks.{asks}
 use Rattle.protocol.specs.Places.Ends.{end_walk}
-use borrow.Author.Rules.{rules}
 use Rattle.protocol.proofs.places.fact_end.Goals as goal
 
 pub returns : goal.returns

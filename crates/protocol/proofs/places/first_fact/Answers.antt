@@ -2,7 +2,6 @@
 use mathlib.Core.Path.{ap, sym, ◌∙◌}
 use Rattle.number.specs.Reading.{as_read}
 use Rattle.protocol.specs.Places.{place_of}
-use borrow.Author.Rules.{rules}
 use Rattle.protocol.proofs.places.first_fact.Goals as goal
 
 pub returns-in-Value : goal.returns-in-Value

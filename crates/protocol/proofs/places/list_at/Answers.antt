@@ -5,7 +5,6 @@ use Rattle.protocol.specs.Protocol.{facts}
 use Rattle.number.specs.Reading.{as_read, many}
 use Rattle.lists.specs.Lists.{any_by}
 use mathlib.Core.Path.{ap, sym, ◌∙◌}
-use borrow.Author.Rules.{rules}
 use Rattle.protocol.proofs.places.list_at.Goals as goal
 
 pub returns-in-Value : goal.returns-in-Value

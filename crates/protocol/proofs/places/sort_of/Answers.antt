@@ -3,7 +3,6 @@ use Rattle.protocol.specs.Places.Ends.{sort_got, sort_none}
 use Rattle.protocol.specs.Places.{value_of}
 use Rattle.number.specs.Reading.{as_read}
 use mathlib.Core.Path.{ap, sym, ◌∙◌}
-use borrow.Author.Rules.{rules}
 use Rattle.protocol.proofs.places.sort_of.Goals as goal
 
 pub returns-in-Value : goal.returns-in-Value

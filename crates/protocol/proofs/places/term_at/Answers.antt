@@ -5,7 +5,6 @@ use Rattle.number.specs.Reading.{as_read, many}
 use Rattle.protocol.specs.Protocol.{rule_term}
 use Rattle.protocol.specs.Protocol.Walks.{leaf_at}
 use Rattle.protocol.specs.Places.Ends.{end_walk, first_place, term_got, term_none}
-use borrow.Author.Rules.{rules}
 use Rattle.protocol.proofs.places.term_at.Goals as goal
 
 pub returns-then-j-eq0 : goal.returns-then-j-eq0

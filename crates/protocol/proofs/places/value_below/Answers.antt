@@ -2,7 +2,6 @@
 use Rattle.protocol.specs.Places.{value_of}
 use Rattle.number.specs.Reading.{as_read}
 use mathlib.Core.Path.{ap, sym, ◌∙◌}
-use borrow.Author.Rules.{rules}
 use Rattle.protocol.proofs.places.value_below.Goals as goal
 
 pub returns-in-Value : goal.returns-in-Value

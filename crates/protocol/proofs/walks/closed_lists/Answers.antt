@@ -7,7 +7,6 @@ use Rattle.number.specs.declared.Seen.TheVariants as sn
 use Rattle.lists.specs.Choice.{pick}
 use mathlib.Core.Path.{ap, sym, ◌∙◌}
 use mathlib.Core.Bool.{Bool, false}
-use borrow.Author.Rules.{rules}
 use Rattle.protocol.proofs.walks.closed_lists.Goals as goal
 
 pub returns-then-h : goal.returns-then-h

@@ -2,7 +2,6 @@
 use Rattle.protocol.specs.Protocol.Walks.{from_leaves, from_symbol, from_none}
 use mathlib.Core.Path.{sym, ◌∙◌}
 use native.Mathlib.Omega.{arith}
-use borrow.Author.Rules.{rules}
 use Rattle.protocol.proofs.walks.fact_from.Goals as goal
 
 pub overflow_cast-ars : goal.overflow_cast-ars

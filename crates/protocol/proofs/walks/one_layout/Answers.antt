@@ -2,7 +2,6 @@
 use Rattle.protocol.specs.Protocol.Walks.{rule_asks, layout_got, layout_fault}
 use Rattle.number.specs.Reading.{seen, as_read}
 use mathlib.Core.Path.{ap, sym, ◌∙◌}
-use borrow.Author.Rules.{rules}
 use Rattle.protocol.proofs.walks.one_layout.Goals as goal
 
 pub returns-in-Value : goal.returns-in-Value

@@ -3,7 +3,6 @@ use Rattle.protocol.specs.Protocol.Walks.{asks, facts_got, facts_fault}
 use Rattle.number.specs.Reading.{seen, as_read}
 use Rattle.lists.specs.Lists.{any_by}
 use mathlib.Core.Path.{ap, sym, ◌∙◌}
-use borrow.Author.Rules.{rules}
 use Rattle.protocol.proofs.walks.one_list.Goals as goal
 
 pub returns-in-Value : goal.returns-in-Value

@@ -2,7 +2,6 @@
 use Rattle.protocol.specs.Protocol.Walks.{ended, rule_got, rule_fault, layout_fault}
 use Rattle.number.specs.Reading.{as_read}
 use mathlib.Core.Path.{ap, sym, ◌∙◌}
-use borrow.Author.Rules.{rules}
 use Rattle.protocol.proofs.walks.one_rule.Goals as goal
 
 pub returns-in-Value : goal.returns-in-Value

@@ -1,7 +1,6 @@
 -- The walk of a term, and then whether its symbols are below 65.
 use Rattle.protocol.specs.Protocol.Walks.{rule_term_end, rule_term_long, rule_term_seen}
 use mathlib.Core.Path.{sym, ◌∙◌}
-use borrow.Author.Rules.{rules}
 use Rattle.protocol.proofs.walks.rule_term.Goals as goal
 
 pub returns-then-n-lt-RULE_SYMBOL_LIMIT : goal.returns-then-n-lt-RULE_SYMBOL_LIMIT

@@ -1,14 +1,11 @@
 -- The invariant is that the first j terms were seen to end at i with this answer; each turn sees one more.
-use borrow.Author.Rules.{rules}
-use Rattle.number.specs.Reading.Many.{walk_none, walk_more, walk_stop}
 use Rattle.number.specs.Reading.{many, seen}
 use Rattle.lists.specs.Lists.{any_by}
 use Rattle.number.specs.declared.Seen.TheVariants.{End}
 use Rattle.protocol.specs.Protocol.Walks.{leaf_at}
 use Rattle.protocol.specs.Protocol.{rule_term}
-use mathlib.Core.Path.{◌≡◌, ap, sym, ◌∙◌}
-use Prim.Native.Nat.{ℕ, ◌-◌, ◌≤◌}
-use native.Mathlib.Omega.{arith}
+use mathlib.Core.Path.{◌≡◌}
+use Prim.Native.Nat.{◌-◌, ◌≤◌}
 use Rattle.protocol.proofs.walks.rule_terms.Given as goal
 
 abbrev pub invariant-loop-j : goal.invariant-loop-j

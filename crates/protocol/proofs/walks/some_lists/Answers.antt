@@ -3,11 +3,10 @@ use borrow.Author.Rules.{rules}
 use Rattle.number.specs.Reading.Many.{walk_none, walk_more, walk_stop}
 use Rattle.number.specs.Reading.{many, seen}
 use Rattle.lists.specs.Lists.{any_by}
-use Rattle.number.specs.declared.Seen.TheVariants.{End}
 use Rattle.protocol.specs.Protocol.Walks.{asks}
 use Rattle.protocol.specs.Protocol.{facts}
 use mathlib.Core.Path.{◌≡◌, ap, sym, ◌∙◌}
-use Prim.Native.Nat.{ℕ, ◌-◌, ◌≤◌}
+use Prim.Native.Nat.{ℕ}
 use native.Mathlib.Omega.{arith}
 use Rattle.protocol.proofs.walks.some_lists.Goals as goal
 

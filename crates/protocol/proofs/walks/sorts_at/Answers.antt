@@ -2,7 +2,6 @@
 use Rattle.protocol.specs.Protocol.Walks.{sorts_got, sorts_fault}
 use Rattle.number.specs.Reading.{as_read}
 use mathlib.Core.Path.{ap, sym, ◌∙◌}
-use borrow.Author.Rules.{rules}
 use Rattle.protocol.proofs.walks.sorts_at.Goals as goal
 
 pub returns-in-Value : goal.returns-in-Value

@@ -5,7 +5,7 @@ use Rattle.protocol.specs.Protocol.Walks.{sorts_came, sorts_stop}
 use Rattle.number.specs.Reading.Many.{Came, came_none, came_more, came_stop}
 use Rattle.number.specs.Reading.{below, as_read}
 use mathlib.Core.Path.{◌≡◌, ap, sym, ◌∙◌, subst}
-use Prim.Native.Nat.{ℕ, ◌-◌, ◌≤◌}
+use Prim.Native.Nat.{ℕ}
 use native.Mathlib.Omega.{arith}
 use Rattle.protocol.proofs.walks.sorts_end.Goals as goal
 

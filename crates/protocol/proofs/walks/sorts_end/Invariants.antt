@@ -1,12 +1,8 @@
 -- The invariant is that j sorts were read up to i; each turn reads one more.
-use borrow.Author.Rules.{rules}
 use Rattle.protocol.specs.Figures.{sort_count}
-use Rattle.protocol.specs.Protocol.Walks.{sorts_came, sorts_stop}
-use Rattle.number.specs.Reading.Many.{Came, came_none, came_more, came_stop}
-use Rattle.number.specs.Reading.{below, as_read}
-use mathlib.Core.Path.{◌≡◌, ap, sym, ◌∙◌, subst}
-use Prim.Native.Nat.{ℕ, ◌-◌, ◌≤◌}
-use native.Mathlib.Omega.{arith}
+use Rattle.number.specs.Reading.Many.{Came}
+use Rattle.number.specs.Reading.{below}
+use Prim.Native.Nat.{◌-◌, ◌≤◌}
 use Rattle.protocol.proofs.walks.sorts_end.Given as goal
 
 abbrev pub invariant-loop-j : goal.invariant-loop-j

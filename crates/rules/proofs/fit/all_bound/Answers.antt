@@ -1,14 +1,8 @@
 -- The invariant is that the first j variables are bound; the first that is not ends it with false.
 use borrow.Author.Rules.{rules}
-use Rattle.rules.specs.Fit.Laws.{OfRule}
 use Rattle.lists.specs.Below.{all_none, all_more, all_stop, all_below}
-use Rattle.lists.specs.Tests.{not_split, not_false}
 use Rattle.rules.specs.Fit.{bound}
-use Rattle.protocol.specs.Protocol.{Rule}
 use mathlib.Core.Path.{◌≡◌, ap, sym, ◌∙◌}
-use mathlib.Core.Bool.{true}
-use lib.ListN.{length}
-use Prim.Native.Nat.{◌-◌, ◌≤◌}
 use native.Mathlib.Omega.{arith}
 use Rattle.rules.proofs.fit.all_bound.Goals as goal
 

@@ -4,7 +4,6 @@ use Prim.Native.Nat.{◌+◌}
 use Rattle.protocol.specs.Protocol.Walks.{asks}
 use Rattle.lists.specs.Lists.{any_by}
 use Rattle.rules.specs.Fit.Laws.{asked_of, bound_public, bound_above, bound_below}
-use borrow.Author.Rules.{rules}
 use Rattle.rules.proofs.fit.is_bound.Goals as goal
 
 pub returns-then-sort_of-eq-PUBLIC_SORT : goal.returns-then-sort_of-eq-PUBLIC_SORT

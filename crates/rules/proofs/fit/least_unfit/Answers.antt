@@ -2,11 +2,7 @@
 use borrow.Author.Rules.{rules}
 use Rattle.rules.specs.Fit.Laws.{unfit, placed_fits}
 use Rattle.lists.specs.Below.{least_none, least_more, least_hit, least}
-use Rattle.protocol.specs.Index.{Placed}
-use Rattle.protocol.specs.Protocol.{Rule, empty_rule, rule}
 use mathlib.Core.Path.{◌≡◌, ap, sym, ◌∙◌}
-use mathlib.Core.List.{List}
-use Prim.Native.Nat.{◌-◌, ◌≤◌}
 use native.Mathlib.Omega.{arith}
 use mathlib.Core.Bool.{not}
 use Rattle.rules.proofs.fit.least_unfit.Goals as goal

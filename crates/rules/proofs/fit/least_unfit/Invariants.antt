@@ -1,13 +1,11 @@
 -- The invariant is that none of the first j rules is unfit, so the first that rule_fits denies is the least.
-use borrow.Author.Rules.{rules}
-use Rattle.rules.specs.Fit.Laws.{unfit, placed_fits}
-use Rattle.lists.specs.Below.{least_none, least_more, least_hit, least}
+use Rattle.rules.specs.Fit.Laws.{unfit}
+use Rattle.lists.specs.Below.{least}
 use Rattle.protocol.specs.Index.{Placed}
 use Rattle.protocol.specs.Protocol.{Rule, empty_rule, rule}
-use mathlib.Core.Path.{◌≡◌, ap, sym, ◌∙◌}
+use mathlib.Core.Path.{◌≡◌}
 use mathlib.Core.List.{List}
 use Prim.Native.Nat.{◌-◌, ◌≤◌}
-use native.Mathlib.Omega.{arith}
 use Rattle.rules.proofs.fit.least_unfit.Given as goal
 
 abbrev pub invariant-loop-j : goal.invariant-loop-j

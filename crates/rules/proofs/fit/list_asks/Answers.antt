@@ -1,6 +1,5 @@
 -- The walk over the list tells the test of what reads there.
 use Rattle.rules.specs.Fit.Laws.{list_asked}
-use borrow.Author.Rules.{rules}
 use Rattle.rules.proofs.fit.list_asks.Goals as goal
 
 pub returns : goal.returns

@@ -1,6 +1,5 @@
 -- The walk over the whole layout tells the test of the rule.
 use Rattle.rules.specs.Fit.Laws.{rule_asked}
-use borrow.Author.Rules.{rules}
 use Rattle.rules.proofs.fit.rule_asks.Goals as goal
 
 pub returns : goal.returns

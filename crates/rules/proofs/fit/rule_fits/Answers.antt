@@ -6,7 +6,6 @@ use Rattle.protocol.specs.Protocol.Walks.{asks}
 use Rattle.lists.specs.Lists.{any_by}
 use Rattle.rules.specs.Fit.Laws.{fresh_asked, asked_of}
 use Rattle.number.specs.Groups.{number_limit}
-use borrow.Author.Rules.{rules}
 use Rattle.rules.proofs.fit.rule_fits.Goals as goal
 
 pub variables_bound-held-requires : goal.variables_bound-held-requires

@@ -5,7 +5,6 @@ use Rattle.protocol.specs.Protocol.{Rule}
 use Rattle.number.specs.Reading.{as_read}
 use mathlib.Core.Path.{◌≡◌, ap, sym, ◌∙◌}
 use mathlib.Core.Bool.{false}
-use borrow.Author.Rules.{rules}
 use Rattle.rules.proofs.fit.variables_bound.Goals as goal
 
 pub returns-in-Value : goal.returns-in-Value

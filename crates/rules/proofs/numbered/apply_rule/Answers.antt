@@ -5,7 +5,6 @@ use Rattle.rules.specs.Numbered.Writing.{put_holds}
 use lib.ListN.{get_or}
 use Prim.Native.Nat.{ℕ, ◌≤◌}
 use native.Mathlib.Omega.{arith}
-use borrow.Author.Rules.{rules}
 use Rattle.rules.proofs.numbered.apply_rule.Goals as goal
 
 pub returns-then-k-gt-MOST_ARITY : goal.returns-then-k-gt-MOST_ARITY

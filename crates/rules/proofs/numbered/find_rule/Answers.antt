@@ -7,7 +7,6 @@ use Rattle.rules.specs.Numbered.Writing.{put_holds}
 use Rattle.rules.specs.Numbered.Map.{number_apply, number_own, number_signing, number_nothing}
 use Rattle.rules.specs.Numbered.Slots.{slot_own, slot_own_signing}
 use Rattle.rules.specs.Numbered.Found.{of_number, of_fixed, finds_applied, finds_own}
-use borrow.Author.Rules.{rules}
 use Rattle.rules.proofs.numbered.find_rule.Goals as goal
 
 pub returns-in-0-to-4 : goal.returns-in-0-to-4

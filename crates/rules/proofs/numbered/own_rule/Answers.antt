@@ -1,7 +1,6 @@
 -- The place of rule k where there are more than k, else none.
 use Rattle.rules.specs.Numbered.Found.{place_found_lem, place_none}
 use mathlib.Core.Path.{sym}
-use borrow.Author.Rules.{rules}
 use Rattle.rules.proofs.numbered.own_rule.Goals as goal
 
 pub returns-then-k-n : goal.returns-then-k-n

@@ -3,7 +3,6 @@ use Rattle.rules.specs.Numbered.Writing.{apply_put}
 use Rattle.rules.specs.Numbered.Bytes.{premise_length, applies_length}
 use lib.ListN.{length-set}
 use native.Mathlib.Omega.{arith}
-use borrow.Author.Rules.{rules}
 use Rattle.rules.proofs.numbered.put_apply.Goals as goal
 
 pub put_premises-conclusions-requires : goal.put_premises-conclusions-requires

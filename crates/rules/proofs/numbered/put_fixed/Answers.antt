@@ -3,7 +3,6 @@ use Rattle.rules.specs.Numbered.Writing.{put_as, put_copied}
 use Rattle.rules.specs.Numbered.Bytes.{bytes_0, bytes_1, bytes_2, bytes_3, bytes_4}
 use mathlib.Core.Path.{◌≡◌, sym}
 use native.Mathlib.Omega.{arith}
-use borrow.Author.Rules.{rules}
 use Rattle.rules.proofs.numbered.put_fixed.Goals as goal
 
 pub returns-in-0 : goal.returns-in-0

@@ -3,7 +3,6 @@ use Rattle.rules.specs.Numbered.Writing.{with_sorts, sorts_length, premises_put}
 use lib.ListN.{length-set}
 use Prim.Native.Nat.{◌+◌}
 use native.Mathlib.Omega.{arith}
-use borrow.Author.Rules.{rules}
 use Rattle.rules.proofs.numbered.put_premises.Goals as goal
 
 pub slice_bounds-clear-end : goal.slice_bounds-clear-end

@@ -2,7 +2,6 @@
 use native.Mathlib.Omega.{arith}
 use mathlib.Core.Path.{sym}
 use Rattle.rules.specs.Numbered.Slots.{slot_low, slot_high, slot_has}
-use borrow.Author.Rules.{rules}
 use Rattle.rules.proofs.numbered.slot_of.Goals as goal
 
 pub returns-then-n-lt-FIRST_OWN : goal.returns-then-n-lt-FIRST_OWN

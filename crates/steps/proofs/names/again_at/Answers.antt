@@ -2,7 +2,6 @@
 use Rattle.steps.specs.Names.Laws.{again_of, again_none}
 use mathlib.Core.Path.{refl}
 use native.Mathlib.Omega.{arith}
-use borrow.Author.Rules.{rules}
 use Rattle.steps.proofs.names.again_at.Goals as goal
 
 pub returns-then-entry-eq0 : goal.returns-then-entry-eq0

@@ -4,13 +4,9 @@ use Rattle.steps.specs.Names.Laws.{entered_none, entered_more, entry_made}
 use Rattle.steps.specs.Names.{Entered}
 use Rattle.steps.specs.Facts.{made_name}
 use Rattle.steps.specs.Table.Laws.{node_in}
-use Rattle.steps.specs.Table.{NodesIn}
-use Rattle.steps.specs.Nodes.{Node, no_node}
-use Rattle.protocol.specs.Protocol.{Protocol}
-use Rattle.lists.specs.Asks.{Promises₂}
-use Prim.Native.Nat.{ℕ, ◌-◌, ◌≤◌, ◌<◌}
+use Rattle.steps.specs.Nodes.{no_node}
+use Prim.Native.Nat.{ℕ, ◌<◌}
 use lib.ListN.{length, get_or}
-use mathlib.Core.List.{List}
 use mathlib.Core.Path.{◌≡◌, subst, ◌∙◌}
 use native.Mathlib.Omega.{arith}
 use Rattle.steps.proofs.names.enter_names.Goals as goal

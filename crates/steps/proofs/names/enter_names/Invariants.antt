@@ -1,18 +1,13 @@
 -- The invariant is that the first j entries are those of the nodes' names; each turn enters one.
-use borrow.Author.Rules.{rules}
-use Rattle.steps.specs.Names.Laws.{entered_none, entered_more, entry_made}
 use Rattle.steps.specs.Names.{Entered}
-use Rattle.steps.specs.Facts.{made_name}
-use Rattle.steps.specs.Table.Laws.{node_in}
 use Rattle.steps.specs.Table.{NodesIn}
-use Rattle.steps.specs.Nodes.{Node, no_node}
+use Rattle.steps.specs.Nodes.{Node}
 use Rattle.protocol.specs.Protocol.{Protocol}
 use Rattle.lists.specs.Asks.{Promises₂}
-use Prim.Native.Nat.{ℕ, ◌-◌, ◌≤◌, ◌<◌}
-use lib.ListN.{length, get_or}
+use Prim.Native.Nat.{◌-◌, ◌≤◌}
+use lib.ListN.{length}
 use mathlib.Core.List.{List}
-use mathlib.Core.Path.{◌≡◌, subst, ◌∙◌}
-use native.Mathlib.Omega.{arith}
+use mathlib.Core.Path.{◌≡◌}
 use Rattle.steps.proofs.names.enter_names.Given as goal
 
 abbrev pub invariant-loop-j : goal.invariant-loop-j

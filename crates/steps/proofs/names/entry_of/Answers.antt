@@ -1,7 +1,6 @@
 -- The two cases of `entry_of`.
 use Rattle.steps.specs.Names.{entry_of}
 use mathlib.Core.Path.{ap, sym, ◌∙◌}
-use borrow.Author.Rules.{rules}
 use Rattle.steps.proofs.names.entry_of.Goals as goal
 
 pub returns-in-Of : goal.returns-in-Of

@@ -1,7 +1,6 @@
 -- Of the names that name_at tells, only a fresh one is kept.
 use Rattle.term.specs.Reader.{symbol_at}
 use Rattle.steps.specs.Names.Code.{of_fresh, of_public, of_other}
-use borrow.Author.Rules.{rules}
 use Rattle.steps.proofs.names.fresh_at.Goals as goal
 
 pub returns-in-FreshName : goal.returns-in-FreshName

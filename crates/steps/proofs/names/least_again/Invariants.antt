@@ -1,15 +1,13 @@
 -- The invariant is that searching on from node j finds what searching all finds; the first node that again_at tells ends it.
-use borrow.Author.Rules.{rules}
-use Rattle.steps.specs.Names.Laws.{NamesLeft, names_all, names_more, names_twice, names_none}
+use Rattle.steps.specs.Names.Laws.{NamesLeft}
 use Rattle.steps.specs.Names.{Entered}
 use Rattle.steps.specs.Nodes.{no_node}
 use Rattle.steps.specs.Nodes.{Node}
 use Rattle.protocol.specs.Protocol.{Protocol}
 use Prim.Native.Nat.{◌-◌, ◌≤◌}
 use mathlib.Core.List.{List}
-use mathlib.Core.Path.{◌≡◌, sym, ◌∙◌}
+use mathlib.Core.Path.{◌≡◌}
 use lib.ListN.{length}
-use native.Mathlib.Omega.{arith}
 use Rattle.steps.proofs.names.least_again.Given as goal
 
 abbrev pub invariant-loop-j : goal.invariant-loop-j

@@ -2,7 +2,6 @@
 use Rattle.steps.specs.Names.Code.{zero_name, other_name}
 use Rattle.prepared.specs.Prepared.Laws.{slots_length}
 use mathlib.Core.Path.{sym}
-use borrow.Author.Rules.{rules}
 use Rattle.steps.proofs.names.made_at.Goals as goal
 
 pub slice_bounds-fresh_at-end : goal.slice_bounds-fresh_at-end

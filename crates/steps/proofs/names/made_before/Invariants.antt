@@ -1,13 +1,10 @@
 -- The invariant is that `found` tells of the first i nodes; equal entries are equal names.
-use borrow.Author.Rules.{rules}
-use Rattle.steps.specs.Names.Laws.{made_turn}
 use Rattle.steps.specs.Names.{Entered, is_made}
 use Rattle.steps.specs.Nodes.{Node}
 use Prim.Native.Nat.{ℕ, suc, ◌-◌, ◌≤◌}
 use mathlib.Core.List.{List}
-use mathlib.Core.Path.{◌≡◌, refl, subst}
+use mathlib.Core.Path.{◌≡◌}
 use lib.ListN.{length, take}
-use native.Mathlib.Omega.{arith}
 use Rattle.steps.proofs.names.made_before.Given as goal
 
 abbrev pub invariant-loop-i : goal.invariant-loop-i

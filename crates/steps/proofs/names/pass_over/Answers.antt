@@ -1,6 +1,5 @@
 -- The entries that enter_names made are what least_again asks.
 use native.Mathlib.Omega.{arith}
-use borrow.Author.Rules.{rules}
 use Rattle.steps.proofs.names.pass_over.Goals as goal
 
 pub enter_names-requires : goal.enter_names-requires

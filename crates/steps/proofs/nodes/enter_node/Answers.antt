@@ -4,7 +4,6 @@ use Rattle.prepared.specs.Prepared.Laws.{slots_length}
 use lib.ListN.{length-set}
 use mathlib.Core.Path.{refl, sym, ◌∙◌}
 use native.Mathlib.Omega.{arith}
-use borrow.Author.Rules.{rules}
 use Rattle.steps.proofs.nodes.enter_node.Goals as goal
 
 pub rule_place-requires : goal.rule_place-requires

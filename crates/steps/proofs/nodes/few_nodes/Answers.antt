@@ -3,7 +3,6 @@ use borrow.Author.Tests.{leb-true}
 use mathlib.Core.Path.{ap, sym, ◌∙◌}
 use Rattle.number.specs.Reading.{as_read}
 use Rattle.steps.specs.Table.Laws.{few_counted, few_uncounted}
-use borrow.Author.Rules.{rules}
 use Rattle.steps.proofs.nodes.few_nodes.Goals as goal
 
 pub returns-in-Value : goal.returns-in-Value

@@ -1,12 +1,7 @@
 -- The invariant is that j nodes are read up to i into their rows; a fault or an unknown rule there is that of the whole list.
 use borrow.Author.Rules.{rules}
-use Rattle.steps.specs.Nodes.Filling.{Passed, passed_none, passed_more, passed_broken, passed_unknown, passed_all}
-use Rattle.prepared.specs.Prepared.{Prepared}
-use Rattle.protocol.specs.Protocol.{Protocol}
-use Rattle.lists.specs.Asks.{Promises}
-use Prim.Native.Nat.{◌-◌, ◌≤◌}
+use Rattle.steps.specs.Nodes.Filling.{passed_none, passed_more, passed_broken, passed_unknown, passed_all}
 use mathlib.Core.Path.{◌≡◌}
-use lib.ListN.{length}
 use native.Mathlib.Omega.{arith}
 use Rattle.steps.proofs.nodes.nodes_from.Goals as goal
 

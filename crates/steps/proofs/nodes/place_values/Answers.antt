@@ -1,12 +1,12 @@
 -- The invariant is that v values are read up to i, their places and sizes entered, their variables told; each turn adds a value.
 use borrow.Author.Rules.{rules}
 use Rattle.steps.specs.Nodes.Filling.{Placing, placing_none, placing_more, placing_fault, values_read, values_broken, ValuesRead}
-use Prim.Native.Nat.{ℕ, ◌+◌, ◌-◌, ◌≤◌, ◌<◌}
+use Prim.Native.Nat.{ℕ, ◌+◌, ◌<◌}
 use Rattle.number.specs.Groups.{number_limit}
 use Rattle.steps.specs.declared.nodes.NodeEnd.TheVariants as end
 use Rattle.steps.specs.Table.{place_count}
 use Rattle.protocol.specs.Figures.{most_variables}
-use lib.ListN.{length, set, length-set}
+use lib.ListN.{set, length-set}
 use mathlib.Core.Path.{◌≡◌, sym, ◌∙◌, subst}
 use native.Mathlib.Omega.{arith}
 use Rattle.steps.proofs.nodes.place_values.Goals as goal

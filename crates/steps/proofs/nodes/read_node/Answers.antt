@@ -2,7 +2,6 @@
 use Rattle.steps.specs.Nodes.Filling.{number_entered, number_broken}
 use Rattle.number.specs.Reading.{as_read}
 use mathlib.Core.Path.{ap, sym, ◌∙◌}
-use borrow.Author.Rules.{rules}
 use Rattle.steps.proofs.nodes.read_node.Goals as goal
 
 pub returns-in-Value : goal.returns-in-Value

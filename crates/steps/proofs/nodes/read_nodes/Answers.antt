@@ -4,7 +4,6 @@ use Rattle.number.specs.Reading.Numbers.{below_inside}
 use Rattle.number.specs.Reading.{as_read}
 use mathlib.Core.Path.{ap, sym, ◌∙◌}
 use native.Mathlib.Omega.{arith}
-use borrow.Author.Rules.{rules}
 use Rattle.steps.proofs.nodes.read_nodes.Goals as goal
 
 pub nodes_from-requires : goal.nodes_from-requires

@@ -1,6 +1,5 @@
 -- The list's end is the file's, or bytes are left over, or the list's own answer: the four cases of `steps`.
 use Rattle.steps.specs.Nodes.Code.{steps_end, steps_leftover, steps_broken, steps_unknown}
-use borrow.Author.Rules.{rules}
 use Rattle.steps.proofs.nodes.read_steps.Goals as goal
 
 pub returns-then-e-s : goal.returns-then-e-s

@@ -1,6 +1,5 @@
 -- The three passes in the table's order: the first that finds a node is the ruling, and none is the pass.
 use Rattle.steps.specs.Causes.Code.{wrong_value, too_large, made_twice, all_good}
-use borrow.Author.Rules.{rules}
 use Rattle.steps.proofs.ruling.rule_nodes.Goals as goal
 
 pub returns-then-wrong-ne0 : goal.returns-then-wrong-ne0

@@ -1,7 +1,6 @@
 -- A list that reads has its nodes in the table, so rule_nodes rules on it; a fault is 3, an unknown rule 6.
 use Rattle.steps.specs.Causes.Good.{where_good}
 use Rattle.steps.specs.Causes.Code.{list_broken, list_unknown, list_read, list_in, list_nodes}
-use borrow.Author.Rules.{rules}
 use Rattle.steps.proofs.ruling.rule_steps.Goals as goal
 
 pub rule_nodes-requires : goal.rule_nodes-requires

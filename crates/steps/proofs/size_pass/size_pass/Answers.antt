@@ -1,14 +1,10 @@
 -- The invariant is that searching on from node j finds what searching all finds; the first bad node ends it.
 use borrow.Author.Rules.{rules}
-use Rattle.steps.specs.Values.Scan.{Rest, rest_all, rest_more, rest_bad, rest_none}
+use Rattle.steps.specs.Values.Scan.{rest_all, rest_more, rest_bad, rest_none}
 use Rattle.steps.specs.Values.Tests.{node_terms_ok}
 use Rattle.steps.specs.Table.Laws.{node_in}
-use Rattle.steps.specs.Table.{NodesIn}
-use Rattle.steps.specs.Nodes.{Node, no_node}
-use Rattle.protocol.specs.Protocol.{Protocol}
-use Rattle.lists.specs.Asks.{Promises₂}
-use Prim.Native.Nat.{◌-◌, ◌≤◌, ◌<◌}
-use mathlib.Core.List.{List}
+use Rattle.steps.specs.Nodes.{no_node}
+use Prim.Native.Nat.{◌<◌}
 use mathlib.Core.Path.{sym, ◌∙◌}
 use lib.ListN.{length, get_or}
 use native.Mathlib.Omega.{arith}

@@ -1,16 +1,11 @@
 -- The invariant is that the terms left, from the place on, decide and end where the fact ends; each begins behind the one before.
-use borrow.Author.Rules.{rules}
-use native.Mathlib.Omega.{arith}
-use mathlib.Core.Path.{ap, ap₂, sym, ◌∙◌}
-use mathlib.Core.Bool.{Bool}
 use Prim.Native.Nat.{ℕ}
 use Rattle.lists.specs.Asks.{Promises₂}
 use Rattle.protocol.specs.Places.{ReadAs}
 use Rattle.protocol.specs.Protocol.{Fact, fact, rule_term}
 use Rattle.prepared.specs.Prepared.{slots_of, arities_of}
-use Rattle.prepared.specs.Prepared.Laws.{slots_length, arities_length}
-use Rattle.steps.specs.Values.Weights.{size_in, term_small, small_to}
-use Rattle.steps.specs.Values.Parts.{Left, left_starts, left_reads, left_more, left_bad, left_ends, plain_term, symbol_inside, terms_start}
+use Rattle.steps.specs.Values.Weights.{size_in, term_small}
+use Rattle.steps.specs.Values.Parts.{Left}
 use Rattle.steps.proofs.sizes.fact_small.Given as goal
 
 abbrev pub invariant-loop-left : goal.invariant-loop-left

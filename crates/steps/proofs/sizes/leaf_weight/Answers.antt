@@ -1,6 +1,5 @@
 -- A variable weighs its value's size, any other leaf one: the two clauses of `leaf_weight`.
 use Rattle.steps.specs.Values.Weights.{leaf_variable, leaf_other}
-use borrow.Author.Rules.{rules}
 use Rattle.steps.proofs.sizes.leaf_weight.Goals as goal
 
 pub returns-then-t-eq-VARIABLE : goal.returns-then-t-eq-VARIABLE

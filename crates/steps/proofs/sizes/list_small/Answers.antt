@@ -1,15 +1,8 @@
 -- The invariant is that the facts left, from the place on, decide; each begins behind the one before.
-use borrow.Author.Rules.{rules}
 use native.Mathlib.Omega.{arith}
 use mathlib.Core.Path.{sym, ◌∙◌}
-use mathlib.Core.List.{List}
-use Prim.Native.Nat.{ℕ}
-use Rattle.lists.specs.Asks.{Promises₂}
-use Rattle.protocol.specs.Places.{ReadAs}
-use Rattle.protocol.specs.Protocol.{Fact, fact, facts}
-use Rattle.prepared.specs.Prepared.{slots_of, arities_of}
 use Rattle.steps.specs.Values.Weights.{size_in}
-use Rattle.steps.specs.Values.Parts.{Left, left_starts, left_reads, left_more, left_bad, left_ends, fact_small, facts_start}
+use Rattle.steps.specs.Values.Parts.{left_starts, left_reads, left_more, left_bad, left_ends, fact_small, facts_start}
 use Rattle.steps.proofs.sizes.list_small.Goals as goal
 
 pub loop-left-init : goal.loop-left-init

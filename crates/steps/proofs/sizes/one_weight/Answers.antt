@@ -3,7 +3,6 @@ use mathlib.Core.Path.{ap, sym, ◌∙◌}
 use Prim.Native.Nat.{ℕ}
 use Rattle.steps.specs.declared.sizes.Weight.TheVariants as wt
 use Rattle.steps.specs.Values.Weights.{weight_of, size_in}
-use borrow.Author.Rules.{rules}
 use Rattle.steps.proofs.sizes.one_weight.Goals as goal
 
 pub returns-in-Leaf : goal.returns-in-Leaf

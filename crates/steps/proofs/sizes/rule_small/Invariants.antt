@@ -1,17 +1,12 @@
 -- The invariant is that the lists from j on decide; the prepared protocol has each list's place.
-use borrow.Author.Rules.{rules}
-use Rattle.steps.specs.Values.Parts.{AllLeft, all_start, all_more, all_bad, all_done, list_small}
-use Rattle.steps.specs.Table.Laws.{RuleOf, of_listed, of_list, of_three}
+use Rattle.steps.specs.Values.Parts.{AllLeft, list_small}
+use Rattle.steps.specs.Table.Laws.{RuleOf}
 use Rattle.steps.specs.Values.Weights.{size_in}
-use Rattle.prepared.specs.Prepared.{ListAt}
 use Rattle.protocol.specs.Protocol.{Rule, Protocol}
 use Rattle.protocol.specs.Figures.{list_count}
 use Rattle.lists.specs.Asks.{Promises₂}
-use Prim.Native.Nat.{◌-◌, ◌≤◌, ◌<◌}
+use Prim.Native.Nat.{◌-◌, ◌≤◌}
 use mathlib.Core.List.{[]}
-use mathlib.Core.Path.{sym, ◌∙◌, subst}
-use lib.ListN.{length, get_or}
-use native.Mathlib.Omega.{arith}
 use Rattle.steps.proofs.sizes.rule_small.Given as goal
 
 abbrev pub invariant-loop-j : goal.invariant-loop-j

@@ -1,6 +1,5 @@
 -- Inside the table the size is read; outside of it a variable counts one symbol.
 use Rattle.steps.specs.Values.Weights.{size_in_lem, size_out}
-use borrow.Author.Rules.{rules}
 use Rattle.steps.proofs.sizes.size_of.Goals as goal
 
 pub returns-then-n-sizes : goal.returns-then-n-sizes

@@ -1,15 +1,9 @@
 -- The invariant is that the sum so far and the weight of the pending terms are the term's, which ends where they end; a sum past the limit only grows.
-use borrow.Author.Rules.{rules}
-use Rattle.steps.specs.Values.Weights.{Going, going_starts, going_ends, going_long, going_more, going_fault, weight_small, size_in}
-use Rattle.term.specs.Term.{Term}
-use Rattle.term.specs.Reader.{term, symbol_at}
-use Rattle.protocol.specs.Places.{ReadAs}
-use Rattle.lists.specs.Asks.{Promises₂}
+use Rattle.steps.specs.Values.Weights.{going_starts, going_ends, going_long, going_more, going_fault, weight_small, size_in}
+use Rattle.term.specs.Reader.{symbol_at}
 use Rattle.octets.specs.Limits.{longest}
-use Rattle.steps.specs.Values.{most_filled_in}
-use Prim.Native.Nat.{ℕ, ◌+◌, ◌-◌, ◌*◌, ◌≤◌}
+use Prim.Native.Nat.{◌≤◌}
 use mathlib.Core.Path.{sym, ◌∙◌}
-use lib.ListN.{length}
 use native.Mathlib.Omega.{arith}
 use Rattle.steps.proofs.sizes.term_small.Goals as goal
 

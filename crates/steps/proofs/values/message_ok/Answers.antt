@@ -2,7 +2,6 @@
 use Rattle.steps.specs.Values.Code.{not_long, by_canonical, message, canonical_is}
 use mathlib.Core.Path.{refl}
 use native.Mathlib.Omega.{arith}
-use borrow.Author.Rules.{rules}
 use Rattle.steps.proofs.values.message_ok.Goals as goal
 
 pub returns-then-size-gt-MOST_IN_VALUE : goal.returns-then-size-gt-MOST_IN_VALUE

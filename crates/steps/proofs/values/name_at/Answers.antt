@@ -1,7 +1,6 @@
 -- The tag of the symbol tells the kind of name; any other symbol is none.
 use mathlib.Core.Path.{sym, ◌∙◌}
 use Rattle.steps.specs.Values.Code.{tagged, other_leaf, other_op, other_fault}
-use borrow.Author.Rules.{rules}
 use Rattle.steps.proofs.values.name_at.Goals as goal
 
 pub returns-then-t-eq-FRESH : goal.returns-then-t-eq-FRESH

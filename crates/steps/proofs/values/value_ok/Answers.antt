@@ -3,7 +3,6 @@ use Rattle.steps.specs.Values.Code.{fresh_ok, public_ok, other_sort, not_sorted}
 use Rattle.steps.specs.Values.Tests.{value_ok}
 use Prim.Native.Nat.{ℕ}
 use mathlib.Core.Path.{ap, sym, ◌∙◌}
-use borrow.Author.Rules.{rules}
 use Rattle.steps.proofs.values.value_ok.Goals as goal
 
 pub returns-then-sort-eq-MESSAGE_SORT : goal.returns-then-sort-eq-MESSAGE_SORT

@@ -1,18 +1,15 @@
 -- The invariant is that searching on from node j finds what searching all finds; the first bad node ends it.
-use borrow.Author.Rules.{rules}
-use Rattle.steps.specs.Values.Scan.{Rest, rest_all, rest_more, rest_bad, rest_none}
+use Rattle.steps.specs.Values.Scan.{Rest}
 use Rattle.canonical.specs.Contract.{form_room}
 use Rattle.steps.specs.Values.Tests.{node_values_ok}
-use Rattle.steps.specs.Table.Laws.{node_in}
 use Rattle.steps.specs.Table.{NodesIn}
 use Rattle.steps.specs.Nodes.{Node, no_node}
 use Rattle.protocol.specs.Protocol.{Protocol}
 use Rattle.lists.specs.Asks.{Promises₂}
-use Prim.Native.Nat.{◌-◌, ◌≤◌, ◌<◌}
+use Prim.Native.Nat.{◌-◌, ◌≤◌}
 use mathlib.Core.List.{List}
-use mathlib.Core.Path.{◌≡◌, sym, ◌∙◌}
-use lib.ListN.{length, get_or}
-use native.Mathlib.Omega.{arith}
+use mathlib.Core.Path.{◌≡◌}
+use lib.ListN.{length}
 use Rattle.steps.proofs.values.value_pass.Given as goal
 
 abbrev pub invariant-loop-j : goal.invariant-loop-j

@@ -1,17 +1,13 @@
 -- The invariant is that sorts and values from v on decide; each turn tests one value against its variable's sort.
 use borrow.Author.Rules.{rules}
-use Rattle.steps.specs.Values.Loops.{value_there, Left, left_all, left_more, left_bad, left_none}
+use Rattle.steps.specs.Values.Loops.{value_there, left_all, left_more, left_bad, left_none}
 use Rattle.steps.specs.Values.Code.{room_kept}
 use Rattle.steps.specs.Values.Parts.{no_term}
 use Rattle.steps.specs.Values.Tests.{value_ok}
 use Rattle.steps.specs.Table.Laws.{node_variables, node_sort}
-use Rattle.steps.specs.Table.{RowsFor, NodeIn}
-use Rattle.steps.specs.Nodes.{Node, most_nodes}
 use Rattle.prepared.specs.Prepared.Laws.{slots_length}
-use Rattle.protocol.specs.Protocol.{Protocol}
-use Rattle.protocol.specs.Figures.{most_variables}
-use Prim.Native.Nat.{ℕ, ◌+◌, ◌-◌, ◌≤◌, ◌<◌}
-use mathlib.Core.Path.{◌≡◌, ap, sym, ◌∙◌}
+use Prim.Native.Nat.{ℕ, ◌<◌}
+use mathlib.Core.Path.{ap, sym, ◌∙◌}
 use lib.ListN.{length, get_or}
 use native.Mathlib.Omega.{arith}
 use Rattle.steps.proofs.values.values_fit.Goals as goal

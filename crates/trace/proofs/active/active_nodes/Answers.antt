@@ -1,17 +1,9 @@
 -- The invariant is that `active` counts those of the first k nodes; a node has an action exactly if the next one's begin later.
 use borrow.Author.Rules.{rules}
 use native.Mathlib.Omega.{arith}
-use mathlib.Core.Logic.{⊎_elim}
-use lib.ListN.{length, take}
-use mathlib.Core.Path.{◌≡◌, refl, ◌∙◌}
-use mathlib.Core.List.{List}
-use Prim.Native.Nat.{◌+◌, ◌-◌, ◌≤◌, ◌<◌}
-use Rattle.steps.specs.Nodes.{Node}
-use Rattle.protocol.specs.Protocol.{Protocol}
-use Rattle.lists.specs.Lists.{count_by}
-use Rattle.lists.specs.Asks.{Promises₂}
-use Rattle.trace.specs.Tables.{Starts}
-use Rattle.trace.specs.Active.{is_active}
+use lib.ListN.{length}
+use mathlib.Core.Path.{refl, ◌∙◌}
+use Prim.Native.Nat.{◌+◌, ◌<◌}
 use Rattle.trace.specs.Active.Laws.{active_more, active_same, active_all}
 use Rattle.trace.proofs.active.active_nodes.Goals as goal
 use Rattle.trace.proofs.active.active_nodes.Goals.{then-starts-k, else-starts-k}
@@ -49,14 +41,14 @@ pub loop-k-preserved : goal.loop-k-preserved
 loop-k-preserved c = (
   omega arith,
   elim c.if-starts-k.branch [
-    then-starts-k w ↦ omega (arith, w.active-is, c.loop-k.invariant.1)
+    | then-starts-k w ↦ omega (arith, w.active-is, c.loop-k.invariant.1)
     | else-starts-k w ↦ omega (arith, w.active-is, c.loop-k.invariant.1)
   ],
   λ P xs b e.
       let l : c.loop-k.k < length xs = omega (arith, e, c.loop-k-test.true) in
       let o = c.loop-k.invariant.2 P xs b e in
       elim c.if-starts-k.branch [
-        then-starts-k w ↦ w.active-is ∙ active_more b c.loop-k.k l _ o w.if-starts-k.true
+        | then-starts-k w ↦ w.active-is ∙ active_more b c.loop-k.k l _ o w.if-starts-k.true
         | else-starts-k w ↦ w.active-is ∙ active_same b c.loop-k.k l _ o (omega (arith, w.if-starts-k.false))
       ],
 )

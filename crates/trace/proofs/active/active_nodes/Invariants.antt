@@ -1,18 +1,14 @@
 -- The invariant is that `active` counts those of the first k nodes; a node has an action exactly if the next one's begin later.
-use borrow.Author.Rules.{rules}
-use native.Mathlib.Omega.{arith}
-use mathlib.Core.Logic.{⊎_elim}
 use lib.ListN.{length, take}
-use mathlib.Core.Path.{◌≡◌, refl, ◌∙◌}
+use mathlib.Core.Path.{◌≡◌}
 use mathlib.Core.List.{List}
-use Prim.Native.Nat.{◌+◌, ◌-◌, ◌≤◌, ◌<◌}
+use Prim.Native.Nat.{◌-◌, ◌≤◌}
 use Rattle.steps.specs.Nodes.{Node}
 use Rattle.protocol.specs.Protocol.{Protocol}
 use Rattle.lists.specs.Lists.{count_by}
 use Rattle.lists.specs.Asks.{Promises₂}
 use Rattle.trace.specs.Tables.{Starts}
 use Rattle.trace.specs.Active.{is_active}
-use Rattle.trace.specs.Active.Laws.{active_more, active_same, active_all}
 use Rattle.trace.proofs.active.active_nodes.Given as goal
 
 abbrev pub invariant-loop-k : goal.invariant-loop-k

@@ -2,7 +2,6 @@
 use Rattle.trace.specs.Classes.Exact.{ready, classes_none}
 use Rattle.facts.specs.Owed.{room_kept, room_start}
 use native.Mathlib.Omega.{arith}
-use borrow.Author.Rules.{rules}
 use Rattle.trace.proofs.classes.class_arguments.Goals as goal
 
 pub returns-then-total-eq0 : goal.returns-then-total-eq0

@@ -4,7 +4,6 @@ use Rattle.trace.specs.Chains.{few_chains}
 use Rattle.trace.specs.Chains.Laws.{few_behind}
 use Rattle.lists.specs.Lists.Laws.{zeros_at}
 use native.Mathlib.Omega.{arith}
-use borrow.Author.Rules.{rules}
 use Rattle.trace.proofs.classes.class_few.Goals as goal
 
 pub class_places-requires : goal.class_places-requires

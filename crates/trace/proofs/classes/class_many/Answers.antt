@@ -5,7 +5,6 @@ use Rattle.trace.specs.Chains.{most_chains}
 use Rattle.trace.specs.Chains.Laws.{most_behind}
 use Rattle.lists.specs.Lists.Laws.{zeros_at}
 use native.Mathlib.Omega.{arith}
-use borrow.Author.Rules.{rules}
 use Rattle.trace.proofs.classes.class_many.Goals as goal
 
 pub class_places-requires : goal.class_places-requires

@@ -7,7 +7,6 @@ use Rattle.trace.specs.Tables.{base}
 use lib.ListN.{length, get_or}
 use lib.Seq.{lt-length-set}
 use native.Mathlib.Omega.{arith}
-use borrow.Author.Rules.{rules}
 use Rattle.trace.proofs.classes.class_place.Goals as goal
 
 pub offset_bounds-classes-q : goal.offset_bounds-classes-q

@@ -1,19 +1,13 @@
 -- The invariant is that the places below q are classed and the chains hold those that begin a class; each turn adds one.
-use borrow.Author.Rules.{rules}
-use native.Mathlib.Omega.{arith}
 use lib.ListN.{length}
-use mathlib.Core.Path.{◌≡◌, sym, subst}
+use mathlib.Core.Path.{◌≡◌}
 use mathlib.Core.List.{List}
-use Prim.Native.Nat.{ℕ, ◌+◌, ◌*◌, ◌-◌, ◌≤◌}
+use Prim.Native.Nat.{◌-◌, ◌≤◌}
 use Rattle.steps.specs.Nodes.{Node}
 use Rattle.lists.specs.Asks.{Promises₂}
 use Rattle.protocol.specs.Protocol.{Protocol}
-use Rattle.facts.specs.Owed.{room_kept}
-use Rattle.trace.specs.Chains.{HeadsBehind, Classed}
-use Rattle.trace.specs.Chains.Laws.{behind_less}
-use Rattle.trace.specs.Chains.Steps.{classed_none}
+use Rattle.trace.specs.Chains.{Classed}
 use Rattle.trace.specs.Classes.{Ready, key_at}
-use Rattle.trace.specs.Classes.Places.{ready_few, ready_classing}
 use Rattle.trace.proofs.classes.class_places.Given as goal
 
 abbrev pub invariant-loop-q : goal.invariant-loop-q

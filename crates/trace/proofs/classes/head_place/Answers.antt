@@ -1,7 +1,6 @@
 -- The test tells which of the two layouts the chains have.
 use mathlib.Core.Path.{sym}
 use Rattle.trace.specs.Chains.Laws.{chain_few, chain_many}
-use borrow.Author.Rules.{rules}
 use Rattle.trace.proofs.classes.head_place.Goals as goal
 
 pub returns-then-size-lt-CHAINS : goal.returns-then-size-lt-CHAINS

@@ -1,14 +1,8 @@
 -- The invariant is that the actions up to from + i are entered; each turn enters the code of one.
 use borrow.Author.Rules.{rules}
 use Rattle.trace.specs.Entries.Laws.{begun_node, begun_more, begun_first, inside, bounds, end_small, node_entered}
-use Rattle.trace.specs.Entries.{Begun, Entered}
-use Rattle.lists.specs.Asks.{Promises₃}
-use Rattle.protocol.specs.Protocol.{Protocol}
-use Rattle.steps.specs.Nodes.{Node, no_node}
-use Prim.Native.Nat.{ℕ, ◌+◌, ◌-◌, ◌≤◌}
-use mathlib.Core.List.{List}
-use mathlib.Core.Path.{◌≡◌}
-use lib.ListN.{length, get_or}
+use Rattle.steps.specs.Nodes.{no_node}
+use lib.ListN.{get_or}
 use native.Mathlib.Omega.{arith}
 use Rattle.trace.proofs.entries.enter_actions.Goals as goal
 

@@ -1,14 +1,6 @@
 -- The invariant is that the first k nodes are entered up to `from`, where the next node's actions begin.
 use borrow.Author.Rules.{rules}
 use Rattle.trace.specs.Entries.Laws.{entering_none, entering_begun, entering_room, entering_more, entering_all, from_small}
-use Rattle.trace.specs.Entries.{TableOf, Entering}
-use Rattle.lists.specs.Asks.{Promises₃}
-use Rattle.protocol.specs.Protocol.{Protocol}
-use Rattle.steps.specs.Nodes.{Node}
-use Prim.Native.Nat.{ℕ, ◌-◌, ◌≤◌}
-use mathlib.Core.List.{List}
-use mathlib.Core.Path.{◌≡◌}
-use lib.ListN.{length}
 use native.Mathlib.Omega.{arith}
 use Rattle.trace.proofs.entries.enter_nodes.Goals as goal
 

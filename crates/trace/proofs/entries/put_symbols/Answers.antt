@@ -1,15 +1,10 @@
 -- The invariant is that the first e places hold symbols and the others still their entries; each turn puts one symbol.
 use borrow.Author.Rules.{rules}
-use Rattle.trace.specs.Entries.Symbols.{KeptFrom, kept_all, kept_more, symbols_none, symbols_more, kept_listed, kept_symbol}
-use Rattle.trace.specs.Entries.{EntriesOf, SymbolsTo}
+use Rattle.trace.specs.Entries.Symbols.{kept_all, kept_more, symbols_none, symbols_more, kept_listed, kept_symbol}
+use Rattle.trace.specs.Entries.{SymbolsTo}
 use Rattle.facts.specs.Calls.Laws.{symbol_known}
-use Rattle.lists.specs.Asks.{Promises₃}
-use Rattle.protocol.specs.Protocol.{Protocol}
-use Rattle.steps.specs.Nodes.{Node}
-use Prim.Native.Nat.{ℕ, ◌-◌, ◌≤◌}
-use mathlib.Core.List.{List}
+use Prim.Native.Nat.{ℕ}
 use mathlib.Core.Path.{◌≡◌, subst}
-use lib.ListN.{length}
 use native.Mathlib.Omega.{arith}
 use Rattle.trace.proofs.entries.put_symbols.Goals as goal
 

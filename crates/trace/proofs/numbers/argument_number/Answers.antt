@@ -6,7 +6,6 @@ use Rattle.message.specs.Canon.{canon}
 use native.Mathlib.Omega.{arith}
 use mathlib.Core.Path.{sym}
 use lib.Seq.{length-take-le}
-use borrow.Author.Rules.{rules}
 use Rattle.trace.proofs.numbers.argument_number.Goals as goal
 
 pub slice_bounds-form_number-end : goal.slice_bounds-form_number-end

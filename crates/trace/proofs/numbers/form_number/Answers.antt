@@ -3,7 +3,6 @@ use native.Mathlib.Omega.{arith}
 use mathlib.Core.Path.{sym, refl}
 use Rattle.prepared.specs.Prepared.Laws.{slots_length}
 use Rattle.trace.specs.Numbers.Forms.{public_small, public_number_lem, fresh_number, no_number}
-use borrow.Author.Rules.{rules}
 use Rattle.trace.proofs.numbers.form_number.Goals as goal
 
 pub slice_bounds-name_at-end : goal.slice_bounds-name_at-end

@@ -1,18 +1,8 @@
 -- The invariant is that the first e actions are numbered; each turn numbers one action's places.
 use borrow.Author.Rules.{rules}
 use native.Mathlib.Omega.{arith}
-use lib.ListN.{length}
-use mathlib.Core.Path.{◌≡◌}
-use mathlib.Core.List.{List}
-use Prim.Native.Nat.{◌*◌, ◌-◌, ◌≤◌}
-use Rattle.steps.specs.Nodes.{Node}
-use Rattle.lists.specs.Asks.{Promises₂}
-use Rattle.protocol.specs.Protocol.{Protocol}
 use Rattle.facts.specs.Owed.{room_kept}
-use Rattle.trace.specs.Tables.{stride}
-use Rattle.trace.specs.Entries.{ListedAll}
 use Rattle.trace.specs.Entries.Laws.{total_few}
-use Rattle.trace.specs.Numbers.{NumberedTo}
 use Rattle.trace.specs.Numbers.Places.{numbered_none, numbered_at, listed_action}
 use Rattle.trace.proofs.numbers.number_actions.Goals as goal
 

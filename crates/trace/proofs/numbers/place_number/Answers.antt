@@ -1,7 +1,6 @@
 -- Below the count there is such an argument, and it is numbered; from there on the place is empty.
 use Rattle.trace.specs.Numbers.Places.{counted_one, argument_there, argument_missing}
 use native.Mathlib.Omega.{arith}
-use borrow.Author.Rules.{rules}
 use Rattle.trace.proofs.numbers.place_number.Goals as goal
 
 pub argument_number-requires : goal.argument_number-requires

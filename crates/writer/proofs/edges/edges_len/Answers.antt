@@ -1,7 +1,6 @@
 -- Four numbers are an edge, so the count's bytes and the numbers' are the edges' bytes.
 use Rattle.writer.specs.Edges.Laws.{number_short, edges_length}
 use native.Mathlib.Omega.{arith}
-use borrow.Author.Rules.{rules}
 use Rattle.writer.proofs.edges.edges_len.Goals as goal
 
 pub overflow_add-result : goal.overflow_add-result

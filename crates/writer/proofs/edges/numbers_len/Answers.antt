@@ -1,11 +1,10 @@
 -- The sum is the length of the first i numbers' bytes, at most five each.
 use Rattle.writer.specs.Edges.Laws.{length_more, number_short}
-use Rattle.writer.specs.Edges.{number_room, number_bytes}
-use Prim.Native.Nat.{ℕ, ◌+◌, ◌-◌, ◌*◌, ◌≤◌}
+use Rattle.writer.specs.Edges.{number_bytes}
+use Prim.Native.Nat.{ℕ, ◌+◌}
 use lib.ListN.{length}
 use mathlib.Core.Path.{◌≡◌, refl, ap, ◌∙◌}
 use native.Mathlib.Omega.{arith}
-use borrow.Author.Rules.{rules}
 use Rattle.writer.proofs.edges.numbers_len.Goals as goal
 
 pub loop-i-init : goal.loop-i-init

@@ -1,11 +1,8 @@
 -- The sum is the length of the first i numbers' bytes, at most five each.
-use Rattle.writer.specs.Edges.Laws.{length_more, number_short}
 use Rattle.writer.specs.Edges.{number_room, number_bytes}
-use Prim.Native.Nat.{ℕ, ◌+◌, ◌-◌, ◌*◌, ◌≤◌}
+use Prim.Native.Nat.{◌-◌, ◌*◌, ◌≤◌}
 use lib.ListN.{length}
-use mathlib.Core.Path.{◌≡◌, refl, ap, ◌∙◌}
-use native.Mathlib.Omega.{arith}
-use borrow.Author.Rules.{rules}
+use mathlib.Core.Path.{◌≡◌}
 use Rattle.writer.proofs.edges.numbers_len.Given as goal
 
 abbrev pub invariant-loop-i : goal.invariant-loop-i

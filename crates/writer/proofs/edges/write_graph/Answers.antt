@@ -1,6 +1,5 @@
 -- Three writes that meet are one: the steps, the count, the edges.
 use Rattle.writer.specs.Edges.Laws.{table_long, steps_room, count_room, numbers_room, graph_written}
-use borrow.Author.Rules.{rules}
 use Rattle.writer.proofs.edges.write_graph.Goals as goal
 
 pub copy_into-at-requires : goal.copy_into-at-requires

@@ -1,10 +1,6 @@
 -- What was written is the first i numbers' bytes, one behind the other.
-use Rattle.writer.specs.Edges.Laws.{Wrote, wrote_none, wrote_long, wrote_room, wrote_more, wrote_all}
-use Rattle.writer.specs.Edges.{number_bytes}
-use Prim.Native.Nat.{◌+◌, ◌-◌, ◌≤◌}
-use lib.ListN.{length}
+use Rattle.writer.specs.Edges.Laws.{wrote_none, wrote_long, wrote_room, wrote_more, wrote_all}
 use native.Mathlib.Omega.{arith}
-use borrow.Author.Rules.{rules}
 use Rattle.writer.proofs.edges.write_numbers.Goals as goal
 
 pub loop-i-init : goal.loop-i-init

@@ -1,10 +1,8 @@
 -- What was written is the first i numbers' bytes, one behind the other.
-use Rattle.writer.specs.Edges.Laws.{Wrote, wrote_none, wrote_long, wrote_room, wrote_more, wrote_all}
+use Rattle.writer.specs.Edges.Laws.{Wrote}
 use Rattle.writer.specs.Edges.{number_bytes}
 use Prim.Native.Nat.{◌+◌, ◌-◌, ◌≤◌}
 use lib.ListN.{length}
-use native.Mathlib.Omega.{arith}
-use borrow.Author.Rules.{rules}
 use Rattle.writer.proofs.edges.write_numbers.Given as goal
 
 abbrev pub invariant-loop-i : goal.invariant-loop-i

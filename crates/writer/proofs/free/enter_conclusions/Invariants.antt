@@ -1,18 +1,13 @@
 -- One conclusion a turn: the free ones are those before and the first i of this node, and the entries behind stay 0.
-use Rattle.writer.specs.Search.Laws.{Entering, mark_room, entering_none, entering_more, entering_all}
-use Rattle.writer.specs.Search.Laws.{conclusion_there, entry_bounds, node_small, count_is, inside}
+use Rattle.writer.specs.Search.Laws.{Entering}
 use Rattle.writer.specs.Search.{AtNode}
-use Rattle.facts.specs.Owed.{room_kept, room_start}
-use Rattle.steps.specs.Table.Laws.{node_in}
 use Rattle.steps.specs.Nodes.{Node}
 use Rattle.protocol.specs.Protocol.{Protocol}
 use Rattle.lists.specs.Asks.{Promises₂}
 use Prim.Native.Nat.{◌-◌, ◌≤◌}
-use lib.ListN.{length, length-set}
+use lib.ListN.{length}
 use mathlib.Core.List.{List}
 use mathlib.Core.Path.{◌≡◌}
-use native.Mathlib.Omega.{arith}
-use borrow.Author.Rules.{rules}
 use Rattle.writer.proofs.free.enter_conclusions.Given as goal
 
 abbrev pub invariant-loop-i : goal.invariant-loop-i

@@ -1,20 +1,15 @@
 -- The scan goes from mark to mark, and the kept fact stays; none before is the same: another mark is another fact, and the rest were compared.
-use borrow.Author.Rules.{rules}
-use Rattle.writer.specs.Search.Laws.{searched, search_end, mark_room, pass_to, fact_there, other_fact, found_here}
 use Rattle.writer.specs.Search.{Searching, is_same}
 use Rattle.writer.specs.Free.Laws.{NoneTo}
 use Rattle.writer.specs.Free.{entry_placed}
-use Rattle.facts.specs.Owed.{room_kept}
 use Rattle.facts.specs.declared.nodes.FactId.{FactId}
 use Rattle.steps.specs.Nodes.{Node}
-use Rattle.protocol.specs.Figures.{most_facts}
 use Rattle.protocol.specs.Protocol.{Protocol}
 use Rattle.lists.specs.Asks.{Promises₂}
-use Prim.Native.Nat.{◌-◌, ◌+◌, ◌*◌, ◌≤◌, ◌<◌}
+use Prim.Native.Nat.{◌-◌, ◌+◌, ◌≤◌, ◌<◌}
 use lib.ListN.{length, get_or, take}
-use native.Mathlib.Omega.{arith}
 use mathlib.Core.List.{List}
-use mathlib.Core.Path.{◌≡◌, refl, ◌∙◌, subst}
+use mathlib.Core.Path.{◌≡◌}
 use Rattle.writer.proofs.free.find_source.Given as goal
 
 abbrev pub invariant-loop-v : goal.invariant-loop-v

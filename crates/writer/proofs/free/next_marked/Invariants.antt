@@ -1,8 +1,6 @@
 -- The invariant is that no entry between `from` and v has the number.
-use borrow.Author.Rules.{rules}
 use Prim.Native.Nat.{◌-◌}
-use native.Mathlib.Omega.{arith}
-use Rattle.lists.specs.Scan.{Scanning, scanning_begins, scanning_next, scanning_found, scanning_ends}
+use Rattle.lists.specs.Scan.{Scanning}
 use Rattle.writer.proofs.free.next_marked.Given as goal
 
 abbrev pub invariant-loop-v : goal.invariant-loop-v

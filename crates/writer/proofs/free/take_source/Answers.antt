@@ -3,7 +3,6 @@ use Rattle.lists.specs.Choice.{pick}
 use lib.ListN.{set}
 use mathlib.Core.Path.{ap, sym, ◌∙◌}
 use mathlib.Core.Bool.{Bool}
-use borrow.Author.Rules.{rules}
 use Rattle.writer.proofs.free.take_source.Goals as goal
 
 pub returns-then-is_linear : goal.returns-then-is_linear

@@ -5,7 +5,6 @@ use Rattle.steps.specs.Nodes.{most_nodes}
 use Rattle.protocol.specs.Figures.{most_facts}
 use Rattle.lists.specs.Lists.Laws.{zeros_at}
 use native.Mathlib.Omega.{arith}
-use borrow.Author.Rules.{rules}
 use Rattle.writer.proofs.sources.choose_sources.Goals as goal
 
 pub choose_with-requires : goal.choose_with-requires

@@ -3,16 +3,10 @@ use borrow.Author.Rules.{rules}
 use native.Mathlib.Omega.{arith}
 use mathlib.Core.Path.{◌≡◌, ap, ◌∙◌, subst}
 use Rattle.rewriting.specs.Table.{refused}
-use mathlib.Core.List.{List}
-use lib.ListN.{length}
-use Prim.Native.Nat.{ℕ, suc, ◌+◌, ◌-◌, ◌≤◌}
+use Prim.Native.Nat.{ℕ, suc, ◌+◌}
 use Rattle.lists.specs.Choice.{clash}
-use Rattle.lists.specs.Asks.{Promises₂}
-use Rattle.protocol.specs.Protocol.{Protocol}
-use Rattle.steps.specs.Nodes.{Node}
-use Rattle.steps.specs.Causes.Good.{RightNodes}
 use Rattle.facts.specs.Owed.{room_kept}
-use Rattle.writer.specs.Sources.{Choosing, Chosen}
+use Rattle.writer.specs.Sources.{Chosen}
 use Rattle.writer.specs.Sources.Laws.{none_chosen, node_begun, node_entered, node_left, all_chosen}
 use Rattle.writer.proofs.sources.choose_with.Goals as goal
 

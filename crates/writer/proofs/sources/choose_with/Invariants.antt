@@ -1,19 +1,13 @@
 -- One node a turn: the edges so far and what follows from node k on make up the whole, with the conclusions before k in the table.
-use borrow.Author.Rules.{rules}
-use native.Mathlib.Omega.{arith}
-use mathlib.Core.Path.{◌≡◌, ap, ◌∙◌, subst}
-use Rattle.rewriting.specs.Table.{refused}
+use mathlib.Core.Path.{◌≡◌}
 use mathlib.Core.List.{List}
 use lib.ListN.{length}
-use Prim.Native.Nat.{ℕ, suc, ◌+◌, ◌-◌, ◌≤◌}
-use Rattle.lists.specs.Choice.{clash}
+use Prim.Native.Nat.{◌-◌, ◌≤◌}
 use Rattle.lists.specs.Asks.{Promises₂}
 use Rattle.protocol.specs.Protocol.{Protocol}
 use Rattle.steps.specs.Nodes.{Node}
 use Rattle.steps.specs.Causes.Good.{RightNodes}
-use Rattle.facts.specs.Owed.{room_kept}
-use Rattle.writer.specs.Sources.{Choosing, Chosen}
-use Rattle.writer.specs.Sources.Laws.{none_chosen, node_begun, node_entered, node_left, all_chosen}
+use Rattle.writer.specs.Sources.{Choosing}
 use Rattle.writer.proofs.sources.choose_with.Given as goal
 
 abbrev pub invariant-loop-k : goal.invariant-loop-k

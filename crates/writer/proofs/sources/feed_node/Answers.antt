@@ -1,15 +1,9 @@
 -- One premise a turn: the edges so far and what follows from premise i on make up the whole.
 use Rattle.writer.specs.Sources.Laws.{feeding_as, at_premise, node_done, edges_small}
-use Rattle.writer.specs.Sources.{Feeding}
 use Rattle.facts.specs.Owed.{room_kept}
 use Rattle.steps.specs.Table.Laws.{node_in}
-use Rattle.steps.specs.Nodes.{Node}
-use Rattle.protocol.specs.Protocol.{Protocol}
-use Rattle.lists.specs.Asks.{Promises₂}
 use Rattle.lists.specs.Choice.{clash}
-use Prim.Native.Nat.{◌+◌, ◌-◌, ◌≤◌}
-use lib.ListN.{length}
-use mathlib.Core.List.{List}
+use Prim.Native.Nat.{◌+◌}
 use mathlib.Core.Path.{◌≡◌}
 use native.Mathlib.Omega.{arith}
 use borrow.Author.Rules.{rules}

@@ -7,7 +7,6 @@ use Rattle.facts.specs.Owed.{room_kept, room_start}
 use Rattle.facts.specs.Calls.Laws.{fact_listed}
 use Rattle.writer.specs.Search.Laws.{found_at, found_nothing}
 use Rattle.writer.specs.Sources.Laws.{premise_there, premise_bounds, premise_search, premise_unfed, premise_fed, source_bounds, source_inside}
-use borrow.Author.Rules.{rules}
 use Rattle.writer.proofs.sources.feed_premise.Goals as goal
 
 pub keep_fact-kept-requires : goal.keep_fact-kept-requires

@@ -1,7 +1,6 @@
 -- Four stores, none of which touches another's number.
 use Rattle.writer.specs.Sources.Laws.{long_one, long_two, long_three, four_put, put_as}
 use native.Mathlib.Omega.{arith}
-use borrow.Author.Rules.{rules}
 use Rattle.writer.proofs.sources.put_edge.Goals as goal
 
 pub bounds-edges-from-2 : goal.bounds-edges-from-2
