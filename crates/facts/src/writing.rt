@@ -12,7 +12,7 @@ use prepared::{finding, sections};
 pub const FACT_ROOM: usize = (protocol::figures::MOST_FACT_ARITY + 1) * term::TERM_ROOM;
 
 // What is written of a fact: the canonical forms of all arguments, or of the one of a number, from 0; or all arguments as they stand.
-#[derive(Drop)]
+#[derive(Clone, Copy)]
 pub enum Wanted {
     All,
     One(usize),
