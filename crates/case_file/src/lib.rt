@@ -4,7 +4,7 @@
 // property are the length of its file, its file, and a step list. A length is two bytes, low byte first.
 #![tactic(auto)]
 
-ghost use Rattle.std.specs.Prelude.{◌≤◌, ◌<◌, ◌+◌, length, IfOk};
+ghost use Rattle.std.specs.Prelude.{◌≡◌, ◌≤◌, ◌<◌, ◌+◌, length, IfOk, OnErr};
 ghost use Rattle.case_file.specs.Case.{byte, length_bytes, room, Inside, Behind, CaseAt};
 
 use std::io;
@@ -165,9 +165,10 @@ fn read_full(from: &mut impl Read, s: &mut [u8; ROOM]) -> io::Result<usize>
     Ok(done)
 }
 
-// Reads standard input, and gives its first case. The one error is that of a read or a write; it leaves the bytes read so far.
+// Reads standard input, and gives its first case. The one error is that of a read or a write; it leaves the buffer with the bytes read so far.
 pub fn first(rt: &(impl Input + Print), s: &mut [u8; ROOM]) -> io::Result<Case>
-    ensures { IfOk result (λ c. CaseAt 0 c) }
+    ensures begun { IfOk result (λ c. CaseAt 0 c) }
+    ensures left { OnErr result (length s.new ≡ room) }
 {
     let n = read_full(&mut rt.reader(), s)?;
     case_at(rt, s, 1, 0, n)
