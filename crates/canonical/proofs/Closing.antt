@@ -4,7 +4,7 @@ use mathlib.Core.List.{List}
 use mathlib.Core.Path.{◌≡◌, refl, ap, sym, ◌∙◌, subst}
 use mathlib.Core.Logic.{◌≢◌}
 use mathlib.Core.Bool.{true, false}
-use mathlib.Core.Option.{some}
+use Rattle.std.proofs.Common.{Some}
 use native.Mathlib.Omega.{arith}
 use Rattle.term.specs.Sizes.{term_room}
 use Rattle.term.specs.Tags.{exp_tag, one_tag, inv_tag, mul_tag}
@@ -64,7 +64,7 @@ module _ (arities out : List ℕ) (o e : ℕ) where
 
   exp_of : (us : Terms) → Built arities out o e exp_tag us → Exp us
   exp_of us b =
-      let n : some (count us) ≡ some 2 = sym b.here.formed.0 ∙ (group arities b.table).exp_arity in
+      let n : Some (count us) ≡ Some 2 = sym b.here.formed.0 ∙ (group arities b.table).exp_arity in
       let w = two_args us (cc) in
       record { x = w.0; y = w.1; is = w.2; built = subst (Built arities out o e exp_tag) w.2 b }
 

@@ -4,7 +4,7 @@ use mathlib.Core.List.{List, [], ◌++◌, append_assoc}
 use mathlib.Core.Path.{◌≡◌, refl, ap, ap₂, sym, ◌∙◌, subst}
 use mathlib.Core.Logic.{◌≢◌, ◌⊎◌, inl, inr, ⊎_elim}
 use mathlib.Core.Bool.{Bool, true, false, cond}
-use mathlib.Core.Option.{some}
+use Rattle.std.proofs.Common.{Some}
 use native.Mathlib.Omega.{arith}
 use lib.Dec.{eqb}
 use lib.ListN.{length, drop, get_or, set, length-set, length-append}
@@ -164,7 +164,7 @@ module _ (arities out : List ℕ) (e : ℕ) (patterns : List ℕ) (i at : ℕ) (
         → Further arities out e patterns at from to (i + 1) (at + 1) from to (app f qs & ps) (app f us & ts) θ
     same_function f qs ps us ts θ L =
         let small : f < 128 = L.shaped.0.1 in
-        let k : some (count us) ≡ some (count qs) = sym L.argument.formed.0.0 ∙ L.pattern.formed.0.0 in
+        let k : Some (count us) ≡ Some (count qs) = sym L.argument.formed.0.0 ∙ L.pattern.formed.0.0 in
         let c : count us ≡ count qs = cc in
         record {
           ps' = also qs ps;
@@ -480,14 +480,14 @@ module _ (arities out : List ℕ) (e : ℕ) (patterns : List ℕ) (at₀ : ℕ) 
     pub walked_done : length patterns ≤ i → Promises₃ (Left arities out e patterns 0 at₀ from₀ to₀) (Fits arities out at₀ to₀ from to true)
     walked_done z ps ts θ L = go (W ps ts θ L)
       where
-        none : (ps' ts' : Terms) (θ' : ℕ → Term) → Left arities out e patterns i at from to ps' ts' θ' → (ps' ≡ nil) × (ts' ≡ nil)
-        none nil nil θ' M = (refl, refl)
-        none nil (t & ts) θ' M = absurd (omega (arith, M.many))
-        none (p & ps) ts θ' M = absurd (omega (arith, M.pattern_ends, encode_some p, length-append (encode p) (encodes ps)))
+        None : (ps' ts' : Terms) (θ' : ℕ → Term) → Left arities out e patterns i at from to ps' ts' θ' → (ps' ≡ nil) × (ts' ≡ nil)
+        None nil nil θ' M = (refl, refl)
+        None nil (t & ts) θ' M = absurd (omega (arith, M.many))
+        None (p & ps) ts θ' M = absurd (omega (arith, M.pattern_ends, encode_some p, length-append (encode p) (encodes ps)))
 
         go : Further arities out e patterns at₀ from₀ to₀ i at from to ps ts θ → Solution arities out at₀ to₀ from to ps ts θ
         go w =
-            let n = none w.ps' w.ts' w.θ' w.left in
+            let n = None w.ps' w.ts' w.θ' w.left in
             let met : (v : ℕ) → Occurss variable v ps → 0 < get_or to v 0 =
             λ v o. ⊎_elim (λ p. absurd (rw n.0 at p)) (λ p. p) (w.seen v (inl o)) in
             record {

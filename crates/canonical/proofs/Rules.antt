@@ -4,7 +4,7 @@ use mathlib.Core.List.{List, [], ◌∷◌, ◌++◌, append-nil}
 use mathlib.Core.Path.{◌≡◌, refl, ap, sym, ◌∙◌, subst}
 use mathlib.Core.Logic.{◌≢◌, ⊎_elim}
 use mathlib.Core.Bool.{Bool, true, false}
-use mathlib.Core.Option.{some}
+use Rattle.std.proofs.Common.{Some}
 use native.Mathlib.Omega.{arith}
 use lib.ListN.{length, get_or, replicate, length-append}
 use Rattle.lists.specs.Asks.{Asks, Asks₂, Asks₃, Promises, Promises₂, Promises₃}
@@ -151,7 +151,7 @@ module _ (arities out : List ℕ) (o e : ℕ) (patterns result : List ℕ) where
       let args : Terms = r.rule.args in
       let l = ap length (groups_one f r.small) in
       let q : o + length (groups f) ≡ o + 1 = omega (arith, l) in
-      let k : some (count us) ≡ some (count args) = sym b.here.formed.0 ∙ r.takes in
+      let k : Some (count us) ≡ Some (count args) = sym b.here.formed.0 ∙ r.takes in
       let O : OneAt arities out o e (app f us) = record { formed = b.here.formed; range = b.here.range; there = b.here.stands } in
       record {
         shaped = r.shaped;
@@ -214,7 +214,7 @@ module _ (arities out : List ℕ) (o e : ℕ) (patterns result : List ℕ) where
             let w = here_within (S.η n) H in
             let low : o ≤ get_or from' n 0 = ⊎_elim (λ l. omega (arith, l)) (λ l. absurd (omega (arith, zeros 2 n, l))) (S.lies n i) in
             a_value n g (patterns_occurs n R.row.rule.args R.row.shaped i) low (omega (arith, w.0)) w.1 H.stands
-        go _ g (message.a_constant {f = f} s ord none ar) b =
+        go _ g (message.a_constant {f = f} s ord None ar) b =
             let l = (group arities R.built.table).no_leaf f 0 ar in
             a_constant f g (omega (arith, l)) (omega arith) (sym g) (place_fits arities out o e _ (us, R.built)).0
 

@@ -1,6 +1,6 @@
 -- A rule's patterns against the arguments of a function, symbol by symbol: what is left of both, and where the values of the variables stand.
 use Rattle.std.specs.Prelude.{ℕ, ◌+◌, ◌≤◌, ◌<◌, List, ◌≡◌, ◌⊎◌, Bool, true, false, length, get_or}
-use Rattle.std.proofs.Math.Option.{some}
+use Rattle.std.specs.Prelude.{Some}
 use Rattle.octets.specs.Limits.{longest}
 use Rattle.octets.specs.Head.{Stands}
 use Rattle.term.specs.Tags.{first_function}
@@ -91,9 +91,9 @@ pub data Given (out : List ℕ) (o : ℕ) (result from to : List ℕ) (q : List 
 -- the rule of tag f: the patterns of its arguments and its result
 pub record Row (arities : List ℕ) (f : ℕ) (patterns result : List ℕ) : Type 0 where
   pub rule : Rule
-  pub is : rules f ≡ some rule
+  pub is : rules f ≡ Some rule
   pub small : f < base
-  pub takes : arity arities f ≡ some (count rule.args)
+  pub takes : arity arities f ≡ Some (count rule.args)
   pub shaped : Patterns rule.args
   pub formed : Formeds (arity arities) rule.args
   pub args : patterns ≡ encodes rule.args

@@ -2,7 +2,7 @@
 -- numbers. The claims are made over the twelve equations and the words of the canonical form.
 use Rattle.std.specs.Prelude.{ℕ, ◌≤◌, ◌≡◌, ◌≢◌, List, pos, negsuc}
 use Rattle.std.proofs.Math.Path.{refl}
-use Rattle.std.proofs.Math.Option.{Option}
+use Rattle.std.specs.Prelude.{Option}
 use Rattle.std.proofs.Common.{arith}
 use Rattle.lists.specs.Choice.{clash}
 use Rattle.number.specs.Groups.{groups, groups_in}

@@ -1,6 +1,6 @@
 -- The files of the calls: their byte limits, their items, and what reading them rules, once for every call.
 use Rattle.std.specs.Prelude.{ℕ, ◌<◌, List, [], ◌∷◌, ◌++◌, not, ◌&&◌, ◌≡◌, length, eqb}
-use Rattle.std.proofs.Math.Option.{some}
+use Rattle.std.specs.Prelude.{Some}
 use Rattle.term.specs.Sizes.{most_symbols}
 use Rattle.lists.specs.Choice.{pick}
 use Rattle.lists.specs.Lists.{nth}
@@ -55,7 +55,7 @@ fit_ruling p = ruling_of (least_pass 4 (λ k r. fits r) p.rules ∷ []) p
 -- "P1 to P4 broken", 4, "rule, from 1"; document 02: "refusal 4 covers" the fifth condition too
 pub record Unfit (rules : List Rule) (k : ℕ) : Type 0 where
   pub which : Rule
-  pub stands : nth rules k ≡ some which
+  pub stands : nth rules k ≡ Some which
   pub not_fit : ¬ conditions.Fit which
 
 abbrev pub fit_rows : Protocol → List Row

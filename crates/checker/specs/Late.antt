@@ -1,6 +1,6 @@
 -- The work area is all zeros after every answer that is no refusal 1.
 use Rattle.std.specs.Prelude.{ℕ, List, [], ◌∷◌, Bool, ◌≡◌, refl, length, replicate}
-use Rattle.std.proofs.Math.Option.{Option, some, none}
+use Rattle.std.specs.Prelude.{Option, Some, None}
 use Rattle.std.proofs.Common.{ap, arith, ne_eqb}
 use Rattle.lists.specs.Choice.{pick}
 use Rattle.number.specs.Reading.{Read, got, fault}
@@ -21,8 +21,8 @@ late_then (passed a) f l h = h a
 late_then (refused n k) f l h = l
 
 pub late_refuse : {A : Type 0} (n : ℕ) (o : Option ℕ) (r : Ruling A) → (n ≡ 1 → ⊥) → Late r → Late (or_refuse n o r)
-late_refuse n none r h l = l
-late_refuse n (some k) r h l = h
+late_refuse n None r h l = l
+late_refuse n (Some k) r h l = h
 
 pub late_pass : {A : Type 0} (p : Pass) (ps : List Pass) (r : Ruling A) → (p.cause.number ≡ 1 → ⊥) → Late (ruling_then ps r) → Late (ruling_then (p ∷ ps) r)
 late_pass p ps r h l = late_refuse p.cause.number p.found (ruling_then ps r) h l

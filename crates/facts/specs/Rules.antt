@@ -1,6 +1,6 @@
 -- The facts of a node's rule as the code finds them: how many a list has, where each stands, its symbol.
 use Rattle.std.specs.Prelude.{ℕ, ◌<◌, List, [], map, ◌≡◌, refl, length, get_or}
-use Rattle.std.proofs.Math.Option.{some}
+use Rattle.std.specs.Prelude.{Some}
 use Rattle.std.proofs.Common.{ap, sym, ◌∙◌, arith}
 use Rattle.std.proofs.lemmas.List.{length-map}
 use Rattle.std.proofs.Math.ListN.{get_or-eq_default}
@@ -22,7 +22,7 @@ use Rattle.steps.specs.Table.Laws.{node_rule_of, of_list, of_fact, of_three}
 use Rattle.steps.specs.Values.Parts.{facts_many, fact_there}
 
 -- ── a node's facts are its rule's, filled in ──
-module _ (P : Protocol) (x : Node) (u : Rule) (known : rule_of P x.rule ≡ some u) (list : ℕ) where
+module _ (P : Protocol) (x : Node) (u : Rule) (known : rule_of P x.rule ≡ Some u) (list : ℕ) where
   facts_are : facts_of P list x ≡ map (filled_fact x.values) (list_of list u)
   facts_are = ap (filled_list list x.values) known
 

@@ -1,8 +1,8 @@
 -- The ends of edges in the nodes: whether they are there, by number.
 use Rattle.std.specs.Prelude.{ℕ, zero, suc, ◌-◌, ◌≤◌, ◌<◌, List, [], ◌∷◌, Bool, false, ◌&&◌, ◌≡◌, refl, leb, ltb, length, get_or}
-use Rattle.std.proofs.Math.Option.{Option, none, some}
+use Rattle.std.specs.Prelude.{Option, Some, None}
 use Rattle.std.proofs.Common.{ap, ap₂, sym, ◌∙◌, arith}
-use Rattle.std.proofs.Math.ListN.{get_elem?}
+use Rattle.std.specs.Prelude.{slice_get}
 use Rattle.lists.specs.Lists.{nth}
 use Rattle.lists.specs.Lists.Laws.{at_inside, at_outside}
 use Rattle.lists.specs.Tests.{by_bool, leb_le, leb_gt}
@@ -18,8 +18,8 @@ use Rattle.graph.specs.Graph.{place_of, edge_of}
 
 module _ (p : Protocol) (list : ℕ) where
   abbrev pub fact_in : Option Node → ℕ → Option Fact
-  fact_in none i = none
-  fact_in (some x) i = nth (facts_of p list x) i
+  fact_in None i = None
+  fact_in (Some x) i = nth (facts_of p list x) i
 
   -- node `node` has fact `index` in the list, both from 1
   abbrev pub has_fact : List Node → Place → Bool
@@ -27,7 +27,7 @@ module _ (p : Protocol) (list : ℕ) where
 
   -- ── one part of a node as crate rewriting sees it is one of its lists ──
   module _ (facts : graph.Node Fact → List Fact) (same : (x : Node) → facts (rewritten p x) ≡ facts_of p list x) (i : ℕ) where
-    at_part : (xs : List Node) (j : ℕ) → in_node facts i (get_elem? (rewrittens p xs) j) ≡ fact_in (get_elem? xs j) i
+    at_part : (xs : List Node) (j : ℕ) → in_node facts i (slice_get (rewrittens p xs) j) ≡ fact_in (slice_get xs j) i
     at_part [] j = refl
     at_part (x ∷ xs) zero = ap (λ (l : List Fact). nth l i) (same x)
     at_part (x ∷ xs) (suc j) = at_part xs j
@@ -52,8 +52,8 @@ module _ (p : Protocol) (list : ℕ) where
     no_index h = go (nth xs node) ∙ ap (λ (i : ℕ). is_some (fact_in (nth xs node) i)) (sym h)
       where
         go : (o : Option Node) → false ≡ is_some (fact_in o 0)
-        go none = refl
-        go (some x) = refl
+        go None = refl
+        go (Some x) = refl
 
     pub index_there :
         (count : ℕ) → (node ≡ 0 → ⊥) → node ≤ length xs → (index ≡ 0 → ⊥) → count ≡ length (facts_of p list (get_or xs (node - 1) no_node))
@@ -61,7 +61,7 @@ module _ (p : Protocol) (list : ℕ) where
     index_there count some-node inside some-index is = ap (leb index) is ∙ go node index some-node inside some-index
       where
         -- a number from 1 is there just where it is at most the length
-        there : (fs : List Fact) (i : ℕ) → leb (suc i) (length fs) ≡ is_some (get_elem? fs i)
+        there : (fs : List Fact) (i : ℕ) → leb (suc i) (length fs) ≡ is_some (slice_get fs i)
         there fs i =
             by_bool (leb (suc i) (length fs))
             (λ t. t ∙ sym (ap is_some (at_inside no_fact fs i (leb_le (suc i) (length fs) t))))

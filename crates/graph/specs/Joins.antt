@@ -1,6 +1,6 @@
 -- The two facts of an edge whose ends are there.
 use Rattle.std.specs.Prelude.{ℕ, ◌+◌, ◌*◌, ◌-◌, ◌≤◌, ◌<◌, List, Bool, true, false, ◌&&◌, ◌≡◌, refl, ltb, length, get_or}
-use Rattle.std.proofs.Math.Option.{Option, none, some}
+use Rattle.std.specs.Prelude.{Option, Some, None}
 use Rattle.std.proofs.Common.{ap, ap₂, sym, ◌∙◌, subst, subst₂, arith}
 use Rattle.lists.specs.Tests.{true_false, and_split}
 use Rattle.lists.specs.All.Laws.{all_inside}
@@ -39,16 +39,16 @@ abbrev pub EndedOf : List ℕ → List ℕ → ℕ → List ℕ → ℕ → List
 EndedOf p nodes n edges m s = EndedIn p s nodes n edges m
 
 -- ── an end that is there is a fact of a right node ──
-is_some_lem : {A : Type 0} (o : Option A) → is_some o ≡ true → (a : A) × (o ≡ some a)
-is_some_lem none h = true_false false h refl
-is_some_lem (some a) h = (a, refl)
+is_some_lem : {A : Type 0} (o : Option A) → is_some o ≡ true → (a : A) × (o ≡ Some a)
+is_some_lem None h = true_false false h refl
+is_some_lem (Some a) h = (a, refl)
 
 -- the place is that of a fact, by its numbers from 0
 pub record Ended (P : Protocol) (xs : List Node) (list : ℕ) (a : Place) (o : Option Fact) : Type 0 where
   pub fact : Fact
   pub node : ℕ
   pub number : ℕ
-  pub there : o ≡ some fact
+  pub there : o ≡ Some fact
   pub is : Numbered P xs list a fact node number
 
 module _ {p s nodes : List ℕ} {P : Protocol} {xs : List Node} (right : RightNodes p s nodes (length xs) P xs) where

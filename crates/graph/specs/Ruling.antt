@@ -1,6 +1,6 @@
 -- What the code answers of a graph file.
 use Rattle.std.specs.Prelude.{ℕ, List, ◌≡◌, refl, length}
-use Rattle.std.proofs.Math.Option.{Option, none, some}
+use Rattle.std.specs.Prelude.{Option, Some, None}
 use Rattle.std.proofs.Math.Path.{ap, sym, subst}
 use Rattle.std.proofs.Common.{ap₂, ◌∙◌, arith}
 use Rattle.lists.specs.All.{All}
@@ -70,16 +70,16 @@ module _ {A B : Type 0} (n : ℕ) where
   pub refused_first :
       (o : Option ℕ) (q : Ruling A) (r : Ruling B) (i k : ℕ) → (q ≡ refused i k → r ≡ refused i k) → or_refuse n o q ≡ refused i k
       → or_refuse n o r ≡ refused i k
-  refused_first none q r i k f h = f h
-  refused_first (some j) q r i k f h =
+  refused_first None q r i k f h = f h
+  refused_first (Some j) q r i k f h =
       let a : n ≡ i = cc in
       let b : j ≡ k = cc in
       ap₂ (λ (x y : ℕ). refused x y) a b
 
   passed_first :
       (o : Option ℕ) (q : Ruling A) (r t : Ruling B) (y : A) → (q ≡ passed y → t ≡ r) → or_refuse n o q ≡ passed y → t ≡ or_refuse n o r
-  passed_first none q r t y f h = f h
-  passed_first (some j) q r t y f h = absurd (refused_passed n j y h)
+  passed_first None q r t y f h = f h
+  passed_first (Some j) q r t y f h = absurd (refused_passed n j y h)
 
 pub counted_refused : (q : Ruling (List Node)) (a b : ℕ) → refused a b ≡ counted q → q ≡ refused a b
 counted_refused (passed ys) a b h = absurd (refused_passed a b (length ys) h)
@@ -126,7 +126,7 @@ module _ (P : Protocol) (g : Graph) (r : NodesRuling) (told : ruling_of r ≡ co
 -- ── 10 absent: the pass found none ──
 pub ended_in :
     {p s nodes : List ℕ} {n : ℕ} {edges : List ℕ} {m : ℕ} {P : Protocol} {g : Graph} → GraphIn p s nodes n edges m P g
-    → none ≡ first_bad (λ k e. ends_ok (protocol_facts P) (rewrittens P g.nodes) e) 1 g.edges → EndedIn p s nodes n edges m P g
+    → None ≡ first_bad (λ k e. ends_ok (protocol_facts P) (rewrittens P g.nodes) e) 1 g.edges → EndedIn p s nodes n edges m P g
 ended_in {P = P} {g} h found = record {
   graph_in = h;
   ended = λ j l. none_bad (ends_ok (protocol_facts P) (rewrittens P g.nodes)) no_edge g.edges (sym found) j (omega (arith, h.edges_in.count));

@@ -1,6 +1,7 @@
 -- A pass over the edges or the nodes by their numbers, from 0, as they stand in a table.
+use Rattle.lists.specs.Tests.{some_none}
 use Rattle.std.specs.Prelude.{ℕ, suc, ◌+◌, ◌≤◌, ◌<◌, List, Bool, true, false, ◌≡◌, length, get_or}
-use Rattle.std.proofs.Math.Option.{Option, none, some, some-ne-none}
+use Rattle.std.specs.Prelude.{Option, Some, None}
 use Rattle.std.proofs.Common.{ap, sym, ◌∙◌, arith}
 use Rattle.std.proofs.lemmas.List.{length-map}
 use Rattle.lists.specs.Lists.{first_bad}
@@ -45,14 +46,14 @@ module _ {A : Type 0} {d : A} {ys : List A} {n : ℕ} {item : ℕ → A} (listed
     pub scan_bad : b ≡ false → Rest ok d ys j → as_found (j + 1) ≡ first_bad ok 1 ys
     scan_bad f h = rest_bad ok d ys j (omega (arith, listed.count)) (tested ∙ f) h
 
-  pub scan_none : n ≤ j → Rest ok d ys j → none ≡ first_bad ok 1 ys
+  pub scan_none : n ≤ j → Rest ok d ys j → None ≡ first_bad ok 1 ys
   scan_none l h = rest_none ok d ys j (omega (arith, listed.count)) h
 
 -- where a pass finds none, each passes the test
-pub none_bad : {A : Type 0} (ok : A → Bool) (d : A) (ys : List A) → first_bad (λ k. ok) 1 ys ≡ none → (j : ℕ) → j < length ys → ok (get_or ys j d) ≡ true
+pub none_bad : {A : Type 0} (ok : A → Bool) (d : A) (ys : List A) → first_bad (λ k. ok) 1 ys ≡ None → (j : ℕ) → j < length ys → ok (get_or ys j d) ≡ true
 none_bad {A} ok d ys h j l =
     by_bool (ok (get_or ys j d)) (λ t. t) (λ f. absurd (found (first_bad (λ k. ok) 1 ys) (first_bad_lem (λ k. ok) ys) h f))
   where
-    found : (o : Option ℕ) → Finds (Fails (λ k. ok) ys) o → o ≡ none → ok (get_or ys j d) ≡ false → ⊥
-    found none nowhere e f = nowhere (suc j) (record { which = get_or ys j d; stands = at_inside d ys j l; is_false = f })
-    found (some k) least e f = some-ne-none k e
+    found : (o : Option ℕ) → Finds (Fails (λ k. ok) ys) o → o ≡ None → ok (get_or ys j d) ≡ false → ⊥
+    found None nowhere e f = nowhere (suc j) (record { which = get_or ys j d; stands = at_inside d ys j l; is_false = f })
+    found (Some k) least e f = some_none k e

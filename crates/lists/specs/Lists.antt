@@ -1,8 +1,8 @@
 -- Lists counted and searched by a Boolean test; elements by number, counted from 1.
 use Rattle.std.specs.Prelude.{Bool, true, false, cond, not, ◌&&◌, ◌||◌, ℕ, zero, suc, ◌+◌, take}
 use mathlib.Core.List.{List, [], ◌∷◌, Memᴰ}
-use Rattle.std.proofs.Math.Option.{Option, none, some}
-use Rattle.std.proofs.Math.ListN.{get_elem?}
+use Rattle.std.specs.Prelude.{Option, Some, None}
+use Rattle.std.specs.Prelude.{slice_get}
 -- What holds of each of these functions.
 pub mod Laws
 -- Two lists counted against each other.
@@ -36,8 +36,8 @@ module _ {A : Type 0} where
 
   -- The first element that passes the test.
   abbrev pub first_by : (A → Bool) → List A → Option A
-  first_by p [] = none
-  first_by p (x ∷ xs) = cond (p x) (some x) (first_by p xs)
+  first_by p [] = None
+  first_by p (x ∷ xs) = cond (p x) (Some x) (first_by p xs)
 
   -- The list without the first element that passes the test; the list itself where none does.
   abbrev pub remove_by : (A → Bool) → List A → List A
@@ -51,8 +51,8 @@ module _ {A : Type 0} where
 
   -- The element of a number, counted from 1.
   abbrev pub nth : List A → ℕ → Option A
-  nth l zero = none
-  nth l (suc i) = get_elem? l i
+  nth l zero = None
+  nth l (suc i) = slice_get l i
 
   -- The elements of smaller numbers.
   abbrev pub before : ℕ → List A → List A
@@ -73,8 +73,8 @@ module _ {S A : Type 0} where
 
   -- The number of the first element that is bad in the state that those before it leave; numbers start at `k`.
   abbrev pub scan : (ℕ → S → A → Bool) → (S → A → S) → ℕ → S → List A → Option ℕ
-  scan bad step k s [] = none
-  scan bad step k s (x ∷ xs) = cond (bad k s x) (some k) (scan bad step (suc k) (step s x) xs)
+  scan bad step k s [] = None
+  scan bad step k s (x ∷ xs) = cond (bad k s x) (Some k) (scan bad step (suc k) (step s x) xs)
 
 -- The number of the first element that fails a test.
 abbrev pub first_bad : {A : Type 0} → (ℕ → A → Bool) → ℕ → List A → Option ℕ

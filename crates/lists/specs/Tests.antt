@@ -1,7 +1,6 @@
 -- Booleans, options and numbers, case by case. Tests are equations, `b ≡ true` or `b ≡ false`.
-use Rattle.std.specs.Prelude.{◌≡◌, refl, ◌⊎◌, Bool, true, false, not, ◌&&◌, ◌||◌, ℕ, zero, suc, ◌+◌, ◌≤◌, ◌<◌, T, leb, eqb}
+use Rattle.std.specs.Prelude.{Option, Some, None, ◌≡◌, refl, ◌⊎◌, Bool, true, false, not, ◌&&◌, ◌||◌, ℕ, zero, suc, ◌+◌, ◌≤◌, ◌<◌, T, leb, eqb}
 use Rattle.std.proofs.Common.{sym, ◌∙◌, inl, inr, ⊎_elim, arith, leb→le, eqb→eq}
-use Rattle.std.proofs.Math.Option.{Option, none, some}
 use Rattle.std.proofs.Math.Dec.{nleb→lt, eqb_refl}
 use Rattle.lists.specs.Lists.{bit}
 
@@ -9,9 +8,12 @@ pub by_bool : {C : Type 0} (b : Bool) → (b ≡ true → C) → (b ≡ false �
 by_bool true t f = t refl
 by_bool false t f = f refl
 
-pub by_option : {A C : Type 0} (o : Option A) → (o ≡ none → C) → ((a : A) → o ≡ some a → C) → C
-by_option none n s = n refl
-by_option (some a) n s = s a refl
+pub by_option : {A C : Type 0} (o : Option A) → (o ≡ None → C) → ((a : A) → o ≡ Some a → C) → C
+by_option None n s = n refl
+by_option (Some a) n s = s a refl
+
+pub some_none : {A : Type 0} (x : A) → Some x ≡ None → ⊥
+some_none x h = cc
 
 pub true_false : {C : Type 0} (b : Bool) → b ≡ true → b ≡ false → C
 true_false b t f = absurd (let z : ◌≡◌ {A = ℕ} 0 1 = cc in omega arith)

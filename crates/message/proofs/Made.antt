@@ -2,7 +2,7 @@
 use Rattle.std.specs.Prelude.{ℕ, ◌≤◌, ◌≡◌, refl, ◌≢◌, length}
 use Rattle.std.proofs.Math.Path.{sym, ap}
 use Rattle.std.proofs.Common.{◌∙◌}
-use Rattle.std.proofs.Math.Option.{Option, some}
+use Rattle.std.proofs.Common.{Option, Some}
 use Rattle.term.specs.Tags.{one_tag, exp_tag, inv_tag, mul_tag}
 use Rattle.term.specs.Term.{Term, app, Terms, nil, ◌&◌, Formed, encode}
 use Rattle.message.specs.Substitution.{sub, subs}
@@ -18,8 +18,8 @@ use Rattle.message.proofs.Gather.Same.{same_term, same_exp}
 
 module _ (ar : ℕ → Option ℕ) (g : FitArities ar) where
   -- ── a function with a rule ──
-  module _ (f : ℕ) (r : Rule) (e : rules f ≡ some r) where
-    made_plain : (ts : Terms) → apply rules f ts ≡ reduce_at (some r) f ts
+  module _ (f : ℕ) (r : Rule) (e : rules f ≡ Some r) where
+    made_plain : (ts : Terms) → apply rules f ts ≡ reduce_at (Some r) f ts
     unfolding apply
     made_plain ts =
         ap (λ (k : Role). apply_at rules k f ts) (ordinary_role f (rows_fit ar g f r e).head)
@@ -34,7 +34,7 @@ module _ (ar : ℕ → Option ℕ) (g : FitArities ar) where
         go : (t : Term) → Plainly rules f ts t → t ≡ app f ts
         go t (stays n) = refl
         go t (reduces q d θ m) =
-            let s : some r ≡ some q = sym e ∙ d in
+            let s : Some r ≡ Some q = sym e ∙ d in
             let p : r ≡ q = cc in
             absurd (h θ (m ∙ ap (λ (z : Rule). subs θ z.args) (sym p)))
 

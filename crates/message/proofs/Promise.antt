@@ -1,7 +1,7 @@
 -- The promise of this crate is kept.
 use Rattle.std.specs.Prelude.{ℕ, ◌≡◌, refl, ◌↔◌, true, List, [], ◌∷◌}
 use Rattle.std.proofs.Common.{sym, ◌∙◌, ap}
-use Rattle.std.proofs.Math.Option.{Option}
+use Rattle.std.proofs.Common.{Option}
 use Rattle.lists.specs.Choice.{clash}
 use Rattle.octets.specs.Compare.{compare_bytes, is_equal}
 use Rattle.octets.specs.Compare.Laws.{compare_refl, compare_same}

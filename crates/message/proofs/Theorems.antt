@@ -1,7 +1,7 @@
 -- What the canonical form is: the theorems of this crate, for every arity of the tags that gives one, exp, inv, mul and true theirs.
 use Rattle.std.specs.Prelude.{ℕ, ◌≤◌, ◌≡◌, refl, ◌↔◌, List, length}
 use Rattle.std.proofs.Common.{ap, subst, arith}
-use Rattle.std.proofs.Math.Option.{Option}
+use Rattle.std.proofs.Common.{Option}
 use Rattle.term.specs.Term.{Term, Formed, InRange, encode, symbols}
 use Rattle.term.specs.Arity.{arity, tag_arities}
 use Rattle.term.specs.Arity.Laws.{no_leaf, signing_arity}

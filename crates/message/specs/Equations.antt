@@ -1,7 +1,7 @@
 -- "Equality is the least congruence of document 003, figure 2"; document 02, Change 4: "Message equality is from then on the congruence of all twelve
 -- equations". What a reader must believe of equality is in this file.
 use Rattle.std.specs.Prelude.{ℕ}
-use Rattle.std.proofs.Math.Option.{Option}
+use Rattle.std.specs.Prelude.{Option}
 use Rattle.term.specs.Term.{Term, app, Terms, nil, ◌&◌, Formed}
 use Rattle.message.specs.Functions.{one, enc, dec, pair, fst, snd, exp, inv, mul, aenc, adec, pk, sign, verify, yes}
 -- its laws

@@ -2,7 +2,7 @@
 -- its other files.
 use Rattle.std.specs.Prelude.{ℕ, suc, ◌≡◌, refl, ◌↔◌, Bool, true, List, [], ◌∷◌, length}
 use Rattle.std.proofs.Common.{sym, ◌∙◌, ap, ⊎_elim}
-use Rattle.std.proofs.Math.Option.{Option, some}
+use Rattle.std.specs.Prelude.{Option, Some}
 use Rattle.term.specs.Term.{public, fresh, Term, leaf, app, Terms, nil, ◌&◌, count, Formed, Formeds}
 use Rattle.message.specs.Equations.{Same}
 use Rattle.message.specs.Substitution.{Ground, Grounds}
@@ -52,9 +52,9 @@ module _ (ar : ℕ → Option ℕ) where
   terms_ground (m ∷ ms) = λ v. ⊎_elim (m.is_ground v) (terms_ground ms v)
 
   -- the function of tag f applied to as many messages as it takes
-  abbrev pub apply : (f : ℕ) (ms : List (Message ar)) → ar f ≡ some (length ms) → Message ar
+  abbrev pub apply : (f : ℕ) (ms : List (Message ar)) → ar f ≡ Some (length ms) → Message ar
   apply f ms e =
-      record { term = app f (terms ms); formed = (e ∙ ap some (sym (terms_count ms)), terms_formed ms); is_ground = terms_ground ms }
+      record { term = app f (terms ms); formed = (e ∙ ap Some (sym (terms_count ms)), terms_formed ms); is_ground = terms_ground ms }
 
 -- ── the promise ──
 pub record Promise (ar : ℕ → Option ℕ) : Type 0 where
@@ -67,7 +67,7 @@ pub record Promise (ar : ℕ → Option ℕ) : Type 0 where
   pub is_transitive : (m n k : Message ar) → SameMessage ar m n → SameMessage ar n k → SameMessage ar m k
   -- a congruence, of any arity
   pub is_congruent :
-      (f : ℕ) (ms ns : List (Message ar)) (d : ar f ≡ some (length ms)) (e : ar f ≡ some (length ns)) → SameMessages ar ms ns
+      (f : ℕ) (ms ns : List (Message ar)) (d : ar f ≡ Some (length ms)) (e : ar f ≡ Some (length ns)) → SameMessages ar ms ns
       → SameMessage ar (apply ar f ms d) (apply ar f ns e)
   -- names of different numbers differ, and no public name is a fresh one
   pub public_apart : (i j : ℕ) → SameMessage ar (public_name ar i) (public_name ar j) → i ≡ j

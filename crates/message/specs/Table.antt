@@ -1,6 +1,6 @@
 -- The table of subterm rules: figure 2's (1) to (3) and Change 4's two as rows. A later operator's equation is one more row.
 use Rattle.std.specs.Prelude.{ℕ, eqb}
-use Rattle.std.proofs.Math.Option.{Option, some}
+use Rattle.std.specs.Prelude.{Option, Some}
 use Rattle.term.specs.Tags.{dec_tag, fst_tag, snd_tag, adec_tag, verify_tag}
 use Rattle.lists.specs.Choice.{pick}
 use Rattle.term.specs.Term.{variable, Term, leaf, Terms, nil, ◌&◌}
@@ -15,7 +15,7 @@ pub data Table : Type 0 where
 -- the first row of a tag
 abbrev pub lookup : Table → ℕ → Option Rule
 lookup end f = Option.none
-lookup (row g ts u rows) f = pick (eqb f g) (some (record { args = ts; result = u })) (lookup rows f)
+lookup (row g ts u rows) f = pick (eqb f g) (Some (record { args = ts; result = u })) (lookup rows f)
 
 abbrev pub x : Term
 x = leaf variable 0

@@ -1,6 +1,6 @@
 -- Filling a prepared protocol: what is asked of the tables of a protocol file, and what each step leaves.
 use Rattle.std.specs.Prelude.{ℕ, ◌+◌, ◌≤◌, ◌<◌, List, ◌≡◌, length, get_or}
-use Rattle.std.proofs.Math.Option.{some, none}
+use Rattle.std.specs.Prelude.{Some, None}
 use Rattle.octets.specs.Head.{Bytes, Stands}
 use Rattle.number.specs.Reading.{got}
 use Rattle.protocol.specs.Protocol.{Rule, Protocol, fact_arities, fact_flags, encode_rule, protocol}
@@ -51,11 +51,11 @@ Lies p at q = (j : ℕ) → j < length q → get_or p (at + j) 0 ≡ get_or q j 
 module _ {arities places : List ℕ} {nr : ℕ} (f : Source arities places nr) (p : List ℕ) (n : ℕ) where
   pub data Row : Type 0 where
     written :
-        (u : Rule) → rule_of f.entries.is n ≡ some u → slot_of n < slot_of (n + 1) → place_at p n ≡ written_at (slot_of n) → length (encode_rule u) ≤ rule_room
+        (u : Rule) → rule_of f.entries.is n ≡ Some u → slot_of n < slot_of (n + 1) → place_at p n ≡ written_at (slot_of n) → length (encode_rule u) ≤ rule_room
         → Lies p (written_at (slot_of n)) (encode_rule u) → Row
-    in_file : (u : Rule) (k e : ℕ) → rule_of f.entries.is n ≡ some u → place_at p n ≡ file_at + k → k ≤ length f.file → Stands f.file k (encode_rule u) e
+    in_file : (u : Rule) (k e : ℕ) → rule_of f.entries.is n ≡ Some u → place_at p n ≡ file_at + k → k ≤ length f.file → Stands f.file k (encode_rule u) e
         → Row
-    missing : rule_of f.entries.is n ≡ none → place_at p n ≡ 0 → Row
+    missing : rule_of f.entries.is n ≡ None → place_at p n ≡ 0 → Row
 
 -- entering a number changes nothing before its two bytes, and of the rules written out none before its own
 pub record Kept (p p' : List ℕ) (n : ℕ) : Type 0 where

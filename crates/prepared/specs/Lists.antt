@@ -1,6 +1,6 @@
 -- The places of the lists of each rule and of their facts, in a table behind the body of a prepared protocol.
 use Rattle.std.specs.Prelude.{ℕ, ◌+◌, ◌*◌, ◌/◌, ◌%◌, ◌≤◌, ◌<◌, List, ◌≡◌, length}
-use Rattle.std.proofs.Math.Option.{some}
+use Rattle.std.specs.Prelude.{Some}
 use Rattle.protocol.specs.Figures.{list_count}
 use Rattle.lists.specs.Asks.{Asks}
 use Rattle.number.specs.Reading.{got}
@@ -57,7 +57,7 @@ pub record ListIn (p : List ℕ) (u : Rule) (k : ℕ) : Type 0 where
 
 -- the first k entries are right
 abbrev pub Listing : List ℕ → ℕ → Type 0
-Listing p k = (j : ℕ) → j < k → (P : Protocol) (u : Rule) → Body (body_of p) P → rule_of P (j / list_count) ≡ some u → ListIn p u j
+Listing p k = (j : ℕ) → j < k → (P : Protocol) (u : Rule) → Body (body_of p) P → rule_of P (j / list_count) ≡ Some u → ListIn p u j
 
 -- the first n rule numbers have their entries, if those before had, and the body stays
 pub record NumberEntered (p p' : List ℕ) (n : ℕ) : Type 0 where

@@ -1,6 +1,6 @@
 -- What a prepared protocol says of its protocol.
 use Rattle.std.specs.Prelude.{ℕ, ◌+◌, ◌*◌, ◌≤◌, ◌<◌, List, map, ◌≡◌, length, take, drop, eqb}
-use Rattle.std.proofs.Math.Option.{Option, some, none}
+use Rattle.std.specs.Prelude.{Option, Some, None}
 use Rattle.lists.specs.Choice.{pick}
 use Rattle.term.specs.Arity.{tag_arities, padded}
 use Rattle.protocol.specs.Protocol.{Fact, Rule, Own, Protocol, list_of, fact_arities, fact_flags, fact, facts, rule}
@@ -47,8 +47,8 @@ pub record Some (p : List ℕ) (u : Rule) (place : ℕ) : Type 0 where
   pub there : 0 < place
 
 abbrev pub Entry : List ℕ → ℕ → Option Rule → Type 0
-Entry p n (some u) = Some p u (place_at p n)
-Entry p n none = place_at p n ≡ 0
+Entry p n (Some u) = Some p u (place_at p n)
+Entry p n None = place_at p n ≡ 0
 
 -- all but the places of the rules' lists and of their facts
 pub record Body (p : List ℕ) (P : Protocol) : Type 0 where
@@ -90,6 +90,6 @@ fact_place_in p place i = fact_place p (slots_of p) (arities_of p) place i
 pub record Prepared (p : List ℕ) (P : Protocol) : Type 0 where
   pub long : length p ≡ prepared_length
   pub body : Body p P
-  pub lists : (n list : ℕ) (u : Rule) → n < rule_count → list < list_count → rule_of P n ≡ some u → ListAt p u list (list_entry p n list)
-  pub facts : (n list i : ℕ) (u : Rule) → n < rule_count → list < list_count → i < length (list_of list u) → rule_of P n ≡ some u
+  pub lists : (n list : ℕ) (u : Rule) → n < rule_count → list < list_count → rule_of P n ≡ Some u → ListAt p u list (list_entry p n list)
+  pub facts : (n list i : ℕ) (u : Rule) → n < rule_count → list < list_count → i < length (list_of list u) → rule_of P n ≡ Some u
       → fact_entry p n list i ≡ fact_place_in p (list_entry p n list) i

@@ -1,8 +1,8 @@
 -- "variable out of scope or of wrong sort, or new one not in its guard": what cause 5 asks of a formula, and a test of it. A scope is the
 -- sorts of the variables of the enclosing quantifiers, the outermost first.
 use Rattle.std.specs.Prelude.{ℕ, zero, suc, ◌+◌, Bool, true, false, ◌&&◌, List, [], ◌∷◌, ◌++◌, ◌≡◌, length, eqb}
-use Rattle.std.proofs.Math.Option.{some}
-use Rattle.std.proofs.Math.ListN.{get_elem?}
+use Rattle.std.specs.Prelude.{Some}
+use Rattle.std.specs.Prelude.{slice_get}
 use Rattle.lists.specs.Lists.{◌∈◌, any_by, all_by}
 use Rattle.lists.specs.All.{All}
 use Rattle.property.specs.Formula.{Sort, msg, tmp, Term, var, public, Pattern, Atom, equal, before, together, action, Formula}
@@ -13,7 +13,7 @@ pub mod Laws
 -- ── the statement ──
 -- the variable is in scope, and of that sort
 abbrev pub HasSort : List Sort → ℕ → Sort → Type 0
-HasSort scope x s = get_elem? scope x ≡ some s
+HasSort scope x s = slice_get scope x ≡ Some s
 
 -- a variable that stands for a message is of sort message
 abbrev pub TermFits : List Sort → Term → Type 0
@@ -37,7 +37,7 @@ InGuard g i x tmp = x ≡ i
 
 -- every new variable is; they are numbered from n on
 abbrev pub AllInGuard : ℕ → List Sort → Pattern → ℕ → Type 0
-AllInGuard n s g i = (k : ℕ) (t : Sort) → get_elem? s k ≡ some t → InGuard g i (n + k) t
+AllInGuard n s g i = (k : ℕ) (t : Sort) → slice_get s k ≡ Some t → InGuard g i (n + k) t
 
 abbrev pub IsFit : List Sort → Formula → Type 0
 IsFit scope absurdity = Unit {0}

@@ -1,7 +1,7 @@
 -- The truth of a property over document 01's messages: those of crate message's promise, under the declared arities of the free functions, and
 -- whole numbers as times.
 use Rattle.std.specs.Prelude.{ℕ, List, [], map}
-use Rattle.std.proofs.Math.Option.{Option}
+use Rattle.std.specs.Prelude.{Option}
 use Rattle.lists.specs.All.{All}
 use Rattle.lists.specs.All.Laws.{all_both}
 use Rattle.lists.specs.Reflects.{reflects_exactly}

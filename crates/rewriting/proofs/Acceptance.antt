@@ -1,7 +1,7 @@
 -- A graph is accepted just where no row applies, and the passes answer what the rows say.
 use Rattle.std.specs.Prelude.{◌≡◌, refl, ◌↔◌, true, List, leb, eqb}
 use Rattle.std.proofs.Common.{sym, ◌∙◌, ap, inl, inr, ⊎_elim, arith}
-use Rattle.std.proofs.Math.Option.{none-ne-some, some-injective}
+use Rattle.std.proofs.lemmas.Option.{none-some, same_Some}
 use Rattle.lists.specs.Tests.{by_bool, by_option, true_false, eqb_eq, leb_le, leb_gt}
 use Rattle.lists.specs.Lists.Laws.{mem_nth, nth_mem}
 use Rattle.rewriting.specs.Facts.{Facts, Tested}
@@ -58,14 +58,14 @@ module _ (F : Facts) (nodes : List (Node F.Fact)) (edges : List Edge) where
       (λ k h.
           let j = acc.joins h.edge (nth_mem edges h.edge k h.stands) in
           ⊎_elim
-          (λ n. none-ne-some j.from (sym n ∙ j.has_source))
-          (λ w. ⊎_elim (λ n. none-ne-some j.to (sym n ∙ j.has_target)) (λ l. omega (arith, j.earlier)) w)
+          (λ n. none-some j.from (sym n ∙ j.has_source))
+          (λ w. ⊎_elim (λ n. none-some j.to (sym n ∙ j.has_target)) (λ l. omega (arith, j.earlier)) w)
           h.wrong),
       (
         (λ k h.
             let j = acc.joins h.edge (nth_mem edges h.edge k h.stands) in
-            let p : h.from ≡ j.from = some-injective _ _ (sym h.has_source ∙ j.has_source) in
-            let q : h.to ≡ j.to = some-injective _ _ (sym h.has_target ∙ j.has_target) in
+            let p : h.from ≡ j.from = same_Some _ _ (sym h.has_source ∙ j.has_source) in
+            let q : h.to ≡ j.to = same_Some _ _ (sym h.has_target ∙ j.has_target) in
             h.differ (ap (λ g. same g h.to) p ∙ (ap (same j.from) q ∙ j.facts_same))),
         (
           (λ k h. h.wrong (acc.one_into (record { node = k; index = h.index }) h.fact h.stands)),

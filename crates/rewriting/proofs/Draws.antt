@@ -1,7 +1,7 @@
 -- A run is drawn, from the earliest sources; what is drawn is accepted, and where the writer refuses no edges whatever are.
 use Rattle.std.specs.Prelude.{◌≡◌, refl, ◌↔◌, List, [], ◌∷◌, ℕ, suc}
 use Rattle.std.proofs.Common.{sym, ◌∙◌, ap}
-use Rattle.std.proofs.Math.Option.{none, some}
+use Rattle.std.proofs.Common.{Some, None}
 use Rattle.lists.specs.Tests.{by_bool, by_option, true_false}
 use Rattle.rewriting.specs.Facts.{Facts, Tested}
 use Rattle.rewriting.specs.Graph.{Node, Edge, NamesOnce, Accepted}
@@ -26,11 +26,11 @@ module _ (F : Facts) where
   Agree (passed es) o = (s : State Fact) × (o ≡ ran s)
   Agree (refused n k) o = o ≡ failed k
 
-  agree_add : (k : ℕ) (es : List Edge) (d : Ruling (List Edge)) (o : Outcome Fact) → Agree d o → Agree (add_node k (some es) d) o
+  agree_add : (k : ℕ) (es : List Edge) (d : Ruling (List Edge)) (o : Outcome Fact) → Agree d o → Agree (add_node k (Some es) d) o
   agree_add k es (passed fs) o h = h
   agree_add k es (refused n j) o h = h
 
-  follow : (k : ℕ) (xs : List (Node Fact)) (free : List (Placed Fact)) (s : State Fact) → Tracks F free s → name_twice_from k s.made xs ≡ none →
+  follow : (k : ℕ) (xs : List (Node Fact)) (free : List (Placed Fact)) (s : State Fact) → Tracks F free s → name_twice_from k s.made xs ≡ None →
       Agree (draw_from F k free xs) (run_from F k s xs)
   follow k [] free s r n = (s, refl)
   follow k (x ∷ xs) free s r n =
@@ -48,10 +48,10 @@ module _ (F : Facts) where
       (follow (suc k) xs (free_after F k free x) (after F s x) (tracks_next F k x free s r h) b)))
 
   -- Where no name is made twice, the writer and the machine agree.
-  pub from_agrees : (nodes : List (Node Fact)) → first_name_twice nodes ≡ none → Agree (draw_from F 1 [] nodes) (run F nodes)
+  pub from_agrees : (nodes : List (Node Fact)) → first_name_twice nodes ≡ None → Agree (draw_from F 1 [] nodes) (run F nodes)
   from_agrees nodes n = follow 1 nodes [] start (record { in_bag = λ f lf. refl; in_set = λ f lf. refl }) n
 
-  draw_agrees : (nodes : List (Node Fact)) → first_name_twice nodes ≡ none → Agree (draw F nodes) (run F nodes)
+  draw_agrees : (nodes : List (Node Fact)) → first_name_twice nodes ≡ None → Agree (draw F nodes) (run F nodes)
   draw_agrees nodes n = rw n (from_agrees nodes n)
 
   -- "draws a graph exactly when the whole list is such a run", and what it draws is accepted.

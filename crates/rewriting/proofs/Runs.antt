@@ -4,7 +4,8 @@ use Rattle.std.proofs.Math.Path.{sym, ap}
 use Rattle.std.proofs.Common.{◌∙◌, subst, append_assoc, arith}
 use Rattle.std.proofs.Math.Logic.{⊎_elim}
 use mathlib.Core.List.Memᴰ
-use Rattle.std.proofs.Math.Option.{some, some-injective}
+use Rattle.std.proofs.Common.{Some}
+use Rattle.std.proofs.lemmas.Option.{same_Some}
 use Rattle.lists.specs.Tests.{and_split, and_both, le_leb, leb_sum}
 use Rattle.lists.specs.Lists.{◌∈◌, count_by, any_by}
 use Rattle.lists.specs.Lists.Laws.{count_append, count_pos, count_mem, any_mem, any_pos}
@@ -24,10 +25,10 @@ module _ (F : Facts) (nodes : List (Node F.Fact)) (edges : List Edge) (acc : Acc
 
   -- `ws` are premises of nodes up to `k`, and `ms` are all conclusions of the nodes before it.
   module _ (k : ℕ) (ws ms : List (Placed Fact))
-      (wanted : (w : Placed Fact) → w ∈ ws → (premise_at nodes w.place ≡ some w.fact) × (w.place.node ≤ k))
+      (wanted : (w : Placed Fact) → w ∈ ws → (premise_at nodes w.place ≡ Some w.fact) × (w.place.node ≤ k))
       (once : (a : Place) → count_at a ws ≤ 1)
-      (given : (t : Placed Fact) → t ∈ ms → conclusion_at nodes t.place ≡ some t.fact)
-      (earlier : (t : Placed Fact) → conclusion_at nodes t.place ≡ some t.fact → t.place.node < k → t ∈ ms)
+      (given : (t : Placed Fact) → t ∈ ms → conclusion_at nodes t.place ≡ Some t.fact)
+      (earlier : (t : Placed Fact) → conclusion_at nodes t.place ≡ Some t.fact → t.place.node < k → t ∈ ms)
       (f : Fact) where
     -- The edges into those premises that are the same as `f`.
     feeds : Edge → Bool
@@ -48,7 +49,7 @@ module _ (F : Facts) (nodes : List (Node F.Fact)) (edges : List Edge) (acc : Acc
         let (a, b) = and_split (same f w.fact) (same_place w.place e.target) u in
         let j = acc.joins e m in
         let at = place_eq w.place e.target b in
-        let is : j.to ≡ w.fact = some-injective _ _ (sym j.has_target ∙ (ap (λ p. premise_at nodes p) (sym at) ∙ (wanted w n).0)) in
+        let is : j.to ≡ w.fact = same_Some _ _ (sym j.has_target ∙ (ap (λ p. premise_at nodes p) (sym at) ∙ (wanted w n).0)) in
         let low : e.target.node ≤ k = (let z = ap (λ p. p.node) at in let y = (wanted w n).1 in omega arith) in
         let t : Placed Fact = record { place = e.source; fact = j.from } in (
           t,
@@ -94,7 +95,7 @@ module _ (F : Facts) (nodes : List (Node F.Fact)) (edges : List Edge) (acc : Acc
     unfolding ws'
     all_premises' = r.all_premises ∙ sym (append_assoc r.ws (placed k 1 x.premises) (premises_from (suc k) rest))
 
-    wanted' : (w : Placed Fact) → w ∈ ws' → (premise_at nodes w.place ≡ some w.fact) × (w.place.node ≤ k)
+    wanted' : (w : Placed Fact) → w ∈ ws' → (premise_at nodes w.place ≡ Some w.fact) × (w.place.node ≤ k)
     unfolding ws'
     wanted' w m = (
       placed_stands (λ x. x.premises) nodes w (subst (λ l. w ∈ l) (sym all_premises') (Memᴰ.append_left _ m)),
@@ -107,10 +108,10 @@ module _ (F : Facts) (nodes : List (Node F.Fact)) (edges : List Edge) (acc : Acc
         let c = rw all_premises' at l in
         omega (arith, rw count_append at c)
 
-    given' : (t : Placed Fact) → t ∈ r.ms → conclusion_at nodes t.place ≡ some t.fact
+    given' : (t : Placed Fact) → t ∈ r.ms → conclusion_at nodes t.place ≡ Some t.fact
     given' t m = placed_stands (λ x. x.conclusions) nodes t (subst (λ l. t ∈ l) (sym r.all_conclusions) (Memᴰ.append_left _ m))
 
-    earlier' : (t : Placed Fact) → conclusion_at nodes t.place ≡ some t.fact → t.place.node < k → t ∈ r.ms
+    earlier' : (t : Placed Fact) → conclusion_at nodes t.place ≡ Some t.fact → t.place.node < k → t ∈ r.ms
     earlier' t h low =
         ⊎_elim
         (λ n. n)

@@ -1,7 +1,7 @@
 -- Small cases, computed: facts are numbers, those below 100 linear. A checked graph hands on how many edges it has.
 use Rattle.std.specs.Prelude.{◌≡◌, refl, Bool, List, [], ◌∷◌, ◌++◌, ℕ, ◌<◌, eqb, ltb, length}
 use Rattle.std.proofs.Common.{ap, sym, ◌∙◌, arith}
-use Rattle.std.proofs.Math.Option.{none, some}
+use Rattle.std.proofs.Common.{Some, None}
 use Rattle.lists.specs.Tests.{eqb_eq, eqb_self}
 use Rattle.rewriting.specs.Facts.{Facts, Tested}
 use Rattle.rewriting.specs.Graph.{Node, Edge, Accepted}
@@ -33,10 +33,10 @@ abbrev is_linear : ℕ → Bool
 is_linear f = ltb f 100
 
 abbrev node : List ℕ → List ℕ → Node ℕ
-node ps cs = record { premises = ps; conclusions = cs; makes = none }
+node ps cs = record { premises = ps; conclusions = cs; makes = None }
 
 abbrev name : ℕ → Node ℕ
-name m = record { premises = []; conclusions = []; makes = some m }
+name m = record { premises = []; conclusions = []; makes = Some m }
 
 abbrev edge : ℕ → ℕ → ℕ → ℕ → Edge
 edge a b c d = record { source = record { node = a; index = b }; target = record { node = c; index = d } }

@@ -1,7 +1,7 @@
 -- The whole list of nodes: what the writer draws and refuses, in the table's words.
 use Rattle.std.specs.Prelude.{◌≡◌, refl, ◌⊎◌, Bool, true, ◌||◌, List, [], ◌∷◌, ◌++◌, ℕ, suc}
 use Rattle.std.proofs.Common.{sym, ◌∙◌, ap, inl, inr}
-use Rattle.std.proofs.Math.Option.{Option, none, some}
+use Rattle.std.proofs.Common.{Option, Some, None}
 use Rattle.lists.specs.Tests.{by_bool}
 use Rattle.lists.specs.Lists.{nth, before, leaves, scan}
 use Rattle.rewriting.specs.Facts.{Facts, Tested}
@@ -26,7 +26,7 @@ module _ (F : Facts) where
   pub record Lacking (nodes : List (Node Fact)) (k : ℕ) : Type 0 where
     pub node : Node Fact
     pub state : State Fact
-    pub stands : nth nodes k ≡ some node
+    pub stands : nth nodes k ≡ Some node
     pub reached : run F (before k nodes) ≡ ran state
     pub missing : lacks F state node.premises ≡ true
 
@@ -71,9 +71,9 @@ module _ (F : Facts) where
   -- Behind the pass over the names, the writer refuses with 14 alone.
   add_number : (k : ℕ) (o : Option (List Edge)) (d : Ruling (List Edge)) → ((n j : ℕ) → d ≡ refused n j → n ≡ 14) → (n j : ℕ) → add_node k o d ≡ refused n j → n
       ≡ 14
-  add_number k none d h n j e = cc
-  add_number k (some es) (passed fs) h n j e = absurd (refused_passed n j (es ++ fs) (sym e))
-  add_number k (some es) (refused m i) h n j e = h n j e
+  add_number k None d h n j e = cc
+  add_number k (Some es) (passed fs) h n j e = absurd (refused_passed n j (es ++ fs) (sym e))
+  add_number k (Some es) (refused m i) h n j e = h n j e
 
   draw_number : (k : ℕ) (xs : List (Node Fact)) (free : List (Placed Fact)) (n j : ℕ) → draw_from F k free xs ≡ refused n j → n ≡ 14
   draw_number k [] free n j e = absurd (refused_passed n j [] (sym e))

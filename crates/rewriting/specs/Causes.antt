@@ -1,6 +1,6 @@
 -- Causes 9 to 14 of the refusal table, in the table's words: which items have them.
 use Rattle.std.specs.Prelude.{◌≡◌, ◌⊎◌, ◌≢◌, Bool, true, List, [], ◌∷◌, ℕ, ◌≤◌}
-use Rattle.std.proofs.Math.Option.{none, some}
+use Rattle.std.specs.Prelude.{Some, None}
 use Rattle.lists.specs.Lists.{◌∈◌, nth, before}
 use Rattle.rewriting.specs.Graph.{Node, Edge, into, out_of, names_of, premise_at, conclusion_at}
 use Rattle.rewriting.specs.Rewriting.{Contents, empty, Takes, Reaches}
@@ -10,29 +10,29 @@ use Rattle.rewriting.specs.Table.{Row, row}
 pub record NameTwice {Fact : Type 0} (nodes : List (Node Fact)) (k : ℕ) : Type 0 where
   pub node : Node Fact
   pub name : ℕ
-  pub stands : nth nodes k ≡ some node
-  pub made : node.makes ≡ some name
+  pub stands : nth nodes k ≡ Some node
+  pub made : node.makes ≡ Some name
   pub earlier : name ∈ names_of (before k nodes)
 
 module _ {Fact : Type 0} (nodes : List (Node Fact)) (edges : List Edge) where
   -- "edge end missing, or source not earlier", 10, "edge".
   pub record EndMissing (k : ℕ) : Type 0 where
     pub edge : Edge
-    pub stands : nth edges k ≡ some edge
-    pub wrong : (conclusion_at nodes edge.source ≡ none) ⊎ ((premise_at nodes edge.target ≡ none) ⊎ (edge.target.node ≤ edge.source.node))
+    pub stands : nth edges k ≡ Some edge
+    pub wrong : (conclusion_at nodes edge.source ≡ None) ⊎ ((premise_at nodes edge.target ≡ None) ⊎ (edge.target.node ≤ edge.source.node))
 
   -- "premise without exactly one edge", 12, "node".
   pub record NotOneEdge (k : ℕ) : Type 0 where
     pub index : ℕ
     pub fact : Fact
-    pub stands : premise_at nodes (record { node = k; index = index }) ≡ some fact
+    pub stands : premise_at nodes (record { node = k; index = index }) ≡ Some fact
     pub wrong : into (record { node = k; index = index }) edges ≢ 1
 
   -- "linear conclusion used twice", 13, "its node".
   pub record UsedTwice (linear : Fact → Bool) (k : ℕ) : Type 0 where
     pub index : ℕ
     pub fact : Fact
-    pub stands : conclusion_at nodes (record { node = k; index = index }) ≡ some fact
+    pub stands : conclusion_at nodes (record { node = k; index = index }) ≡ Some fact
     pub is_linear_lem : linear fact ≡ true
     pub twice : 2 ≤ out_of (record { node = k; index = index }) edges
 
@@ -42,11 +42,11 @@ module _ {Fact : Type 0} (Same : Fact → Fact → Type 0) (linear : Fact → Bo
     -- "facts differ", 11, "edge".
     pub record FactsDiffer (k : ℕ) : Type 0 where
       pub edge : Edge
-      pub stands : nth edges k ≡ some edge
+      pub stands : nth edges k ≡ Some edge
       pub from : Fact
       pub to : Fact
-      pub has_source : conclusion_at nodes edge.source ≡ some from
-      pub has_target : premise_at nodes edge.target ≡ some to
+      pub has_source : conclusion_at nodes edge.source ≡ Some from
+      pub has_target : premise_at nodes edge.target ≡ Some to
       pub differ : ¬ Same from to
 
     -- The rows of a graph, "7 to 13" from 9 on.
@@ -63,7 +63,7 @@ module _ {Fact : Type 0} (Same : Fact → Fact → Type 0) (linear : Fact → Bo
   pub record PremisesMissing (k : ℕ) : Type 0 where
     pub node : Node Fact
     pub state : Contents Fact
-    pub stands : nth nodes k ≡ some node
+    pub stands : nth nodes k ≡ Some node
     pub reached : Reaches Same linear empty (before k nodes) state
     pub missing : (rest : List Fact) → ¬ Takes Same linear state.set node.premises state.bag rest
 

@@ -1,6 +1,6 @@
 -- The passes over a graph: 9 to 13, each over the whole graph before the next, the smallest item first.
 use Rattle.std.specs.Prelude.{Bool, true, false, not, ◌&&◌, ◌||◌, List, ℕ, leb, ltb, eqb}
-use Rattle.std.proofs.Math.Option.{Option, none, some}
+use Rattle.std.specs.Prelude.{Option, Some, None}
 use Rattle.lists.specs.Lists.{all_by, first_bad}
 use Rattle.rewriting.specs.Facts.{Facts}
 use Rattle.rewriting.specs.Graph.{Node, Edge, into, out_of, premise_at, conclusion_at}
@@ -9,8 +9,8 @@ use Rattle.rewriting.specs.Places.{Placed, placed}
 use Rattle.rewriting.specs.Writer.{first_name_twice}
 
 abbrev pub is_some : {A : Type 0} → Option A → Bool
-is_some none = false
-is_some (some a) = true
+is_some None = false
+is_some (Some a) = true
 
 module _ (F : Facts) where
   -- 10: both ends are there, and the source is earlier.
@@ -19,9 +19,9 @@ module _ (F : Facts) where
 
   -- 11: the two facts, if they are there, are the same.
   abbrev pub agree : Option F.Fact → Option F.Fact → Bool
-  agree none g = true
-  agree (some f) none = true
-  agree (some f) (some g) = F.same f g
+  agree None g = true
+  agree (Some f) None = true
+  agree (Some f) (Some g) = F.same f g
 
   abbrev pub facts_ok : List (Node F.Fact) → Edge → Bool
   facts_ok nodes e = agree (conclusion_at nodes e.source) (premise_at nodes e.target)

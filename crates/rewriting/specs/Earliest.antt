@@ -1,7 +1,7 @@
 -- "For each premise, nodes in order and premises in order, the writer takes the lowest node and then the lowest conclusion that is equal and, if
 -- linear, still unused. Edges are written in that order of premises."
 use Rattle.std.specs.Prelude.{◌≡◌, ◌⊎◌, Bool, true, List, ℕ, ◌<◌}
-use Rattle.std.proofs.Math.Option.{some}
+use Rattle.std.specs.Prelude.{Some}
 use Rattle.lists.specs.Lists.{nth, before}
 use Rattle.rewriting.specs.Graph.{Node, Place, Edge, into, out_of, premise_at, Joins}
 
@@ -21,10 +21,10 @@ module _ {Fact : Type 0} (Same : Fact → Fact → Type 0) (linear : Fact → Bo
 
   pub record Earliest (edges : List Edge) : Type 0 where
     -- "For each premise" one edge.
-    pub one_into : (a : Place) (f : Fact) → premise_at nodes a ≡ some f → into a edges ≡ 1
+    pub one_into : (a : Place) (f : Fact) → premise_at nodes a ≡ Some f → into a edges ≡ 1
     -- "Edges are written in that order of premises."
-    pub in_order : (i j : ℕ) (d e : Edge) → i < j → nth edges i ≡ some d → nth edges j ≡ some e → Lower d.target e.target
+    pub in_order : (i j : ℕ) (d e : Edge) → i < j → nth edges i ≡ Some d → nth edges j ≡ Some e → Lower d.target e.target
     -- The source of each is the lowest that fits, the edges before it being written.
     pub sources :
-        (j : ℕ) (e : Edge) → nth edges j ≡ some e
+        (j : ℕ) (e : Edge) → nth edges j ≡ Some e
         → Lowest (λ a. Fits (before j edges) (record { source = a; target = e.target })) e.source

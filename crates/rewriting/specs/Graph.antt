@@ -1,6 +1,6 @@
 -- Nodes, places, edges, and what an accepted graph is.
 use Rattle.std.specs.Prelude.{◌≡◌, Bool, true, ◌&&◌, List, [], ◌∷◌, ◌++◌, ℕ, ◌≤◌, ◌<◌, eqb}
-use Rattle.std.proofs.Math.Option.{Option, none, some}
+use Rattle.std.specs.Prelude.{Option, Some, None}
 use Rattle.lists.specs.Lists.{◌∈◌, count_by, nth}
 -- An accepted graph by another statement of equality.
 pub mod Laws
@@ -27,13 +27,13 @@ pub record Edge : Type 0 where
 
 -- The name that a node makes, as a list.
 abbrev pub name_of : Option ℕ → List ℕ
-name_of none = []
-name_of (some m) = m ∷ []
+name_of None = []
+name_of (Some m) = m ∷ []
 
 module _ {Fact : Type 0} where
   abbrev pub in_node : (Node Fact → List Fact) → ℕ → Option (Node Fact) → Option Fact
-  in_node part i none = none
-  in_node part i (some x) = nth (part x) i
+  in_node part i None = None
+  in_node part i (Some x) = nth (part x) i
 
   -- The fact at a place of one part of the nodes: the premises, or the conclusions.
   abbrev pub fact_at : (Node Fact → List Fact) → List (Node Fact) → Place → Option Fact
@@ -67,8 +67,8 @@ module _ {Fact : Type 0} (Same : Fact → Fact → Type 0) where
   pub record Joins (nodes : List (Node Fact)) (e : Edge) : Type 0 where
     pub from : Fact
     pub to : Fact
-    pub has_source : conclusion_at nodes e.source ≡ some from
-    pub has_target : premise_at nodes e.target ≡ some to
+    pub has_source : conclusion_at nodes e.source ≡ Some from
+    pub has_target : premise_at nodes e.target ≡ Some to
     pub earlier : e.source.node < e.target.node
     pub facts_same : Same from to
 
@@ -76,6 +76,6 @@ module _ {Fact : Type 0} (Same : Fact → Fact → Type 0) where
   -- at most one out of each linear conclusion; no name made twice."
   pub record Accepted (linear : Fact → Bool) (nodes : List (Node Fact)) (edges : List Edge) : Type 0 where
     pub joins : (e : Edge) → e ∈ edges → Joins nodes e
-    pub one_into : (a : Place) (f : Fact) → premise_at nodes a ≡ some f → into a edges ≡ 1
-    pub one_out : (a : Place) (f : Fact) → conclusion_at nodes a ≡ some f → linear f ≡ true → out_of a edges ≤ 1
+    pub one_into : (a : Place) (f : Fact) → premise_at nodes a ≡ Some f → into a edges ≡ 1
+    pub one_out : (a : Place) (f : Fact) → conclusion_at nodes a ≡ Some f → linear f ≡ true → out_of a edges ≤ 1
     pub names_once : NamesOnce nodes

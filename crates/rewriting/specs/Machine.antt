@@ -1,6 +1,6 @@
 -- "Written out, the rewriting is a machine that .. is fed the nodes of a step list or graph in file order, .. and no edges."
 use Rattle.std.specs.Prelude.{◌≡◌, Bool, false, cond, not, ◌||◌, List, [], ◌∷◌, ◌++◌, ℕ, suc, ◌+◌, ◌-◌, ltb, leb, eqb}
-use Rattle.std.proofs.Math.Option.{Option, none, some}
+use Rattle.std.specs.Prelude.{Option, Some, None}
 use Rattle.lists.specs.Lists.{count_by, any_by}
 use Rattle.rewriting.specs.Facts.{Facts, count, linears, persistents}
 use Rattle.rewriting.specs.Graph.{Node, name_of}
@@ -25,8 +25,8 @@ pub data Outcome (Fact : Type 0) : Type 0 where
 
 -- "its name is made already".
 abbrev pub made_already : List ℕ → Option ℕ → Bool
-made_already made none = false
-made_already made (some m) = leb 1 (count_by (eqb m) made)
+made_already made None = false
+made_already made (Some m) = leb 1 (count_by (eqb m) made)
 
 module _ (F : Facts) where
   -- "a persistent premise is not in the set", or "a linear fact stands more often among its premises than in the bag".

@@ -1,8 +1,9 @@
 -- The pass over the names: it finds what row 9 says, and nothing just where no name is made twice.
+use Rattle.lists.specs.Tests.{some_none}
 use Rattle.std.specs.Prelude.{◌≡◌, refl, Bool, true, false, List, [], ◌∷◌, ◌++◌, ℕ, suc, ◌≤◌, eqb}
 use Rattle.std.proofs.Common.{sym, ◌∙◌, ap, append_assoc, append-nil, arith}
 use mathlib.Core.List.Memᴰ
-use Rattle.std.proofs.Math.Option.{Option, none, some, some-ne-none}
+use Rattle.std.specs.Prelude.{Option, Some, None}
 use Rattle.lists.specs.Tests.{by_bool, by_option, true_false, or_split, eqb_self, eqb_eq, leb_le, leb_gt, le_leb, gt_leb, bit_le, bit_true, at_most_one}
 use Rattle.lists.specs.Lists.{bit, count_by, nth, before, leaves}
 use Rattle.lists.specs.Lists.Laws.{count_append, count_pos, count_mem}
@@ -18,14 +19,14 @@ use Rattle.rewriting.specs.Writer.{add_name, name_twice_from, first_name_twice}
 
 -- A name that stands once in all is not made already.
 pub fresh_name : (made rest : List ℕ) (o : Option ℕ) → ((m : ℕ) → count_by (eqb m) (made ++ (name_of o ++ rest)) ≤ 1) → made_already made o ≡ false
-fresh_name made rest none h = refl
-fresh_name made rest (some m) h =
+fresh_name made rest None h = refl
+fresh_name made rest (Some m) h =
     gt_leb 1 (count_by (eqb m) made) (omega (arith, h m, count_append (eqb m) made (m ∷ rest), ap bit (eqb_self m)))
 
 once_more : (made : List ℕ) (o : Option ℕ) → ((m : ℕ) → count_by (eqb m) made ≤ 1) → made_already made o ≡ false → (m : ℕ) → count_by (eqb m) (made ++ name_of o) ≤
     1
-once_more made none h e m = omega (arith, h m, count_append (eqb m) made [])
-once_more made (some n) h e m =
+once_more made None h e m = omega (arith, h m, count_append (eqb m) made [])
+once_more made (Some n) h e m =
     omega (
       arith,
       count_append (eqb m) made (n ∷ []),
@@ -36,12 +37,12 @@ once_more made (some n) h e m =
     )
 
 module _ {Fact : Type 0} where
-  pub twice_step : (k : ℕ) (made : List ℕ) (x : Node Fact) (xs : List (Node Fact)) → name_twice_from k made (x ∷ xs) ≡ none →
-      (made_already made x.makes ≡ false) × (name_twice_from (suc k) (made ++ name_of x.makes) xs ≡ none)
+  pub twice_step : (k : ℕ) (made : List ℕ) (x : Node Fact) (xs : List (Node Fact)) → name_twice_from k made (x ∷ xs) ≡ None →
+      (made_already made x.makes ≡ false) × (name_twice_from (suc k) (made ++ name_of x.makes) xs ≡ None)
   twice_step k made x xs h =
-      by_bool (made_already made x.makes) (λ t. absurd (some-ne-none k (rw t at h))) (λ f. (f, rw f at h))
+      by_bool (made_already made x.makes) (λ t. absurd (some_none k (rw t at h))) (λ f. (f, rw f at h))
 
-  twice_once : (k : ℕ) (xs : List (Node Fact)) (made : List ℕ) → ((m : ℕ) → count_by (eqb m) made ≤ 1) → name_twice_from k made xs ≡ none → (m : ℕ) → count_by
+  twice_once : (k : ℕ) (xs : List (Node Fact)) (made : List ℕ) → ((m : ℕ) → count_by (eqb m) made ≤ 1) → name_twice_from k made xs ≡ None → (m : ℕ) → count_by
       (eqb m) (made ++ names_of xs) ≤ 1
   twice_once k [] made h e m = omega (arith, h m, count_append (eqb m) made [])
   twice_once k (x ∷ xs) made h e m =
@@ -49,22 +50,22 @@ module _ {Fact : Type 0} where
       let c = twice_once (suc k) xs (made ++ name_of x.makes) (once_more made x.makes h a) b m in
       rw append_assoc at c
 
-  once_twice : (k : ℕ) (xs : List (Node Fact)) (made : List ℕ) → ((m : ℕ) → count_by (eqb m) (made ++ names_of xs) ≤ 1) → name_twice_from k made xs ≡ none
+  once_twice : (k : ℕ) (xs : List (Node Fact)) (made : List ℕ) → ((m : ℕ) → count_by (eqb m) (made ++ names_of xs) ≤ 1) → name_twice_from k made xs ≡ None
   once_twice k [] made h = refl
   once_twice k (x ∷ xs) made h =
       rw (fresh_name made (names_of xs) x.makes h)
       (once_twice (suc k) xs (made ++ name_of x.makes) (λ m. rw (append_assoc made (name_of x.makes) (names_of xs)) (h m)))
 
   -- The pass finds nothing just where no name is made twice.
-  pub names_once : (nodes : List (Node Fact)) → first_name_twice nodes ≡ none → NamesOnce nodes
+  pub names_once : (nodes : List (Node Fact)) → first_name_twice nodes ≡ None → NamesOnce nodes
   names_once nodes e m = twice_once 1 nodes [] (λ m. omega arith) e m
 
-  pub once_names : (nodes : List (Node Fact)) → NamesOnce nodes → first_name_twice nodes ≡ none
+  pub once_names : (nodes : List (Node Fact)) → NamesOnce nodes → first_name_twice nodes ≡ None
   once_names nodes h = once_twice 1 nodes [] h
 
-already_some : (made : List ℕ) (o : Option ℕ) → made_already made o ≡ true → (m : ℕ) × (o ≡ some m) × (1 ≤ count_by (eqb m) made)
-already_some made none h = true_false false h refl
-already_some made (some m) h = (m, refl, leb_le 1 (count_by (eqb m) made) h)
+already_some : (made : List ℕ) (o : Option ℕ) → made_already made o ≡ true → (m : ℕ) × (o ≡ Some m) × (1 ≤ count_by (eqb m) made)
+already_some made None h = true_false false h refl
+already_some made (Some m) h = (m, refl, leb_le 1 (count_by (eqb m) made) h)
 
 -- The pass over the names finds the first node whose name an earlier one makes.
 module _ {Fact : Type 0} where
@@ -73,7 +74,7 @@ module _ {Fact : Type 0} where
   names_left made (x ∷ xs) = names_left (add_name made x) xs ∙ append_assoc made (name_of x.makes) (names_of xs)
 
   -- A name is made already where an earlier node makes it.
-  pub already_earlier : (nodes : List (Node Fact)) (k : ℕ) (x : Node Fact) → nth nodes k ≡ some x → made_already (names_of (before k nodes)) x.makes ≡ true →
+  pub already_earlier : (nodes : List (Node Fact)) (k : ℕ) (x : Node Fact) → nth nodes k ≡ Some x → made_already (names_of (before k nodes)) x.makes ≡ true →
       NameTwice nodes k
   already_earlier nodes k x s t =
       let (m, e, c) = already_some (names_of (before k nodes)) x.makes t in
@@ -103,20 +104,20 @@ abbrev pub name_pass : {Fact : Type 0} → List (Node Fact) → Pass
 name_pass nodes = record { cause = row 9 (NameTwice nodes); found = first_name_twice nodes; finds = first_twice nodes }
 
 -- Row 9 applies to no node just where the pass finds nothing.
-pub absent_none : {Fact : Type 0} (nodes : List (Node Fact)) → ((k : ℕ) → NameTwice nodes k → ⊥) → first_name_twice nodes ≡ none
+pub absent_none : {Fact : Type 0} (nodes : List (Node Fact)) → ((k : ℕ) → NameTwice nodes k → ⊥) → first_name_twice nodes ≡ None
 absent_none nodes n =
     by_option (first_name_twice nodes)
     (λ e. e)
     (λ k e. let l = first_twice nodes in let g : Least (NameTwice nodes) k = rw e at l in absurd (n k g.here))
 
-pub none_absent : {Fact : Type 0} (nodes : List (Node Fact)) → first_name_twice nodes ≡ none → (k : ℕ) → NameTwice nodes k → ⊥
+pub none_absent : {Fact : Type 0} (nodes : List (Node Fact)) → first_name_twice nodes ≡ None → (k : ℕ) → NameTwice nodes k → ⊥
 none_absent nodes e = let l = first_twice nodes in rw e at l
 
 module _ (F : Facts) where
   open F use {Fact}
 
   -- A run makes no name twice.
-  pub run_once : (k : ℕ) (xs : List (Node Fact)) (s e : State Fact) → run_from F k s xs ≡ ran e → name_twice_from k s.made xs ≡ none
+  pub run_once : (k : ℕ) (xs : List (Node Fact)) (s e : State Fact) → run_from F k s xs ≡ ran e → name_twice_from k s.made xs ≡ None
   run_once k [] s e h = refl
   run_once k (x ∷ xs) s e h =
       by_bool (fails F s x)

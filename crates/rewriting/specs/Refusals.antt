@@ -2,7 +2,8 @@
 use Rattle.std.specs.Prelude.{◌≡◌, refl, Bool, true, false, ◌&&◌, List, [], ◌∷◌, ℕ, suc, leb, ltb}
 use Rattle.std.proofs.Common.{sym, ◌∙◌, ap, inl, inr, ⊎_elim, arith}
 use Rattle.std.proofs.Math.Bool.{and-false}
-use Rattle.std.proofs.Math.Option.{Option, none, some, none-ne-some}
+use Rattle.std.specs.Prelude.{Option, Some, None}
+use Rattle.std.proofs.lemmas.Option.{none-some}
 use Rattle.lists.specs.Tests.{by_bool, by_option, true_false, not_true, eqb_eq, leb_gt, gt_leb}
 use Rattle.lists.specs.Lists.{all_by, nth}
 use Rattle.lists.specs.Lists.Laws.{all_fails, fails_all}
@@ -21,7 +22,7 @@ module _ {Fact : Type 0} (part : Node Fact → List Fact) (ok : Placed Fact → 
   pub record FactFails (k : ℕ) : Type 0 where
     pub index : ℕ
     pub fact : Fact
-    pub stands : fact_at part nodes (record { node = k; index = index }) ≡ some fact
+    pub stands : fact_at part nodes (record { node = k; index = index }) ≡ Some fact
     pub is_false : ok (record { place = record { node = k; index = index }; fact = fact }) ≡ false
 
   abbrev node_ok : ℕ → Node Fact → Bool
@@ -41,7 +42,7 @@ module _ {Fact : Type 0} (part : Node Fact → List Fact) (ok : Placed Fact → 
   pub fact_fails : (k : ℕ) → FactFails k → Fails node_ok nodes k
   fact_fails k h =
       by_option (nth nodes k)
-      (λ n. let s = h.stands in absurd (none-ne-some h.fact (rw n at s)))
+      (λ n. let s = h.stands in absurd (none-some h.fact (rw n at s)))
       (λ x e.
       let t : Placed Fact = record { place = record { node = k; index = h.index }; fact = h.fact } in
       let s = h.stands in
@@ -92,10 +93,10 @@ module _ (F : Facts) (nodes : List (Node F.Fact)) (edges : List Edge) where
   ends_pass = restated (least_pass 10 (λ k e. ends_ok F nodes e) edges) (EndMissing nodes edges) fails_end end_fails
 
   -- 11.
-  disagree : (o p : Option Fact) → agree F o p ≡ false → (f : Fact) × (g : Fact) × (o ≡ some f) × (p ≡ some g) × (same f g ≡ false)
-  disagree none p h = true_false true refl h
-  disagree (some f) none h = true_false true refl h
-  disagree (some f) (some g) h = (f, g, refl, refl, h)
+  disagree : (o p : Option Fact) → agree F o p ≡ false → (f : Fact) × (g : Fact) × (o ≡ Some f) × (p ≡ Some g) × (same f g ≡ false)
+  disagree None p h = true_false true refl h
+  disagree (Some f) None h = true_false true refl h
+  disagree (Some f) (Some g) h = (f, g, refl, refl, h)
 
   pub fails_facts : (k : ℕ) → Fails (λ k e. facts_ok F nodes e) edges k → FactsDiffer (Tested F) linear nodes edges k
   fails_facts k h =

@@ -1,6 +1,6 @@
 -- The rewriting by a statement of equality, whatever decides it: which facts a node takes from the state, and what it leaves.
 use Rattle.std.specs.Prelude.{◌≡◌, Bool, true, false, not, List, [], ◌∷◌, ◌++◌, ℕ}
-use Rattle.std.proofs.Math.Option.{some}
+use Rattle.std.specs.Prelude.{Some}
 use Rattle.lists.specs.Lists.{◌∈◌, keep_by}
 use Rattle.lists.specs.Some.{Some}
 use Rattle.rewriting.specs.Graph.{Node, name_of}
@@ -44,7 +44,7 @@ module _ {Fact : Type 0} (Same : Fact → Fact → Type 0) (linear : Fact → Bo
     done : {s : Contents Fact} → Reaches s [] s
     step :
         {s t : Contents Fact} {x : Node Fact} {xs : List (Node Fact)} {rest : List Fact} → Takes s.set x.premises s.bag rest
-        → ((m : ℕ) → x.makes ≡ some m → m ∈ s.made → ⊥) → Reaches (entered s x rest) xs t → Reaches s (x ∷ xs) t
+        → ((m : ℕ) → x.makes ≡ Some m → m ∈ s.made → ⊥) → Reaches (entered s x rest) xs t → Reaches s (x ∷ xs) t
 
   -- "The nodes are a run exactly when none fails; no nodes at all are one."
   abbrev pub Rewrites : List (Node Fact) → Type 0

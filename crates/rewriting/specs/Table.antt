@@ -1,6 +1,6 @@
 -- The refusal table as data: rows, what a list of rows says of an answer, and the passes that find it.
 use Rattle.std.specs.Prelude.{◌≡◌, ◌⊎◌, Bool, false, List, [], ◌∷◌, ℕ, ◌<◌}
-use Rattle.std.proofs.Math.Option.{Option, none, some}
+use Rattle.std.specs.Prelude.{Option, Some, None}
 use Rattle.lists.specs.Lists.{nth}
 -- A list of passes answers what its rows say; the answer is unique; it passes just where no row applies.
 pub mod Laws
@@ -29,7 +29,7 @@ fixed_row n i P = row n (λ k. (k ≡ i) × P)
 -- A cause over a list, its items numbered from 1: the element of number `k` fails a test.
 pub record Fails {A : Type 0} (ok : ℕ → A → Bool) (xs : List A) (k : ℕ) : Type 0 where
   pub which : A
-  pub stands : nth xs k ≡ some which
+  pub stands : nth xs k ≡ Some which
   pub is_false : ok k which ≡ false
 
 -- "the smallest item wins".
@@ -58,8 +58,8 @@ Says (c ∷ cs) n k = ((n ≡ c.number) × Least c.has k) ⊎ Says cs n k
 
 -- A pass finds the smallest item that has the cause.
 abbrev pub Finds : (ℕ → Type 0) → Option ℕ → Type 0
-Finds P none = (k : ℕ) → P k → ⊥
-Finds P (some k) = Least P k
+Finds P None = (k : ℕ) → P k → ⊥
+Finds P (Some k) = Least P k
 
 pub record Pass : Type 1 where
   pub cause : Row
@@ -68,8 +68,8 @@ pub record Pass : Type 1 where
 
 -- Refused where the pass found an item, else what follows.
 abbrev pub or_refuse : {A : Type 0} → ℕ → Option ℕ → Ruling A → Ruling A
-or_refuse n none r = r
-or_refuse n (some k) r = refused n k
+or_refuse n None r = r
+or_refuse n (Some k) r = refused n k
 
 -- The rows of some passes, then further rows; what the passes answer, then what follows.
 abbrev pub rows_then : List Pass → List Row → List Row

@@ -1,6 +1,6 @@
 -- The graph writer over facts: each premise, in order, takes the lowest earlier conclusion that is the same and, if linear, unused.
 use Rattle.std.specs.Prelude.{cond, List, [], ◌∷◌, ◌++◌, ℕ, suc}
-use Rattle.std.proofs.Math.Option.{Option, none, some}
+use Rattle.std.specs.Prelude.{Option, Some, None}
 use Rattle.lists.specs.Lists.{first_by, remove_by, scan}
 use Rattle.rewriting.specs.Facts.{Facts}
 use Rattle.rewriting.specs.Graph.{Node, Place, Edge, name_of}
@@ -21,15 +21,15 @@ module _ {Fact : Type 0} where
 
 -- One edge more into place `a`, if its source was found.
 abbrev pub add_edge : {Fact : Type 0} → Place → Option (Placed Fact) → Option (List Edge) → Option (List Edge)
-add_edge a none r = none
-add_edge a (some t) none = none
-add_edge a (some t) (some es) = some (record { source = t.place; target = a } ∷ es)
+add_edge a None r = None
+add_edge a (Some t) None = None
+add_edge a (Some t) (Some es) = Some (record { source = t.place; target = a } ∷ es)
 
 -- The edges of node `k` and those of the nodes behind it; 14 where it has none.
 abbrev pub add_node : ℕ → Option (List Edge) → Ruling (List Edge) → Ruling (List Edge)
-add_node k none r = refused 14 k
-add_node k (some es) (passed fs) = passed (es ++ fs)
-add_node k (some es) (refused n j) = refused n j
+add_node k None r = refused 14 k
+add_node k (Some es) (passed fs) = passed (es ++ fs)
+add_node k (Some es) (refused n j) = refused n j
 
 module _ (F : Facts) where
   -- What is left when a premise takes its source: the first that is the same leaves, if it is linear.
@@ -42,7 +42,7 @@ module _ (F : Facts) where
 
   -- The edges into the premises of node `k`, numbered from `i`.
   abbrev pub edges_into : ℕ → ℕ → List (Placed F.Fact) → List F.Fact → Option (List Edge)
-  edges_into k i free [] = some []
+  edges_into k i free [] = Some []
   edges_into k i free (p ∷ ps) =
       add_edge (record { node = k; index = i }) (first_by (λ t. F.same p t.fact) free) (edges_into k (suc i) (take_one p free) ps)
 

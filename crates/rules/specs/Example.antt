@@ -1,6 +1,6 @@
 -- Document 01's printed protocol is fit; P1, P3, P4 and P5 broken; the built-in rules meet P5; some rules by their number. By computation.
 use Rattle.std.specs.Prelude.{ℕ, [], ◌∷◌, ◌≡◌, refl}
-use Rattle.std.proofs.Math.Option.{some, none}
+use Rattle.std.specs.Prelude.{Some, None}
 use Rattle.number.specs.Groups.{number_limit}
 use Rattle.number.specs.Reading.{read_in, read_number, below, many, counted}
 use Rattle.term.specs.Term.{leaf, app, variable, public, fresh, nil, ◌&◌}
@@ -53,13 +53,13 @@ builtin_recorded :
 builtin_recorded = (refl, refl, refl, refl, refl, λ t k. refl)
 
 -- rule 1; h is tag 6, its rule 8; of two free functions, the second is of arity 0: its rule is 16, and 17 is none; 31 is the first own rule
-second : rule_of (protocol_of (1 ∷ 0 ∷ []) [] (its_rule ∷ [])) 1 ≡ some hears
+second : rule_of (protocol_of (1 ∷ 0 ∷ []) [] (its_rule ∷ [])) 1 ≡ Some hears
 unfolding rule_of numbered fixed
 second = refl
 
 hashes :
     rule_of (protocol_of (1 ∷ 0 ∷ []) [] (its_rule ∷ [])) 8
-    ≡ some
+    ≡ Some
     (rule_of_lem (0 ∷ [])
     ((fact_of 3 (leaf variable 0 ∷ []) ∷ []) ∷ [] ∷ (fact_of 3 (app 6 (leaf variable 0 & nil) ∷ []) ∷ []) ∷ []))
 unfolding rule_of numbered arity tag_arities
@@ -67,31 +67,31 @@ hashes = refl
 
 constant :
     rule_of (protocol_of (1 ∷ 0 ∷ []) [] (its_rule ∷ [])) 16
-    ≡ some (rule_of_lem [] ([] ∷ [] ∷ (fact_of 3 (app 14 nil ∷ []) ∷ []) ∷ []))
+    ≡ Some (rule_of_lem [] ([] ∷ [] ∷ (fact_of 3 (app 14 nil ∷ []) ∷ []) ∷ []))
 unfolding rule_of numbered arity tag_arities
 constant = refl
 
-no_function : rule_of (protocol_of (1 ∷ 0 ∷ []) [] (its_rule ∷ [])) 17 ≡ none
+no_function : rule_of (protocol_of (1 ∷ 0 ∷ []) [] (its_rule ∷ [])) 17 ≡ None
 unfolding rule_of numbered arity tag_arities
 no_function = refl
 
-own_rule : rule_of (protocol_of (1 ∷ 0 ∷ []) [] (its_rule ∷ [])) 31 ≡ some its_rule
+own_rule : rule_of (protocol_of (1 ∷ 0 ∷ []) [] (its_rule ∷ [])) 31 ≡ Some its_rule
 unfolding rule_of numbered
 own_rule = refl
 
-no_rule : rule_of (protocol_of (1 ∷ 0 ∷ []) [] (its_rule ∷ [])) 32 ≡ none
+no_rule : rule_of (protocol_of (1 ∷ 0 ∷ []) [] (its_rule ∷ [])) 32 ≡ None
 unfolding rule_of numbered
 no_rule = refl
 
 -- 97 is that of tag 31, pk, under every protocol; behind 100 there is none
 signing_rule :
     rule_of (protocol_of [] [] []) 97
-    ≡ some
+    ≡ Some
     (rule_of_lem (0 ∷ [])
     ((fact_of 3 (leaf variable 0 ∷ []) ∷ []) ∷ [] ∷ (fact_of 3 (app 31 (leaf variable 0 & nil) ∷ []) ∷ []) ∷ []))
 unfolding rule_of numbered arity tag_arities
 signing_rule = refl
 
-no_further : rule_of (protocol_of [] [] (its_rule ∷ [])) 101 ≡ none
+no_further : rule_of (protocol_of [] [] (its_rule ∷ [])) 101 ≡ None
 unfolding rule_of numbered
 no_further = refl

@@ -1,7 +1,7 @@
 -- "Rules and runs": the built-in rules, and the rule of each number.
 use Rattle.std.specs.Prelude.{ℕ, zero, suc, ◌+◌, ◌-◌, ◌*◌, List, [], ◌∷◌, map, replicate, ltb, eqb}
-use Rattle.std.proofs.Math.Option.{Option, some, none}
-use Rattle.std.proofs.Math.ListN.{get_elem?}
+use Rattle.std.specs.Prelude.{Option, Some, None}
+use Rattle.std.specs.Prelude.{slice_get}
 use Rattle.protocol.specs.Figures.{fresh_sort, message_sort, public_sort, most_arity, most_rules}
 use Rattle.lists.specs.Choice.{pick}
 use Rattle.term.specs.Term.{Term, leaf, app, variable}
@@ -68,8 +68,8 @@ abbrev pub rule_room : ℕ
 rule_room = 6 + 6 * most_arity
 
 abbrev pub applied : ℕ → Option ℕ → Option Rule
-applied t (some k) = some (applies t k)
-applied t none = none
+applied t (Some k) = Some (applies t k)
+applied t None = None
 
 -- ── what each number stands for ──
 -- rule n of 0 to 4; the apply-rule of a tag; the protocol's rule r; no rule
@@ -108,10 +108,10 @@ numbered n =
 
 -- ── the rule of each number ──
 abbrev pub rule_as : Protocol → Numbered → Option Rule
-rule_as p (a_fixed n) = some (fixed n)
+rule_as p (a_fixed n) = Some (fixed n)
 rule_as p (an_apply t) = applied t (arity (tag_arities p.functions) t)
-rule_as p (an_own r) = get_elem? p.rules r
-rule_as p nothing = none
+rule_as p (an_own r) = slice_get p.rules r
+rule_as p nothing = None
 
 unfoldable pub rule_of : Protocol → ℕ → Option Rule
 rule_of p n = rule_as p (numbered n)

@@ -1,6 +1,6 @@
 -- The facts of a node, the name that it makes, the trace; when two facts are the same, and which are linear.
 use Rattle.std.specs.Prelude.{ℕ, List, [], ◌∷◌, map, Bool, true, false, ◌&&◌, ◌≡◌, get_or, eqb}
-use Rattle.std.proofs.Math.Option.{Option, none, some}
+use Rattle.std.specs.Prelude.{Option, Some, None}
 use Rattle.protocol.specs.Figures.{action_list}
 use Rattle.lists.specs.Choice.{pick}
 use Rattle.octets.specs.Compare.{compare_bytes, is_equal}
@@ -33,15 +33,15 @@ filled_fact vs f = fact_of f.symbol (map (sub (value_at vs)) f.terms)
 
 -- where there is a rule, its list of a number
 abbrev pub filled_list : ℕ → List Term → Option Rule → List Fact
-filled_list list vs none = []
-filled_list list vs (some u) = map (filled_fact vs) (list_of list u)
+filled_list list vs None = []
+filled_list list vs (Some u) = map (filled_fact vs) (list_of list u)
 
 -- the number of a fresh name
 abbrev pub fresh_number : Term → Option ℕ
-fresh_number (leaf variable n) = none
-fresh_number (leaf public n) = none
-fresh_number (leaf fresh n) = some n
-fresh_number (app f ts) = none
+fresh_number (leaf variable n) = None
+fresh_number (leaf public n) = None
+fresh_number (leaf fresh n) = Some n
+fresh_number (app f ts) = None
 
 module _ (p : Protocol) where
   -- "A node's facts are its rule's, with the node's values in place of the variables": 0 premises, 1 actions, 2 conclusions
@@ -50,15 +50,15 @@ module _ (p : Protocol) where
 
   -- "The trace gives each node number, from 1, the actions of that node, perhaps none ..; other numbers have none."
   abbrev pub actions_of : Option Node → List Fact
-  actions_of none = []
-  actions_of (some x) = facts_of action_list x
+  actions_of None = []
+  actions_of (Some x) = facts_of action_list x
 
   abbrev pub trace : List Node → ℕ → List Fact
   trace xs k = actions_of (nth xs k)
 
 -- "Rule 0 makes Fr(fresh)": the name that a node makes, a node of rule 0 alone
 abbrev pub made_name : Node → Option ℕ
-made_name x = pick (eqb x.rule 0) (fresh_number (value_at x.values 0)) none
+made_name x = pick (eqb x.rule 0) (fresh_number (value_at x.values 0)) None
 
 -- ── "equal facts count as the same fact" ──
 -- one by one

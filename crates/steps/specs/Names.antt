@@ -1,6 +1,6 @@
 -- Cause 9 by the nodes of a step list or graph, and what code answers of the names that they make.
 use Rattle.std.specs.Prelude.{ℕ, suc, ◌<◌, List, [], ◌∷◌, ◌++◌, Bool, false, ◌≡◌, get_or, eqb, leb}
-use Rattle.std.proofs.Math.Option.{Option, none, some}
+use Rattle.std.specs.Prelude.{Option, Some, None}
 use Rattle.lists.specs.Lists.{count_by}
 use Rattle.rewriting.specs.Graph.{name_of}
 use Rattle.steps.specs.declared.names.Made.{Made}
@@ -26,18 +26,18 @@ is_made m xs = leb 1 (count_by (eqb m) (made_by xs))
 
 -- the node's name is made by the nodes before it
 abbrev pub again_in : List Node → Option ℕ → Bool
-again_in xs none = false
-again_in xs (some m) = is_made m xs
+again_in xs None = false
+again_in xs (Some m) = is_made m xs
 
 -- the name of a node as the code has it
 abbrev pub MadeIs : Option ℕ → Made → Type 0
-MadeIs o (md.Of f) = o ≡ some f.0
-MadeIs o md.Nothing = o ≡ none
+MadeIs o (md.Of f) = o ≡ Some f.0
+MadeIs o md.Nothing = o ≡ None
 
 -- ── a table of them, an entry a node ──
 abbrev pub name_entry : Option ℕ → ℕ
-name_entry none = 0
-name_entry (some m) = suc m
+name_entry None = 0
+name_entry (Some m) = suc m
 
 abbrev pub entry_of : Made → ℕ
 entry_of (md.Of f) = suc f.0

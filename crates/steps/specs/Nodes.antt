@@ -1,6 +1,6 @@
 -- The nodes of a step list or graph: their bytes, and their reading, "front to back for 3 and 6".
 use Rattle.std.specs.Prelude.{ℕ, zero, suc, ◌≤◌, ◌<◌, List, [], ◌∷◌, ◌++◌, Bool, true, false, ◌≡◌, length, eqb}
-use Rattle.std.proofs.Math.Option.{Option, none, some}
+use Rattle.std.specs.Prelude.{Option, Some, None}
 use Rattle.lists.specs.Choice.{pick}
 use Rattle.number.specs.Groups.{groups, number_limit}
 use Rattle.number.specs.Reading.{Read, got, fault, and_then, read_number, below, many}
@@ -72,15 +72,15 @@ abbrev pub all_of : {A : Type 0} → List ℕ → Reading A → Reading A
 all_of file r = onward r (λ x e. pick (eqb e (length file)) (read x e) broken)
 
 abbrev pub absent : {A : Type 0} → Option A → Bool
-absent none = true
-absent (some x) = false
+absent None = true
+absent (Some x) = false
 
 -- numbers below `limit`
 module _ (limit : ℕ) (p : Protocol) where
   -- a node with a rule of that number, one value per variable of it, of any length
   pub record NodeBelow (x : Node) : Type 0 where
     pub is : Rule
-    pub known : rule_of p x.rule ≡ some is
+    pub known : rule_of p x.rule ≡ Some is
     pub range : x.rule < limit
     pub takes : length x.values ≡ length is.sorts
     pub each : All (GoodBelow limit (tag_arities p.functions)) x.values
@@ -105,8 +105,8 @@ module _ (p : Protocol) where
 
   module _ (file : List ℕ) where
     abbrev pub values : ℕ → Option Rule → ℕ → Read Node
-    values r none at = fault
-    values r (some u) at = and_then (many (term file (tag_arities p.functions)) (length u.sorts) at) (λ vs e. got (node_of_lem r vs) e)
+    values r None at = fault
+    values r (Some u) at = and_then (many (term file (tag_arities p.functions)) (length u.sorts) at) (λ vs e. got (node_of_lem r vs) e)
 
     -- a node of an existing rule
     unfoldable pub node : ℕ → Read Node

@@ -1,7 +1,7 @@
 -- The values of a node and the terms that they fill: what fits, and causes 7 and 8.
 use Rattle.std.specs.Prelude.{ℕ, zero, suc, ◌≤◌, ◌<◌, List, [], ◌∷◌, ◌≡◌}
-use Rattle.std.proofs.Math.Option.{some}
-use Rattle.std.proofs.Math.ListN.{get_elem?}
+use Rattle.std.specs.Prelude.{Some}
+use Rattle.std.specs.Prelude.{slice_get}
 use Rattle.term.specs.Sizes.{most_symbols}
 use Rattle.term.specs.Term.{public, fresh, Term, leaf, symbols}
 use Rattle.lists.specs.Lists.{◌∈◌, nth}
@@ -53,8 +53,8 @@ pub record ValueFits (sort : ℕ) (v : Term) : Type 0 where
 
 -- variable i of a node has this sort and this value
 pub record ValueAt (u : Rule) (x : Node) (i sort : ℕ) (v : Term) : Type 0 where
-  pub sorted : get_elem? u.sorts i ≡ some sort
-  pub valued : get_elem? x.values i ≡ some v
+  pub sorted : slice_get u.sorts i ≡ Some sort
+  pub valued : slice_get x.values i ≡ Some v
 
 -- a term of a rule's premises, actions or conclusions
 pub record TermOf (u : Rule) (t : Term) : Type 0 where
@@ -72,7 +72,7 @@ module _ (p : Protocol) where
   -- a node whose values fit and whose filled-in terms are small enough
   pub record NodeRight (x : Node) : Type 0 where
     pub is : Rule
-    pub known : rule_of p x.rule ≡ some is
+    pub known : rule_of p x.rule ≡ Some is
     pub fits : (i sort : ℕ) (v : Term) → ValueAt is x i sort v → ValueFits sort v
     pub small : (t : Term) → TermOf is t → filled_symbols x.values t ≤ most_filled_in
 
@@ -81,8 +81,8 @@ module _ (p : Protocol) where
     pub record WrongValue (k : ℕ) : Type 0 where
       pub node : Node
       pub is : Rule
-      pub stands : nth xs k ≡ some node
-      pub known : rule_of p node.rule ≡ some is
+      pub stands : nth xs k ≡ Some node
+      pub known : rule_of p node.rule ≡ Some is
       pub variable_is : ℕ
       pub sort : ℕ
       pub value : Term
@@ -93,8 +93,8 @@ module _ (p : Protocol) where
     pub record TermLong (k : ℕ) : Type 0 where
       pub node : Node
       pub is : Rule
-      pub stands : nth xs k ≡ some node
-      pub known : rule_of p node.rule ≡ some is
+      pub stands : nth xs k ≡ Some node
+      pub known : rule_of p node.rule ≡ Some is
       pub term : Term
       pub there : TermOf is term
       pub long : most_filled_in < filled_symbols node.values term

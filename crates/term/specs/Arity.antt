@@ -1,6 +1,6 @@
 -- "Arities: one 0; h, fst, snd, inv 1; the others 2; a free function as declared." A slot for each tag.
 use Rattle.std.specs.Prelude.{ℕ, zero, suc, List, [], ◌∷◌, ◌++◌, get_or, ltb, eqb}
-use Rattle.std.proofs.Math.Option.{Option, some, none}
+use Rattle.std.specs.Prelude.{Option, Some, None}
 use Rattle.lists.specs.Choice.{pick}
 use Rattle.term.specs.Tags.{first_function, most_functions}
 -- their laws
@@ -13,7 +13,7 @@ undeclared = 255
 -- the arity of each tag in a table of slots; tags 0 to 2 are leaves and no functions
 unfoldable pub arity : List ℕ → ℕ → Option ℕ
 arity arities f =
-    pick (ltb f first_function) none (pick (eqb (get_or arities f undeclared) undeclared) none (some (get_or arities f undeclared)))
+    pick (ltb f first_function) None (pick (eqb (get_or arities f undeclared) undeclared) None (Some (get_or arities f undeclared)))
 
 -- 3 one; 4 enc; 5 dec; 6 h; 7 pair; 8 fst; 9 snd; 10 exp; 11 inv; 12 mul
 abbrev pub builtin : List ℕ

@@ -1,6 +1,6 @@
 -- Reading one term at a place: its first symbol, and as many terms behind it as that takes.
 use Rattle.std.specs.Prelude.{ℕ, zero, suc, List, [], ◌∷◌, length, ltb}
-use Rattle.std.proofs.Math.Option.{Option, some, none}
+use Rattle.std.specs.Prelude.{Option, Some, None}
 use Rattle.lists.specs.Choice.{pick}
 use Rattle.number.specs.Reading.{Read, got, fault, and_then, read_number, many}
 use Rattle.term.specs.declared.Symbol.{Symbol}
@@ -28,8 +28,8 @@ name_at t (got n e) = sy.Leaf t n e
 name_at t fault = sy.Fault
 
 abbrev pub op_at : ℕ → Option ℕ → ℕ → Symbol
-op_at t (some k) e = sy.Op t k e
-op_at t none e = sy.Fault
+op_at t (Some k) e = sy.Op t k e
+op_at t None e = sy.Fault
 
 abbrev pub symbol_of : List ℕ → List ℕ → Read ℕ → Symbol
 symbol_of file arities (got t e) = pick (ltb t first_function) (name_at t (read_number file e)) (op_at t (arity arities t) e)

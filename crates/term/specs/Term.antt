@@ -1,6 +1,6 @@
 -- "A term is written in prefix order, tag first": terms as trees, their bytes, their symbols.
 use Rattle.std.specs.Prelude.{ℕ, suc, ◌+◌, ◌<◌, List, [], ◌++◌, ◌⊎◌, ◌≡◌}
-use Rattle.std.proofs.Math.Option.{Option, some}
+use Rattle.std.specs.Prelude.{Option, Some}
 use Rattle.number.specs.Groups.{groups, number_limit}
 use Rattle.term.specs.Tags.{variable_tag, public_tag, fresh_tag}
 -- the encoding is read in one way only
@@ -54,7 +54,7 @@ abbrev mutual
 abbrev mutual
   pub Formed : (ℕ → Option ℕ) → Term → Type 0
   Formed ar (leaf k n) = Unit {0}
-  Formed ar (app f ts) = (ar f ≡ some (count ts)) × Formeds ar ts
+  Formed ar (app f ts) = (ar f ≡ Some (count ts)) × Formeds ar ts
 
   pub Formeds : (ℕ → Option ℕ) → Terms → Type 0
   Formeds ar nil = Unit {0}

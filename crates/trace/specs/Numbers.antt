@@ -1,6 +1,6 @@
 -- The first number of each place: a public name has base and its number, another argument the mark of its canonical bytes.
 use Rattle.std.specs.Prelude.{ℕ, ◌+◌, ◌/◌, ◌%◌, ◌<◌, List, ◌≡◌, length, get_or, ltb}
-use Rattle.std.proofs.Math.Option.{Option, none, some}
+use Rattle.std.specs.Prelude.{Option, Some, None}
 use Rattle.lists.specs.Choice.{pick}
 use Rattle.term.specs.Term.{variable, public, fresh, Term, leaf, app, encode, Formed, InRange}
 use Rattle.term.specs.Arity.{arity}
@@ -21,14 +21,14 @@ pub mod Places
 
 -- ── the number of a canonical form ──
 abbrev pub public_number : Term → Option ℕ
-public_number (leaf variable n) = none
-public_number (leaf public n) = some n
-public_number (leaf fresh n) = none
-public_number (app f ts) = none
+public_number (leaf variable n) = None
+public_number (leaf public n) = Some n
+public_number (leaf fresh n) = None
+public_number (app f ts) = None
 
 abbrev pub number_by : Option ℕ → ℕ → ℕ
-number_by none m = m
-number_by (some n) m = base + n
+number_by None m = m
+number_by (Some n) m = base + n
 
 abbrev pub form_number : Term → ℕ
 form_number t = number_by (public_number t) (mark_from 0 (encode t))

@@ -1,6 +1,6 @@
 -- The trace in numbers: for each node where its actions begin, for each action its symbol, for each argument of it its class.
 use Rattle.std.specs.Prelude.{ℕ, ◌+◌, ◌*◌, ◌≤◌, ◌<◌, List, ◌↔◌, ◌≡◌, length, get_or}
-use Rattle.std.proofs.Math.Option.{Option}
+use Rattle.std.specs.Prelude.{Option}
 use Rattle.lists.specs.Joined.{joined, before}
 use Rattle.term.specs.Arity.{arity, tag_arities}
 use Rattle.message.specs.Promise.{Message, SameMessage, public_name}

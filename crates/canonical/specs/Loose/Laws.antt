@@ -4,7 +4,7 @@ use Rattle.std.specs.Prelude.{ℕ, suc, ◌≤◌, ◌≡◌, ◌≢◌, ◌⊎�
 use Rattle.std.proofs.Math.Path.{refl, sym, ap, ap₂}
 use Rattle.std.proofs.Common.{◌∙◌, subst, inl, inr, ⊎_elim, arith, length-append, eq-eqb, ne_eqb, eqb-true}
 use Rattle.std.proofs.Math.Bool.{true, false, cond}
-use Rattle.std.proofs.Math.Option.{Option, some}
+use Rattle.std.specs.Prelude.{Option, Some}
 use Rattle.term.specs.Tags.{exp_tag, mul_tag}
 use Rattle.lists.specs.Choice.{clash}
 use Rattle.number.specs.Groups.{groups}
@@ -144,7 +144,7 @@ pub record NoLargers (ar : ℕ → Option ℕ) (ts us : Terms) : Type 0 where
 module _ (ar : ℕ → Option ℕ) where
   pub app_size : (f : ℕ) (ts us : Terms) → NoLargers ar ts us → NoLarger ar (app f ts) (app f us)
   app_size f ts us n = record {
-    formed = λ w. (w.0 ∙ ap some (sym n.as_many), n.formeds w.1);
+    formed = λ w. (w.0 ∙ ap Some (sym n.as_many), n.formeds w.1);
     range = λ r. (r.0, n.ranges r.1);
     symbols_less = omega (arith, n.symbolss_less);
     bytes_less = omega (arith, n.bytess_less, length-append (groups f) (encodes ts), length-append (groups f) (encodes us));

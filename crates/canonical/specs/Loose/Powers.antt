@@ -2,7 +2,7 @@
 use Rattle.std.specs.Prelude.{ℕ, ◌≡◌}
 use Rattle.std.proofs.Math.Path.{sym, ap, ap₂}
 use Rattle.std.proofs.Common.{◌∙◌}
-use Rattle.std.proofs.Math.Option.{Option}
+use Rattle.std.specs.Prelude.{Option}
 use Rattle.term.specs.Tags.{exp_tag}
 use Rattle.term.specs.Term.{Term, Terms, nil, ◌&◌, Formed, Formeds}
 use Rattle.message.specs.Functions.{exp, mul}

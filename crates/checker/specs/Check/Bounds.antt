@@ -1,6 +1,7 @@
 -- The figures of checking's outcome are small, whatever the files: no number over 13, no item over 4,096, no more than 512 nodes and 4,096 edges.
 use Rattle.std.specs.Prelude.{ℕ, suc, ◌≤◌, List, [], ◌∷◌, Bool, true, false, ◌≡◌, refl, length}
-use Rattle.std.proofs.Math.Option.{Option, some, none, none-ne-some}
+use Rattle.std.specs.Prelude.{Option, Some, None}
+use Rattle.std.proofs.lemmas.Option.{none-some}
 use Rattle.std.proofs.Common.{ap, sym, subst, arith}
 use Rattle.lists.specs.Lists.{nth, bit, count_by}
 use Rattle.lists.specs.Lists.Laws.{map_nth, nth_bound}
@@ -66,10 +67,10 @@ property_small r =
 
 -- ── the nodes of a graph or step list ──
 module _ (p : Protocol) (xs : List Node) (few : length xs ≤ most_nodes) where
-  pub node_small : (k : ℕ) (x : Node) → nth xs k ≡ some x → k ≤ most_nodes
+  pub node_small : (k : ℕ) (x : Node) → nth xs k ≡ Some x → k ≤ most_nodes
   node_small k x h = omega (arith, few, nth_bound xs k x h)
 
-  pub seen_small : (k : ℕ) (y : theory.Node Fact) → nth (rewrittens p xs) k ≡ some y → k ≤ most_nodes
+  pub seen_small : (k : ℕ) (y : theory.Node Fact) → nth (rewrittens p xs) k ≡ Some y → k ≤ most_nodes
   seen_small k y h = let (x, i, e) = map_nth (rewritten p) xs k y h in node_small k x i
 
 -- the node that has no such rule is one of at most 512
@@ -85,23 +86,23 @@ module _ (p : Protocol) (file : List ℕ) (bytes : Bytes file) where
   unruled k h = omega (arith, missing_small p file bytes k ((graph_rule_missing file p k).0 h))
 
   module _ (g : Graph) (few : length g.nodes ≤ most_nodes) (few_edges : length g.edges ≤ most_edges) where
-    of_nodes : (k : ℕ) (x : Node) → nth g.nodes k ≡ some x → k ≤ most_item
+    of_nodes : (k : ℕ) (x : Node) → nth g.nodes k ≡ Some x → k ≤ most_item
     of_nodes k x h = omega (arith, node_small p g.nodes few k x h)
 
-    of_seen : (k : ℕ) (y : theory.Node Fact) → nth (rewrittens p g.nodes) k ≡ some y → k ≤ most_item
+    of_seen : (k : ℕ) (y : theory.Node Fact) → nth (rewrittens p g.nodes) k ≡ Some y → k ≤ most_item
     of_seen k y h = omega (arith, seen_small p g.nodes few k y h)
 
-    edge_small : (k : ℕ) (e : theory.Edge) → nth g.edges k ≡ some e → k ≤ most_item
+    edge_small : (k : ℕ) (e : theory.Edge) → nth g.edges k ≡ Some e → k ≤ most_item
     edge_small k e h = omega (arith, few_edges, nth_bound g.edges k e h)
 
     place_small :
         (part : theory.Node Fact → List Fact) (k i : ℕ) (f : Fact)
-        → theory.fact_at part (rewrittens p g.nodes) (graphs.place_of k i) ≡ some f → k ≤ most_item
+        → theory.fact_at part (rewrittens p g.nodes) (graphs.place_of k i) ≡ Some f → k ≤ most_item
     place_small part k i f h = go (nth (rewrittens p g.nodes) k) refl h
       where
-        go : (o : Option (theory.Node Fact)) → nth (rewrittens p g.nodes) k ≡ o → theory.in_node part i o ≡ some f → k ≤ most_item
-        go (some y) e q = of_seen k y e
-        go none e q = absurd (none-ne-some f q)
+        go : (o : Option (theory.Node Fact)) → nth (rewrittens p g.nodes) k ≡ o → theory.in_node part i o ≡ Some f → k ≤ most_item
+        go (Some y) e q = of_seen k y e
+        go None e q = absurd (none-some f q)
 
     passes_small : Few (graph_rows p g)
     passes_small = (

@@ -1,7 +1,7 @@
 -- Checking case by case, as the code goes: the sizes, and what is left in the work area.
 use Rattle.std.specs.Prelude.{ℕ, ◌≤◌, ◌<◌, ◌≡◌, length, replicate}
 use mathlib.Core.List.{List, [], ◌∷◌}
-use Rattle.std.proofs.Math.Option.{Option}
+use Rattle.std.specs.Prelude.{Option}
 use Rattle.std.proofs.Common.{ap, ◌∙◌, arith}
 use Rattle.std.proofs.Math.Path.{sym, subst}
 use Rattle.number.specs.Reading.{Read, got, fault}

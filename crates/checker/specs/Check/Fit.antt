@@ -1,7 +1,7 @@
 -- A fit property file: "A protocol, or a property under a fit protocol, is fit when causes 2 to 5 are absent from it": of a property file these
 -- are 2, 3 and 5.
 use Rattle.std.specs.Prelude.{ℕ, ◌≤◌, ◌<◌, List, [], ◌∷◌, ◌↔◌, Bool, not, cond, ◌≡◌, refl, length}
-use Rattle.std.proofs.Math.Option.{some, none}
+use Rattle.std.specs.Prelude.{Some, None}
 use Rattle.std.proofs.Common.{ap, ◌∙◌, arith}
 use Rattle.lists.specs.Choice.{by_size}
 use Rattle.octets.specs.Head.{Bytes}
@@ -41,7 +41,7 @@ module _ (p : Protocol) (file : List ℕ) where
   -- a fit property passes
   pub fit_property_passed : (f : Formula) → FitProperty p file f → property_under p file ≡ passed f
   fit_property_passed f h =
-      ap property_ruling h.reads ∙ ap (λ (b : Bool). or_refuse 5 (cond (not b) (some 0) none) (passed f)) (reflects_back (fit_decides [] f) h.fits)
+      ap property_ruling h.reads ∙ ap (λ (b : Bool). or_refuse 5 (cond (not b) (Some 0) None) (passed f)) (reflects_back (fit_decides [] f) h.fits)
 
   module _ (within : Within p) (bytes : Bytes file) where
     pub passing_fit : length file ≤ property_limit → (f : Formula) → Passing Reading f → FitProperty p file f

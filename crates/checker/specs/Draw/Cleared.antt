@@ -2,7 +2,7 @@
 use Rattle.std.specs.Prelude.{ℕ, ◌≤◌, ◌⊎◌, ◌≡◌, refl, length, replicate}
 use mathlib.Core.List.{List, [], ◌∷◌}
 use Rattle.std.proofs.Common.{inl, inr, arith}
-use Rattle.std.proofs.Math.Option.{Option}
+use Rattle.std.specs.Prelude.{Option}
 use Rattle.std.proofs.Math.Path.{sym, subst}
 use Rattle.lists.specs.Lists.{first_bad}
 use Rattle.rewriting.specs.Table.{Ruling, passed, refused, Says, Ruled, and_then, or_refuse}

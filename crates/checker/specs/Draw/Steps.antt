@@ -1,6 +1,6 @@
 -- The steps under a protocol, case by case: what is read, what 7, 8 and 9 rule of it, and then the edges.
 use Rattle.std.specs.Prelude.{ℕ, List, [], Bool, ◌≡◌, refl, length}
-use Rattle.std.proofs.Math.Option.{Option, some, none}
+use Rattle.std.specs.Prelude.{Option, Some, None}
 use Rattle.std.proofs.Math.Path.{ap}
 use Rattle.std.proofs.Common.{sym, ◌∙◌, eq-eqb}
 use Rattle.lists.specs.Choice.{pick}
@@ -29,9 +29,9 @@ use Rattle.graph.specs.Ruling.{refused_first}
 use Rattle.checker.specs.Draw.{graph_of, nodes_under, steps_under}
 
 -- a pass over rows that no item has finds nothing
-none_found : (P : ℕ → Type 0) (o : Option ℕ) → Finds P o → ((k : ℕ) → P k → ⊥) → o ≡ none
-none_found P none f h = refl
-none_found P (some k) f h = absurd (h k f.here)
+none_found : (P : ℕ → Type 0) (o : Option ℕ) → Finds P o → ((k : ℕ) → P k → ⊥) → o ≡ None
+none_found P None f h = refl
+none_found P (Some k) f h = absurd (h k f.here)
 
 refused_alike : {A B : Type 0} (a b n k : ℕ) → Path (Ruling A) (refused a b) (refused n k) → Path (Ruling B) (refused a b) (refused n k)
 refused_alike a b n k h = cc
@@ -71,7 +71,7 @@ module _ (p : Protocol) (xs : List Node) where
 
   -- and 9 too, where no name is made twice
   module _ (within : All (NodeWithin p) xs) (passing : Passing p xs) where
-    none_twice : names ≡ none
+    none_twice : names ≡ None
     none_twice = once_names (rewrittens p xs) passing.names_once
 
     pub passing_through : nodes_under p xs ≡ with_edges freely

@@ -1,7 +1,7 @@
 -- What the table says of each file: its rulings are ruled by its rows.
 use Rattle.std.specs.Prelude.{ℕ, List, [], ◌∷◌, ◌≡◌, refl, true, ◌↔◌}
 use Rattle.std.proofs.Common.{inl, inr, arith}
-use Rattle.std.proofs.Math.Option.{some}
+use Rattle.std.specs.Prelude.{Some}
 use Rattle.term.specs.Sizes.{most_symbols}
 use Rattle.lists.specs.Choice.{clash}
 use Rattle.lists.specs.Tests.{true_false, not_true}
@@ -43,7 +43,7 @@ module _ (p : Protocol) (within : Within p) where
   abbrev Limits : Rule → Type 0
   Limits = RuleWithin (tag_arities p.functions) (fact_arities p.symbols)
 
-  pub decided : (k : ℕ) (r : Rule) → nth p.rules k ≡ some r → (fits r ≡ true) ↔ Fit r
+  pub decided : (k : ℕ) (r : Rule) → nth p.rules k ≡ Some r → (fits r ≡ true) ↔ Fit r
   decided k r h =
       fit_exactly (tag_arities p.functions) (fact_arities p.symbols) r (all_nth Limits p.rules within.rules k r h)
 

@@ -1,6 +1,6 @@
 -- The verdict on a protocol file, as the code gives it, is the ruling of causes 3 and 4.
 use Rattle.std.specs.Prelude.{ℕ, zero, suc, ◌<◌, List, Bool, true, not, ◌≡◌, refl, length, get_or}
-use Rattle.std.proofs.Math.Option.{Option, some, none}
+use Rattle.std.specs.Prelude.{Option, Some, None}
 use Rattle.std.proofs.Common.{ap, sym, ◌∙◌, arith}
 use Rattle.lists.specs.Choice.{cut_eq, clash}
 use Rattle.number.specs.Reading.{Read, got, fault}
@@ -18,15 +18,15 @@ use Rattle.checker.specs.Files.{protocol_item, layout, fit_ruling, protocol_ruli
 
 -- ── a pass finds one thing ──
 finds_unique : (P : ℕ → Type 0) (o q : Option ℕ) → Finds P o → Finds P q → o ≡ q
-finds_unique P none none f g = refl
-finds_unique P none (some k) f g = absurd (f k g.here)
-finds_unique P (some k) none f g = absurd (g k f.here)
-finds_unique P (some j) (some k) f g = ap some (least_unique P j k f g)
+finds_unique P None None f g = refl
+finds_unique P None (Some k) f g = absurd (f k g.here)
+finds_unique P (Some k) None f g = absurd (g k f.here)
+finds_unique P (Some j) (Some k) f g = ap Some (least_unique P j k f g)
 
 -- ── the least rule that breaks a condition is the one that the pass finds ──
 abbrev item : ℕ → Option ℕ
-item zero = none
-item (suc k) = some (suc k)
+item zero = None
+item (suc k) = Some (suc k)
 
 abbrev ok : ℕ → Rule → Bool
 ok k r = fits r

@@ -1,7 +1,7 @@
 -- The first of some terms, the others, the arguments of a term, terms behind others.
 use Rattle.std.specs.Prelude.{ℕ, ◌+◌, ◌≤◌, ◌<◌, ◌≡◌, refl, List, [], ◌++◌, length, drop}
 use Rattle.std.proofs.Common.{ap, sym, ◌∙◌, subst, append-nil, append_assoc, arith}
-use Rattle.std.proofs.Math.Option.{Option}
+use Rattle.std.specs.Prelude.{Option}
 use Rattle.octets.specs.Head.{Bytes, Stands, stands_at, stands_within, stands_join, behind}
 use Rattle.term.specs.Term.{Term, leaf, app, Terms, nil, ◌&◌, count, encode, encodes, symbols, symbolss, Formeds, InRanges}
 use Rattle.term.specs.Arity.{arity}

@@ -1,7 +1,8 @@
 -- A graph of nodes within the limits that is accepted keeps within the limits too, "count of edges (4,096)": a node has at most 8 premises, and an
 -- edge takes at most 6 bytes. Its bytes are bytes.
 use Rattle.std.specs.Prelude.{ℕ, suc, ◌+◌, ◌*◌, ◌≤◌, List, [], ◌∷◌, ◌≡◌, refl, length}
-use Rattle.std.proofs.Math.Option.{Option, some, none, none-ne-some}
+use Rattle.std.specs.Prelude.{Option, Some, None}
+use Rattle.std.proofs.lemmas.Option.{none-some}
 use Rattle.std.proofs.Common.{ap, sym, ◌∙◌, arith, length-append}
 use Rattle.lists.specs.All.{All}
 use Rattle.lists.specs.All.Laws.{all_map, all_nth, nth_all}
@@ -58,14 +59,14 @@ module _ (p : Protocol) (fit : Within p) where
     -- where a fact stands
     place_few :
         (part : theory.Node Fact → List Fact) (list : ℕ) → ((x : Node) → part (rewritten p x) ≡ facts_of p list x) → (a : Place) (f : Fact)
-        → theory.fact_at part (rewrittens p xs) a ≡ some f → PlaceFew a
+        → theory.fact_at part (rewrittens p xs) a ≡ Some f → PlaceFew a
     place_few part list same a f h = go (nth (rewrittens p xs) a.node) refl h
       where
-        go : (o : Option (theory.Node Fact)) → nth (rewrittens p xs) a.node ≡ o → in_node part a.index o ≡ some f → PlaceFew a
-        go none e q = absurd (none-ne-some f q)
-        go (some y) e q =
+        go : (o : Option (theory.Node Fact)) → nth (rewrittens p xs) a.node ≡ o → in_node part a.index o ≡ Some f → PlaceFew a
+        go None e q = absurd (none-some f q)
+        go (Some y) e q =
             let (x, i, j) = map_nth (rewritten p) xs a.node y e in
-            let k : nth (facts_of p list x) a.index ≡ some f = ap (λ (l : List Fact). nth l a.index) (sym (same x) ∙ ap part j) ∙ q in
+            let k : nth (facts_of p list x) a.index ≡ Some f = ap (λ (l : List Fact). nth l a.index) (sym (same x) ∙ ap part j) ∙ q in
             let few = facts_few p fit x (all_nth (NodeWithin p) xs within.each a.node x i) list in (
               omega (arith, within.few, nth_bound xs a.node x i),
               omega (arith, few, nth_bound (facts_of p list x) a.index f k),

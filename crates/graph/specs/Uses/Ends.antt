@@ -1,6 +1,6 @@
 -- The ends of a graph of which 10 is absent have counts, and the counts are those of its edges.
 use Rattle.std.specs.Prelude.{ℕ, ◌*◌, ◌≤◌, ◌<◌, List, length}
-use Rattle.std.proofs.Math.Option.{Option}
+use Rattle.std.specs.Prelude.{Option}
 use Rattle.std.proofs.Common.{ap, arith}
 use Rattle.rewriting.specs.Graph.{Place}
 use Rattle.protocol.specs.Figures.{most_facts}

@@ -1,6 +1,7 @@
 -- What holds of a condition of all elements of a list.
 use Rattle.std.specs.Prelude.{ℕ, zero, suc, ◌<◌, List, [], ◌∷◌, ◌++◌, map, Bool, false, ◌≡◌, refl, length, get_or, take}
-use Rattle.std.proofs.Math.Option.{some, none-ne-some, some-injective}
+use Rattle.std.specs.Prelude.{Some}
+use Rattle.std.proofs.lemmas.Option.{none-some, same_Some}
 use Rattle.std.proofs.Common.{subst, arith}
 use Rattle.lists.specs.Lists.{any_by, keep_by, nth}
 use Rattle.lists.specs.All.{All}
@@ -29,18 +30,18 @@ module _ {A : Type 0} (P : A → Type 0) where
   all_inside d (x ∷ xs) a (suc i) l = all_inside d xs a.1 i (omega arith)
 
   -- of the element of a number, counted from 1
-  pub all_nth : (xs : List A) → All P xs → (k : ℕ) (x : A) → nth xs k ≡ some x → P x
-  all_nth xs a zero x h = absurd (none-ne-some x h)
-  all_nth [] a (suc k) x h = absurd (none-ne-some x h)
-  all_nth (y ∷ ys) a (suc zero) x h = subst P (some-injective y x h) a.0
+  pub all_nth : (xs : List A) → All P xs → (k : ℕ) (x : A) → nth xs k ≡ Some x → P x
+  all_nth xs a zero x h = absurd (none-some x h)
+  all_nth [] a (suc k) x h = absurd (none-some x h)
+  all_nth (y ∷ ys) a (suc zero) x h = subst P (same_Some y x h) a.0
   all_nth (y ∷ ys) a (suc (suc k)) x h = all_nth ys a.1 (suc k) x h
 
-  pub nth_all : (xs : List A) → ((k : ℕ) (x : A) → nth xs k ≡ some x → P x) → All P xs
+  pub nth_all : (xs : List A) → ((k : ℕ) (x : A) → nth xs k ≡ Some x → P x) → All P xs
   nth_all [] h = tt
   nth_all (x ∷ xs) h = (h 1 x refl, nth_all xs (λ k y e. later k y e))
     where
-      later : (k : ℕ) (y : A) → nth xs k ≡ some y → P y
-      later zero y e = absurd (none-ne-some y e)
+      later : (k : ℕ) (y : A) → nth xs k ≡ Some y → P y
+      later zero y e = absurd (none-some y e)
       later (suc k) y e = h (suc (suc k)) y e
 
   -- of two lists one behind the other, of those that pass a test, of the first ones

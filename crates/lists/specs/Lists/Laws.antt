@@ -1,10 +1,13 @@
 -- What holds of the functions that count and search a list.
+use Rattle.lists.specs.Tests.{some_none}
 use Rattle.std.specs.Prelude.{◌≡◌, refl, Bool, true, false, not, ◌&&◌, ◌||◌, List, [], ◌∷◌, ◌++◌, map, ℕ, zero, suc, ◌+◌, ◌≤◌, ◌<◌, get_or, length, replicate}
 use Rattle.std.proofs.Common.{sym, ◌∙◌, ap, ap₂, ⊎_elim, arith}
 use Rattle.std.proofs.Math.Bool.{or_assoc, or-false}
 use mathlib.Core.List.Memᴰ
-use Rattle.std.proofs.Math.Option.{Option, none, some, none-ne-some, some-ne-none, some-injective}
-use Rattle.std.proofs.Math.ListN.{get_elem?, get_or-eq_default}
+use Rattle.std.specs.Prelude.{Option, Some, None}
+use Rattle.std.proofs.lemmas.Option.{none-some, same_Some}
+use Rattle.std.proofs.Math.ListN.{get_or-eq_default}
+use Rattle.std.specs.Prelude.{slice_get}
 use Rattle.std.proofs.lemmas.List.{get_or-replicate, length-replicate}
 use Rattle.lists.specs.Choice.{by_order}
 use Rattle.lists.specs.Lists.{◌∈◌, bit, count_by, any_by, all_by, first_by, remove_by, keep_by, nth, row}
@@ -18,29 +21,29 @@ module _ {A : Type 0} where
   count_append p (x ∷ xs) ys = omega (arith, count_append p xs ys)
 
   -- Removing the first that passes `p` takes just that element out of every count.
-  pub count_remove : (p q : A → Bool) (xs : List A) (a : A) → first_by p xs ≡ some a → count_by q xs ≡ bit (q a) + count_by q (remove_by p xs)
-  count_remove p q [] a e = absurd (none-ne-some a e)
+  pub count_remove : (p q : A → Bool) (xs : List A) (a : A) → first_by p xs ≡ Some a → count_by q xs ≡ bit (q a) + count_by q (remove_by p xs)
+  count_remove p q [] a e = absurd (none-some a e)
   count_remove p q (x ∷ xs) a e =
       by_bool (p x)
-      (λ t. rw t (rw (some-injective x a (rw t at e)) refl))
+      (λ t. rw t (rw (same_Some x a (rw t at e)) refl))
       (λ f. rw f (let ih = count_remove p q xs a (rw f at e) in omega arith))
 
-  pub first_passes : (p : A → Bool) (xs : List A) (a : A) → first_by p xs ≡ some a → p a ≡ true
-  first_passes p [] a e = absurd (none-ne-some a e)
+  pub first_passes : (p : A → Bool) (xs : List A) (a : A) → first_by p xs ≡ Some a → p a ≡ true
+  first_passes p [] a e = absurd (none-some a e)
   first_passes p (x ∷ xs) a e =
-      by_bool (p x) (λ t. let i : x ≡ a = some-injective x a (rw t at e) in ap p (sym i) ∙ t) (λ f. first_passes p xs a (rw f at e))
+      by_bool (p x) (λ t. let i : x ≡ a = same_Some x a (rw t at e) in ap p (sym i) ∙ t) (λ f. first_passes p xs a (rw f at e))
 
-  pub first_mem : (p : A → Bool) (xs : List A) (a : A) → first_by p xs ≡ some a → a ∈ xs
-  first_mem p [] a e = absurd (none-ne-some a e)
+  pub first_mem : (p : A → Bool) (xs : List A) (a : A) → first_by p xs ≡ Some a → a ∈ xs
+  first_mem p [] a e = absurd (none-some a e)
   first_mem p (x ∷ xs) a e =
-      by_bool (p x) (λ t. Memᴰ.head (sym (some-injective x a (rw t at e)))) (λ f. Memᴰ.tail (first_mem p xs a (rw f at e)))
+      by_bool (p x) (λ t. Memᴰ.head (sym (same_Some x a (rw t at e)))) (λ f. Memᴰ.tail (first_mem p xs a (rw f at e)))
 
-  pub first_none : (p : A → Bool) (xs : List A) → first_by p xs ≡ none → count_by p xs ≡ 0
+  pub first_none : (p : A → Bool) (xs : List A) → first_by p xs ≡ None → count_by p xs ≡ 0
   first_none p [] e = refl
   first_none p (x ∷ xs) e =
-      by_bool (p x) (λ t. absurd (some-ne-none x (rw t at e))) (λ f. rw f (let ih = first_none p xs (rw f at e) in omega arith))
+      by_bool (p x) (λ t. absurd (some_none x (rw t at e))) (λ f. rw f (let ih = first_none p xs (rw f at e) in omega arith))
 
-  pub first_some : (p : A → Bool) (xs : List A) → 1 ≤ count_by p xs → (a : A) × (first_by p xs ≡ some a)
+  pub first_some : (p : A → Bool) (xs : List A) → 1 ≤ count_by p xs → (a : A) × (first_by p xs ≡ Some a)
   first_some p xs h = by_option (first_by p xs) (λ n. absurd (omega (arith, first_none p xs n))) (λ a e. (a, e))
 
   pub count_remove_other : (p q : A → Bool) → ((a : A) → p a ≡ true → q a ≡ false) → (xs : List A) → count_by q (remove_by p xs) ≡ count_by q xs
@@ -123,63 +126,63 @@ module _ {A : Type 0} where
       (λ f. rw f)
 
   -- What is in the list stands at a number, and what stands at a number is in the list.
-  mem_at : (xs : List A) (a : A) → a ∈ xs → (i : ℕ) × (get_elem? xs i ≡ some a)
+  mem_at : (xs : List A) (a : A) → a ∈ xs → (i : ℕ) × (slice_get xs i ≡ Some a)
   mem_at [] a m = absurd (Memᴰ.not-nil m)
   mem_at (x ∷ xs) a m =
-      ⊎_elim (λ i. (0, ap {B = Option A} some (sym i))) (λ n. let (i, h) = mem_at xs a n in (suc i, h)) (Memᴰ.cases_cons m)
+      ⊎_elim (λ i. (0, ap {B = Option A} Some (sym i))) (λ n. let (i, h) = mem_at xs a n in (suc i, h)) (Memᴰ.cases_cons m)
 
-  pub mem_nth : (xs : List A) (a : A) → a ∈ xs → (k : ℕ) × (nth xs k ≡ some a)
+  pub mem_nth : (xs : List A) (a : A) → a ∈ xs → (k : ℕ) × (nth xs k ≡ Some a)
   mem_nth xs a m = let (i, h) = mem_at xs a m in (suc i, h)
 
-  at_mem : (xs : List A) (a : A) (i : ℕ) → get_elem? xs i ≡ some a → a ∈ xs
-  at_mem [] a i h = absurd (none-ne-some a h)
-  at_mem (x ∷ xs) a zero h = Memᴰ.head (sym (some-injective x a h))
+  at_mem : (xs : List A) (a : A) (i : ℕ) → slice_get xs i ≡ Some a → a ∈ xs
+  at_mem [] a i h = absurd (none-some a h)
+  at_mem (x ∷ xs) a zero h = Memᴰ.head (sym (same_Some x a h))
   at_mem (x ∷ xs) a (suc i) h = Memᴰ.tail (at_mem xs a i h)
 
-  pub nth_mem : (xs : List A) (a : A) (k : ℕ) → nth xs k ≡ some a → a ∈ xs
-  nth_mem xs a zero h = absurd (none-ne-some a h)
+  pub nth_mem : (xs : List A) (a : A) (k : ℕ) → nth xs k ≡ Some a → a ∈ xs
+  nth_mem xs a zero h = absurd (none-some a h)
   nth_mem xs a (suc i) h = at_mem xs a i h
 
   -- What stands at a number, from 0, is what is read there with any default.
-  pub at_inside : (d : A) (xs : List A) (i : ℕ) → i < length xs → get_elem? xs i ≡ some (get_or xs i d)
+  pub at_inside : (d : A) (xs : List A) (i : ℕ) → i < length xs → slice_get xs i ≡ Some (get_or xs i d)
   at_inside d [] i h = absurd (omega arith)
   at_inside d (x ∷ xs) zero h = refl
   at_inside d (x ∷ xs) (suc i) h = at_inside d xs i (omega arith)
 
-  pub at_outside : (xs : List A) (i : ℕ) → length xs ≤ i → get_elem? xs i ≡ none
+  pub at_outside : (xs : List A) (i : ℕ) → length xs ≤ i → slice_get xs i ≡ None
   at_outside [] i h = refl
   at_outside (x ∷ xs) zero h = absurd (omega arith)
   at_outside (x ∷ xs) (suc i) h = at_outside xs i (omega arith)
 
-  pub at_some : (d : A) (xs : List A) (i : ℕ) (x : A) → get_elem? xs i ≡ some x → (i < length xs) × (get_or xs i d ≡ x)
-  at_some d [] i x h = absurd (none-ne-some x h)
-  at_some d (y ∷ xs) zero x h = (omega arith, some-injective y x h)
+  pub at_some : (d : A) (xs : List A) (i : ℕ) (x : A) → slice_get xs i ≡ Some x → (i < length xs) × (get_or xs i d ≡ x)
+  at_some d [] i x h = absurd (none-some x h)
+  at_some d (y ∷ xs) zero x h = (omega arith, same_Some y x h)
   at_some d (y ∷ xs) (suc i) x h = let f = at_some d xs i x h in (omega (arith, f.0), f.1)
 
   -- A list behind another.
-  pub first_behind : (p : A → Bool) (l m : List A) → first_by p l ≡ none → first_by p (l ++ m) ≡ first_by p m
+  pub first_behind : (p : A → Bool) (l m : List A) → first_by p l ≡ None → first_by p (l ++ m) ≡ first_by p m
   first_behind p [] m h = refl
   first_behind p (x ∷ xs) m h =
-      by_bool (p x) (λ t. absurd (some-ne-none x (rw t at h))) (λ f. rw f (first_behind p xs m (rw f at h)))
+      by_bool (p x) (λ t. absurd (some_none x (rw t at h))) (λ f. rw f (first_behind p xs m (rw f at h)))
 
-  pub first_before : (p : A → Bool) (l m : List A) (a : A) → first_by p l ≡ some a → first_by p (l ++ m) ≡ some a
-  first_before p [] m a h = absurd (none-ne-some a h)
+  pub first_before : (p : A → Bool) (l m : List A) (a : A) → first_by p l ≡ Some a → first_by p (l ++ m) ≡ Some a
+  first_before p [] m a h = absurd (none-some a h)
   first_before p (x ∷ xs) m a h = by_bool (p x) (λ t. rw t (rw t at h)) (λ f. rw f (first_before p xs m a (rw f at h)))
 
-  pub remove_behind : (p : A → Bool) (l m : List A) → first_by p l ≡ none → remove_by p (l ++ m) ≡ l ++ remove_by p m
+  pub remove_behind : (p : A → Bool) (l m : List A) → first_by p l ≡ None → remove_by p (l ++ m) ≡ l ++ remove_by p m
   remove_behind p [] m h = refl
   remove_behind p (x ∷ xs) m h =
-      by_bool (p x) (λ t. absurd (some-ne-none x (rw t at h)))
+      by_bool (p x) (λ t. absurd (some_none x (rw t at h)))
       (λ f. rw f (ap (λ (l : List A). x ∷ l) (remove_behind p xs m (rw f at h))))
 
-  pub remove_before : (p : A → Bool) (l m : List A) (a : A) → first_by p l ≡ some a → remove_by p (l ++ m) ≡ remove_by p l ++ m
-  remove_before p [] m a h = absurd (none-ne-some a h)
+  pub remove_before : (p : A → Bool) (l m : List A) (a : A) → first_by p l ≡ Some a → remove_by p (l ++ m) ≡ remove_by p l ++ m
+  remove_before p [] m a h = absurd (none-some a h)
   remove_before p (x ∷ xs) m a h =
       by_bool (p x) (λ t. rw t) (λ f. rw f (ap (λ (l : List A). x ∷ l) (remove_before p xs m a (rw f at h))))
 
   -- The number of an element is at most the length.
-  pub nth_bound : (xs : List A) (k : ℕ) (x : A) → nth xs k ≡ some x → k ≤ length xs
-  nth_bound xs zero x h = absurd (none-ne-some x h)
+  pub nth_bound : (xs : List A) (k : ℕ) (x : A) → nth xs k ≡ Some x → k ≤ length xs
+  nth_bound xs zero x h = absurd (none-some x h)
   nth_bound xs (suc i) x h = let l = at_some x xs i x h in omega (arith, l.0)
 
   pub count_all : (l : List A) → count_by (λ a. true) l ≡ length l
@@ -188,18 +191,18 @@ module _ {A : Type 0} where
 
 -- The element of a number of a mapped list, from 0 and from 1.
 module _ {A B : Type 0} (g : A → B) where
-  pub at_map : (xs : List A) (i : ℕ) (x : A) → get_elem? xs i ≡ some x → get_elem? (map g xs) i ≡ some (g x)
-  at_map [] i x h = absurd (none-ne-some x h)
-  at_map (y ∷ xs) zero x h = ap {B = Option B} (λ z. some (g z)) (some-injective y x h)
+  pub at_map : (xs : List A) (i : ℕ) (x : A) → slice_get xs i ≡ Some x → slice_get (map g xs) i ≡ Some (g x)
+  at_map [] i x h = absurd (none-some x h)
+  at_map (y ∷ xs) zero x h = ap {B = Option B} (λ z. Some (g z)) (same_Some y x h)
   at_map (y ∷ xs) (suc i) x h = at_map xs i x h
 
-  pub mapped_at : (xs : List A) (i : ℕ) (y : B) → get_elem? (map g xs) i ≡ some y → (x : A) × (get_elem? xs i ≡ some x) × (g x ≡ y)
-  mapped_at [] i y h = absurd (none-ne-some y h)
-  mapped_at (x ∷ xs) zero y h = (x, refl, some-injective (g x) y h)
+  pub mapped_at : (xs : List A) (i : ℕ) (y : B) → slice_get (map g xs) i ≡ Some y → (x : A) × (slice_get xs i ≡ Some x) × (g x ≡ y)
+  mapped_at [] i y h = absurd (none-some y h)
+  mapped_at (x ∷ xs) zero y h = (x, refl, same_Some (g x) y h)
   mapped_at (x ∷ xs) (suc i) y h = mapped_at xs i y h
 
-  pub map_nth : (xs : List A) (k : ℕ) (y : B) → nth (map g xs) k ≡ some y → (x : A) × (nth xs k ≡ some x) × (g x ≡ y)
-  map_nth xs zero y h = absurd (none-ne-some y h)
+  pub map_nth : (xs : List A) (k : ℕ) (y : B) → nth (map g xs) k ≡ Some y → (x : A) × (nth xs k ≡ Some x) × (g x ≡ y)
+  map_nth xs zero y h = absurd (none-some y h)
   map_nth xs (suc i) y h = mapped_at xs i y h
 
 -- Rows.

@@ -2,7 +2,7 @@
 -- snd, adec or verify equation does.
 use Rattle.std.specs.Prelude.{ℕ, zero, suc, ◌≡◌, refl, ◌≢◌, Bool}
 use Rattle.std.proofs.Common.{sym, ◌∙◌, ap, subst, inl, inr, arith, ne_eqb}
-use Rattle.std.proofs.Math.Option.{Option, some}
+use Rattle.std.proofs.Common.{Option, Some}
 use Rattle.term.specs.Tags.{one_tag, dec_tag, fst_tag, snd_tag, exp_tag, inv_tag, mul_tag, adec_tag, verify_tag}
 use Rattle.lists.specs.Choice.{pick, cut_eq, clash}
 use Rattle.term.specs.Term.{Term, app, nil, ◌&◌}
@@ -20,7 +20,7 @@ abbrev Rows : (ℕ → Rule → Type 0) → Table → Type 0
 Rows P end = Unit {0}
 Rows P (row g ts u rows) = P g (record { args = ts; result = u }) × Rows P rows
 
-of_row : (P : ℕ → Rule → Type 0) (rows : Table) → Rows P rows → (f : ℕ) (r : Rule) → lookup rows f ≡ some r → P f r
+of_row : (P : ℕ → Rule → Type 0) (rows : Table) → Rows P rows → (f : ℕ) (r : Rule) → lookup rows f ≡ Some r → P f r
 of_row P end ps f r e = clash (cc)
 of_row P (row g ts u rows) ps f r e =
     cut_eq _ _ _ f g e
@@ -36,7 +36,7 @@ Absent f (row g ts u rows) = (f ≢ g) × Absent f rows
 absent : (f : ℕ) (rows : Table) → Absent f rows → lookup rows f ≡ Option.none
 absent f end a = refl
 absent f (row g ts u rows) a =
-    ap (λ (b : Bool). pick b (some (record { args = ts; result = u })) (lookup rows f)) (ne_eqb f g a.0) ∙ absent f rows a.1
+    ap (λ (b : Bool). pick b (Some (record { args = ts; result = u })) (lookup rows f)) (ne_eqb f g a.0) ∙ absent f rows a.1
 
 -- no row has the tag
 pub record Ruleless (f : ℕ) : Type 0 where
@@ -110,7 +110,7 @@ module _ (ar : ℕ → Option ℕ) (g : FitArities ar) where
     bound = λ v o. inl (inr (inl o));
   }
 
-  pub rows_fit : (f : ℕ) (r : Rule) → rules f ≡ some r → FitRule ar rules f r
+  pub rows_fit : (f : ℕ) (r : Rule) → rules f ≡ Some r → FitRule ar rules f r
   rows_fit f r e = of_row (FitRule ar rules) table (fit_dec, (fit_fst, (fit_snd, (fit_adec, (fit_verify, tt))))) f r e
 
   -- the theory of the table, for an arity of each tag

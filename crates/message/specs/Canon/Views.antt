@@ -2,7 +2,8 @@
 use Rattle.std.specs.Prelude.{ℕ, ◌≡◌, refl, ◌≢◌, ◌⊎◌, Bool, true, false, cond, eqb}
 use Rattle.std.proofs.Common.{sym, ◌∙◌, ap, subst, inl, inr, ⊎_elim, arith, eqb-true, eq-eqb}
 use Rattle.std.proofs.Math.Bool.{and-eq-true_iff}
-use Rattle.std.proofs.Math.Option.{Option, some, get_or}
+use Rattle.std.specs.Prelude.{Option, Some}
+use Rattle.std.specs.Option.{unwrap_or}
 use Rattle.std.proofs.lemmas.Bool.{eqb-false}
 use Rattle.lists.specs.Choice.{clash}
 use Rattle.term.specs.Term.{variable, public, fresh, Term, leaf, app, Terms, nil, ◌&◌, count, tag_of, Occurs, Occurss}
@@ -109,33 +110,33 @@ mutual
 
 -- ── matching ──
 mutual
-  find_ok : (v : ℕ) (θ : ℕ → Term) (p : Term) → (find v p (sub θ p) ≡ some (θ v)) ⊎ ((find v p (sub θ p) ≡ Option.none) × (Occurs variable v p → ⊥))
+  find_ok : (v : ℕ) (θ : ℕ → Term) (p : Term) → (find v p (sub θ p) ≡ Some (θ v)) ⊎ ((find v p (sub θ p) ≡ Option.none) × (Occurs variable v p → ⊥))
   find_ok v θ (leaf variable n) = go (eqb n v) refl
     where
       go :
           (b : Bool) → eqb n v ≡ b
-          → (cond b (some (θ n)) Option.none ≡ some (θ v)) ⊎ ((cond b (some (θ n)) Option.none ≡ Option.none) × (leaf variable n ≡ leaf variable v → ⊥))
-      go true e = inl (ap (λ (i : ℕ). some (θ i)) (eqb-true n v e))
+          → (cond b (Some (θ n)) Option.none ≡ Some (θ v)) ⊎ ((cond b (Some (θ n)) Option.none ≡ Option.none) × (leaf variable n ≡ leaf variable v → ⊥))
+      go true e = inl (ap (λ (i : ℕ). Some (θ i)) (eqb-true n v e))
       go false e = inr (refl, λ o. eqb-false n v e (cc))
   find_ok v θ (leaf public n) = inr (refl, λ o. clash (cc))
   find_ok v θ (leaf fresh n) = inr (refl, λ o. clash (cc))
   find_ok v θ (app f ps) = finds_ok v θ ps
 
   finds_ok :
-      (v : ℕ) (θ : ℕ → Term) (ps : Terms) → (finds v ps (subs θ ps) ≡ some (θ v)) ⊎ ((finds v ps (subs θ ps) ≡ Option.none) × (Occurss variable v ps → ⊥))
+      (v : ℕ) (θ : ℕ → Term) (ps : Terms) → (finds v ps (subs θ ps) ≡ Some (θ v)) ⊎ ((finds v ps (subs θ ps) ≡ Option.none) × (Occurss variable v ps → ⊥))
   finds_ok v θ nil = inr (refl, λ x. x)
   finds_ok v θ (p & ps) = go (find v p (sub θ p)) (finds v ps (subs θ ps)) (find_ok v θ p) (finds_ok v θ ps)
     where
       go :
-          (a b : Option Term) → (a ≡ some (θ v)) ⊎ ((a ≡ Option.none) × (Occurs variable v p → ⊥))
-          → (b ≡ some (θ v)) ⊎ ((b ≡ Option.none) × (Occurss variable v ps → ⊥))
-          → (or_else a b ≡ some (θ v)) ⊎ ((or_else a b ≡ Option.none) × (Occurs variable v p ⊎ Occurss variable v ps → ⊥))
+          (a b : Option Term) → (a ≡ Some (θ v)) ⊎ ((a ≡ Option.none) × (Occurs variable v p → ⊥))
+          → (b ≡ Some (θ v)) ⊎ ((b ≡ Option.none) × (Occurss variable v ps → ⊥))
+          → (or_else a b ≡ Some (θ v)) ⊎ ((or_else a b ≡ Option.none) × (Occurs variable v p ⊎ Occurss variable v ps → ⊥))
       go a b (inl x) y = inl (ap (λ (o : Option Term). or_else o b) x)
       go a b (inr x) (inl y) = inl (ap (λ (o : Option Term). or_else o b) x.0 ∙ y)
       go a b (inr x) (inr y) = inr (ap (λ (o : Option Term). or_else o b) x.0 ∙ y.0, ⊎_elim x.1 y.1)
 
 found_ok : (v : ℕ) (θ : ℕ → Term) (ps : Terms) → Occurss variable v ps → found ps (subs θ ps) v ≡ θ v
-found_ok v θ ps o = ⊎_elim (λ e. ap (λ (x : Option Term). get_or x one) e) (λ d. absurd (d.1 o)) (finds_ok v θ ps)
+found_ok v θ ps o = ⊎_elim (λ e. ap (λ (x : Option Term). unwrap_or x one) e) (λ d. absurd (d.1 o)) (finds_ok v θ ps)
 
 hit_test : (θ : ℕ → Term) (ps : Terms) → eq_ts (subs (found ps (subs θ ps)) ps) (subs θ ps) ≡ true
 hit_test θ ps = rw (subs_agree (found ps (subs θ ps)) θ ps (λ v o. found_ok v θ ps o)) (eq_ts_refl (subs θ ps))
@@ -143,7 +144,7 @@ hit_test θ ps = rw (subs_agree (found ps (subs θ ps)) θ ps (λ v o. found_ok 
 -- a rule applies to its instances
 pub reduce_hit :
     (r : Rule) (f : ℕ) (θ : ℕ → Term) → ((v : ℕ) → Occurs variable v r.result → Occurss variable v r.args)
-    → reduce_at (some r) f (subs θ r.args) ≡ sub θ r.result
+    → reduce_at (Some r) f (subs θ r.args) ≡ sub θ r.result
 reduce_hit r f θ b =
     let ts = subs θ r.args in
     ap (λ (x : Bool). cond x (sub (found r.args ts) r.result) (app f ts)) (hit_test θ r.args)
@@ -151,17 +152,17 @@ reduce_hit r f θ b =
 
 -- at a function of no special role: its rule applies, or it stays
 pub data Plainly (rule : ℕ → Option Rule) (f : ℕ) (ts : Terms) : Term → Type 0 where
-  stays : ((r : Rule) → rule f ≡ some r → (θ : ℕ → Term) → ts ≢ subs θ r.args) → Plainly rule f ts (app f ts)
-  reduces : (r : Rule) → rule f ≡ some r → (θ : ℕ → Term) → ts ≡ subs θ r.args → Plainly rule f ts (sub θ r.result)
+  stays : ((r : Rule) → rule f ≡ Some r → (θ : ℕ → Term) → ts ≢ subs θ r.args) → Plainly rule f ts (app f ts)
+  reduces : (r : Rule) → rule f ≡ Some r → (θ : ℕ → Term) → ts ≡ subs θ r.args → Plainly rule f ts (sub θ r.result)
 
 pub plainly : (rule : ℕ → Option Rule) (f : ℕ) (ts : Terms) → Plainly rule f ts (reduce_at (rule f) f ts)
 plainly rule f ts = go (rule f) refl
   where
-    at : (r : Rule) → rule f ≡ some r → (b : Bool) → eq_ts (subs (found r.args ts) r.args) ts ≡ b
+    at : (r : Rule) → rule f ≡ Some r → (b : Bool) → eq_ts (subs (found r.args ts) r.args) ts ≡ b
         → Plainly rule f ts (cond b (sub (found r.args ts) r.result) (app f ts))
     at r e true q = reduces r e (found r.args ts) (sym (eq_ts_sound (subs (found r.args ts) r.args) ts q))
     at r e false q = stays (λ r' e' θ m.
-        let s : some r ≡ some r' = sym e ∙ e' in
+        let s : Some r ≡ Some r' = sym e ∙ e' in
         let p : r ≡ r' = cc in
         let n : ts ≡ subs θ r.args = m ∙ ap (λ (z : Rule). subs θ z.args) (sym p) in
         let h : eq_ts (subs (found r.args ts) r.args) ts ≡ true = subst (λ (z : Terms). eq_ts (subs (found r.args z) r.args) z ≡ true)
@@ -169,5 +170,5 @@ plainly rule f ts = go (rule f) refl
         clash (cc))
 
     go : (o : Option Rule) → rule f ≡ o → Plainly rule f ts (reduce_at o f ts)
-    go Option.none e = stays (λ r e' θ m. let s : Option.none ≡ some r = sym e ∙ e' in clash (cc))
-    go (some r) e = at r e (eq_ts (subs (found r.args ts) r.args) ts) refl
+    go Option.none e = stays (λ r e' θ m. let s : Option.none ≡ Some r = sym e ∙ e' in clash (cc))
+    go (Some r) e = at r e (eq_ts (subs (found r.args ts) r.args) ts) refl

@@ -2,11 +2,11 @@
 -- variables stand in it, becomes one of messages alone.
 use Rattle.std.specs.Prelude.{ℕ}
 use Rattle.std.proofs.Common.{subst₂}
-use Rattle.std.proofs.Math.Option.{Option}
+use Rattle.std.specs.Prelude.{Option}
 use Rattle.term.specs.Term.{public, Term, leaf, app, Terms, Formed}
 use Rattle.message.specs.Equations.{Figure2, Twelve, figure, adec_aenc, verify_sign, dec_enc, fst_pair, snd_pair}
 use Rattle.message.specs.Equations.{mul_assoc, mul_comm, mul_one, mul_inv, inv_inv, exp_exp, exp_one, Same}
-use Rattle.message.specs.Equations.Least.{Pairwise, none, more, IsCongruence, least}
+use Rattle.message.specs.Equations.Least.{Pairwise, None, more, IsCongruence, least}
 use Rattle.message.specs.Substitution.{sub, subs, Ground}
 use Rattle.message.specs.Substitution.Laws.{sub_formed, sub_ground, public_ground, ground_stays}
 
@@ -39,7 +39,7 @@ module _ (ar : ℕ → Option ℕ) (R : Term → Term → Type 0) (h : IsCongrue
   Named t u = R (sub named t) (sub named u)
 
   pairs : {ts us : Terms} → Pairwise Named ts us → Pairwise R (subs named ts) (subs named us)
-  pairs none = none
+  pairs None = None
   pairs (more r rs) = more r (pairs rs)
 
   is_named : IsCongruence (Formed ar) Twelve Named

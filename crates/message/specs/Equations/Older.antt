@@ -2,7 +2,7 @@
 -- and sign, verify and true as one. So read both further equations follow from the ten, and a term without the six functions reads as itself.
 use Rattle.std.specs.Prelude.{ℕ, suc, ◌<◌, ◌↔◌, ◌≡◌, refl, length, ltb, eqb}
 use mathlib.Core.List.{List, ◌++◌, append_assoc}
-use Rattle.std.proofs.Math.Option.{Option, some, none}
+use Rattle.std.specs.Prelude.{Option, Some, None}
 use Rattle.std.proofs.Math.Path.{sym, ap}
 use Rattle.std.proofs.Common.{◌∙◌, ap₂, subst, subst₂, arith, length-append, lt-ltb, le-ltb, ne_eqb}
 use Rattle.std.proofs.Math.ListN.{get_or, get_or-append}
@@ -16,7 +16,7 @@ use Rattle.message.specs.Equations.{Figure2, Twelve, figure, adec_aenc, verify_s
 use Rattle.message.specs.Equations.{mul_assoc, mul_comm, mul_one, mul_inv, inv_inv, exp_exp, exp_one}
 use Rattle.message.specs.Equations.{Congruence, equation, reflexive, symmetric, transitive, congruent, Congruences, same_none, same_more, Same}
 use Rattle.message.specs.Equations.Laws.{same_formeds}
-use Rattle.message.specs.Equations.Least.{Pairwise, none as no_pairs, more, IsCongruence, all_same, least}
+use Rattle.message.specs.Equations.Least.{Pairwise, None as no_pairs, more, IsCongruence, all_same, least}
 
 -- document 01's own table of arities, without Change 4's six functions
 unfoldable pub older_arities : List ℕ → List ℕ
@@ -86,9 +86,9 @@ module _ (free : List ℕ) where
   alike f h =
       let e = sym (get_or-append (builtin ++ padded 16 free) signing undeclared f (omega (arith, older_length)))
       ∙ ap (λ (l : List ℕ). get_or l f undeclared) (append_assoc builtin (padded 16 free) signing) in
-      ap (λ (a : ℕ). pick (ltb f 3) none (pick (eqb a undeclared) none (some a))) e
+      ap (λ (a : ℕ). pick (ltb f 3) None (pick (eqb a undeclared) None (Some a))) e
 
-  pub older_few : (f n : ℕ) → older f ≡ some n → f < 29
+  pub older_few : (f n : ℕ) → older f ≡ Some n → f < 29
   unfolding older_arities
   older_few f n e =
       by_size f 29 (λ h. h) λ h.
@@ -101,7 +101,7 @@ module _ (free : List ℕ) where
   first_formed (t & ts) w = w.0
 
   module _ (ts : Terms) where
-    at_formed : (f : ℕ) (g : Terms → Term) → Read f g → ar f ≡ some (count ts) → Formeds older ts → Formed older (g ts)
+    at_formed : (f : ℕ) (g : Terms → Term) → Read f g → ar f ≡ Some (count ts) → Formeds older ts → Formed older (g ts)
     unfolding arity older_arities
     at_formed f g (kept h) e w = (alike f h ∙ e, w)
     at_formed f g aencs e w = (sym (signing_arity free 0 (omega arith)) ∙ e, w)
@@ -113,7 +113,7 @@ module _ (free : List ℕ) where
     plain_formed : (t : Term) → Formed ar t → Formed older (plain t)
     plain_formed (leaf k n) w = tt
     plain_formed (app f ts) w =
-        at_formed (plains ts) f (plain_at f) (reads f) (w.0 ∙ ap some (sym (plains_count ts))) (plains_formed ts w.1)
+        at_formed (plains ts) f (plain_at f) (reads f) (w.0 ∙ ap Some (sym (plains_count ts))) (plains_formed ts w.1)
 
     plains_formed : (ts : Terms) → Formeds ar ts → Formeds older (plains ts)
     plains_formed nil w = tt
@@ -158,7 +158,7 @@ module _ (free : List ℕ) where
   first_same (same_more d ds) = d
 
   module _ (ts us : Terms) (ds : Congruences older Figure2 ts us) where
-    at_same : (f : ℕ) (g : Terms → Term) → Read f g → ar f ≡ some (count ts) → OlderSame free (g ts) (g us)
+    at_same : (f : ℕ) (g : Terms → Term) → Read f g → ar f ≡ Some (count ts) → OlderSame free (g ts) (g us)
     at_same f g (kept h) e = congruent (at_formed ts f g (kept h) e (same_formeds ds).0) ds
     at_same f g aencs e = congruent (at_formed ts f g aencs e (same_formeds ds).0) ds
     at_same f g adecs e = congruent (at_formed ts f g adecs e (same_formeds ds).0) ds
@@ -172,7 +172,7 @@ module _ (free : List ℕ) where
     is_symmetric = λ t u d. symmetric d;
     is_transitive = λ t u v d e. transitive d e;
     is_congruent = λ f ts us w ds.
-        at_same (plains ts) (plains us) (plain_pairs ds) f (plain_at f) (reads f) (w.0 ∙ ap some (sym (plains_count ts)));
+        at_same (plains ts) (plains us) (plain_pairs ds) f (plain_at f) (reads f) (w.0 ∙ ap Some (sym (plains_count ts)));
   }
 
   -- ── and what was equal is ──

@@ -1,6 +1,6 @@
 -- One rule number after another.
 use Rattle.std.specs.Prelude.{ℕ, ◌+◌, ◌*◌, ◌≤◌, ◌<◌, List, ◌≡◌, refl, length, get_or, take}
-use Rattle.std.proofs.Math.Option.{none}
+use Rattle.std.specs.Prelude.{None}
 use Rattle.std.proofs.Common.{ap, ap₂, sym, ◌∙◌, subst, arith, length-take-le}
 use Rattle.lists.specs.Choice.{by_size}
 use Rattle.octets.specs.Splice.{splice}
@@ -85,7 +85,7 @@ module _ {arities places : List ℕ} {nr : ℕ} (f : Source arities places nr) w
             kept = place_kept p n (file_at + k) small long;
           }
 
-      pub enters_none : rule_of f.entries.is n ≡ none → p' ≡ placed p n 0 → Enters f p p' n
+      pub enters_none : rule_of f.entries.is n ≡ None → p' ≡ placed p n 0 → Enters f p p' n
       enters_none is h =
           subst (λ (l : List ℕ). Enters f p l n) (sym h)
           record { row = missing is (place_read p n 0 small long); kept = place_kept p n 0 small long }
@@ -126,7 +126,7 @@ module _ {arities places : List ℕ} {nr : ℕ} (f : Source arities places nr) w
       pub as_placed : {k : ℕ} → r ≡ fd.At k → InFile k
       as_placed e = subst (λ (q : FoundRule). FoundAs q out) e x
 
-      pub as_none : r ≡ fd.Nothing → rule_of f.entries.is n ≡ none
+      pub as_none : r ≡ fd.Nothing → rule_of f.entries.is n ≡ None
       as_none e = subst (λ (q : FoundRule). FoundAs q out) e x
 
 pub written_few :

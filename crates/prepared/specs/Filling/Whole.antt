@@ -1,7 +1,7 @@
 -- The whole of a prepared protocol.
 use Rattle.std.specs.Prelude.{ℕ, ◌+◌, ◌≤◌, ◌<◌, List, [], ◌∷◌, ◌++◌, map, ◌≡◌, refl, length, get_or, take, drop}
 use Rattle.std.proofs.Common.{append_assoc, ap, sym, ◌∙◌, subst, subst₂, arith, drop-drop}
-use Rattle.std.proofs.Math.Option.{some}
+use Rattle.std.specs.Prelude.{Some}
 use Rattle.std.proofs.lemmas.List.{length-map, drop-append-le}
 use Rattle.octets.specs.Head.{Bytes, Stands}
 use Rattle.octets.specs.Splice.{splice}
@@ -54,7 +54,7 @@ module _ (arities ars : List ℕ) (n : ℕ) (room : length ars ≤ n) where
 module _ (P : Protocol) (within : Within P) (p : List ℕ) (bytes : Bytes p) (long : length p ≡ body_length)
     (slotted : slots_of p ≡ tag_arities P.functions) (tabled : arities_of p ≡ padded symbol_count (fact_arities P.symbols)) where
   -- a rule of the protocol whose bytes stand somewhere
-  rule_there : (n : ℕ) (u : Rule) → rule_of P n ≡ some u → (at : ℕ) (rest : List ℕ) → drop at p ≡ encode_rule u ++ rest → RuleAt p u at
+  rule_there : (n : ℕ) (u : Rule) → rule_of P n ≡ Some u → (at : ℕ) (rest : List ℕ) → drop at p ≡ encode_rule u ++ rest → RuleAt p u at
   rule_there n u is at rest there =
       let few = few_arities P.symbols within.few_symbols in
       let good : RuleWithin (slots_of p) (arities_of p) u =
@@ -65,7 +65,7 @@ module _ (P : Protocol) (within : Within P) (p : List ℕ) (bytes : Bytes p) (lo
         reads = (rule_exact p bytes (slots_of p) (arities_of p) (omega (arith, arities_length p (omega arith)))).back u at rest good there;
       }
 
-  entry_some : (n : ℕ) (u : Rule) → rule_of P n ≡ some u → (at : ℕ) (rest : List ℕ) → drop at p ≡ encode_rule u ++ rest → place_at p n ≡ at → 0 < at → Entry p n
+  entry_some : (n : ℕ) (u : Rule) → rule_of P n ≡ Some u → (at : ℕ) (rest : List ℕ) → drop at p ≡ encode_rule u ++ rest → place_at p n ≡ at → 0 < at → Entry p n
       (rule_of P n)
   entry_some n u is at rest there e some-place =
       subst (Entry p n) (sym is)

@@ -1,6 +1,7 @@
 -- The entries of one rule number after another.
 use Rattle.std.specs.Prelude.{ℕ, ◌+◌, ◌*◌, ◌/◌, ◌%◌, ◌<◌, List, ◌≡◌, refl, length}
-use Rattle.std.proofs.Math.Option.{some, none, none-ne-some}
+use Rattle.std.specs.Prelude.{Some, None}
+use Rattle.std.proofs.lemmas.Option.{none-some}
 use Rattle.std.proofs.Common.{ap, ap₂, sym, ◌∙◌, subst, subst₂, arith}
 use Rattle.protocol.specs.Figures.{list_count}
 use Rattle.lists.specs.Asks.{Asks}
@@ -21,7 +22,7 @@ use Rattle.prepared.specs.Lists.{ListsOf, ListEntered, ListIn, Listing, NumberEn
 -- ── where the lists of a rule stand ──
 -- at a place, in whatever protocol
 abbrev pub ListOf : List ℕ → ℕ → ℕ → ℕ → Type 0
-ListOf q n list r = (P : Protocol) (u : Rule) → Body q P → rule_of P n ≡ some u → ListAt q u list r
+ListOf q n list r = (P : Protocol) (u : Rule) → Body q P → rule_of P n ≡ Some u → ListAt q u list r
 
 module _ {q : List ℕ} {n place : ℕ} (x : ListsOf q n place) where
   list_found : (list : ℕ) → list < list_count → (r : ℕ) → r ≡ list_place q (slots_of q) (arities_of q) place list → ListOf q n list r
@@ -64,7 +65,7 @@ module _ (q : List ℕ) (ready : Asks (Body q)) (n : ℕ) {found : Found} (x : (
   pub lists_of : (place : ℕ) → found ≡ fd.At place → ListsOf q n place
   lists_of place e = record { some_protocol = ready; found = λ P f. subst (Finds q P n) e (x P f) }
 
-  pub none_found : found ≡ fd.Nothing → (P : Protocol) → Body q P → rule_of P n ≡ none
+  pub none_found : found ≡ fd.Nothing → (P : Protocol) → Body q P → rule_of P n ≡ None
   none_found e P f = subst (Finds q P n) e (x P f)
 
 -- ── one list more ──
@@ -118,11 +119,11 @@ module _ (q : List ℕ) (bytes : Bytes q) (long : length q ≡ body_length) wher
             (let k : 3 * n + 2 + 1 ≡ 3 * (n + 1) = omega arith in subst (Listing p₃) k l₃);
       }
 
-pub lists_none : (p : List ℕ) (n : ℕ) → ((P : Protocol) → Body (body_of p) P → rule_of P n ≡ none) → NumberEntered p p n
+pub lists_none : (p : List ℕ) (n : ℕ) → ((P : Protocol) → Body (body_of p) P → rule_of P n ≡ None) → NumberEntered p p n
 lists_none p n h = record {
   body = refl;
   more = λ l j m P u f is.
       by_size j (3 * n)
       (λ b. l j b P u f is)
-      (λ b. let d : j / 3 ≡ n = omega arith in absurd (none-ne-some u (sym (ap (rule_of P) d ∙ h P f) ∙ is)));
+      (λ b. let d : j / 3 ≡ n = omega arith in absurd (none-some u (sym (ap (rule_of P) d ∙ h P f) ∙ is)));
 }

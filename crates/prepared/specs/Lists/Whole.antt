@@ -1,6 +1,6 @@
 -- The table stands behind the body of a prepared protocol.
 use Rattle.std.specs.Prelude.{ℕ, ◌+◌, ◌*◌, ◌/◌, ◌%◌, ◌<◌, List, ◌++◌, ◌≡◌, length, drop}
-use Rattle.std.proofs.Math.Option.{some}
+use Rattle.std.specs.Prelude.{Some}
 use Rattle.std.proofs.Common.{ap, sym, ◌∙◌, subst, arith, length-append, length-drop, take_at}
 use Rattle.protocol.specs.Figures.{list_count}
 use Rattle.lists.specs.Asks.{Asks}
@@ -20,16 +20,16 @@ module _ (file p : List ℕ) (long : length p ≡ prepared_length) (bytes : Byte
   P = w.its
 
   -- the entries of list i of rule n
-  row : (n i : ℕ) (u : Rule) → n < rule_count → i < list_count → rule_of P n ≡ some u → ListIn p u (3 * n + i)
+  row : (n i : ℕ) (u : Rule) → n < rule_count → i < list_count → rule_of P n ≡ Some u → ListIn p u (3 * n + i)
   row n i u a b is = let d : (3 * n + i) / 3 ≡ n = omega arith in table (3 * n + i) (omega arith) P u w.is (ap (rule_of P) d ∙ is)
 
-  list_here : (n i : ℕ) (u : Rule) → n < rule_count → i < list_count → rule_of P n ≡ some u → ListAt (body_of p) u i (list_entry p n i)
+  list_here : (n i : ℕ) (u : Rule) → n < rule_count → i < list_count → rule_of P n ≡ Some u → ListAt (body_of p) u i (list_entry p n i)
   list_here n i u a b is =
       let m : (3 * n + i) % 3 ≡ i = omega arith in
       subst (λ (c : ℕ). ListAt (body_of p) u c (list_entry p n i)) m (row n i u a b is).here
 
   fact_here :
-      (n list i : ℕ) (u : Rule) → n < rule_count → list < list_count → i < length (list_of list u) → rule_of P n ≡ some u
+      (n list i : ℕ) (u : Rule) → n < rule_count → list < list_count → i < length (list_of list u) → rule_of P n ≡ Some u
       → fact_entry p n list i ≡ fact_place_in p (list_entry p n list) i
   fact_here n list i u a b l is =
       let m : (3 * n + list) % 3 ≡ list = omega arith in

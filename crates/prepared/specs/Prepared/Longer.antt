@@ -1,7 +1,7 @@
 -- What a body says it says too with more bytes behind it.
 use Prim.Native.Nat.{ℕ, ◌+◌, ◌*◌, ◌≤◌, ◌<◌}
 use mathlib.Core.List.{List, ◌++◌, append_assoc}
-use Rattle.std.proofs.Math.Option.{Option, some, none}
+use Rattle.std.specs.Prelude.{Option, Some, None}
 use Rattle.std.specs.Prelude.{◌≡◌, take, drop}
 use Rattle.std.proofs.Math.Path.{ap, ap₂, sym}
 use Rattle.std.proofs.Common.{◌∙◌, subst, subst₂, arith, length-append, length-drop, take-append-drop, get_or-drop, get_or-take, ext_get_or, length-take-le, take-take}
@@ -126,9 +126,9 @@ module _ (p : List ℕ) (bytes : Bytes p) (long : body_length ≤ length p) (P :
       ap₂ (λ (a b : ℕ). a * place_base + b) (get_or-take body_length p (cell_at n) 0 (omega arith)) (get_or-take body_length p (cell_at n + 1) 0 (omega arith))
 
   entry_longer : (n : ℕ) → n < rule_count → (o : Option Rule) → Entry (body_of p) n o → Entry p n o
-  entry_longer n h (some u) e =
+  entry_longer n h (Some u) e =
       subst (Some p u) (place_same n h) record { here = rule_longer u (place_at (body_of p) n) e.here; there = e.there }
-  entry_longer n h none e = sym (place_same n h) ∙ e
+  entry_longer n h None e = sym (place_same n h) ∙ e
 
   pub body_longer : Body p P
   body_longer = record {

@@ -2,7 +2,7 @@
 use Rattle.std.specs.Prelude.{ℕ, ◌+◌, ◌≤◌, ◌≡◌, ◌≢◌, Bool, true, false, cond, List, eqb, length, drop}
 use Rattle.std.proofs.Math.Path.{refl}
 use Rattle.std.proofs.Common.{sym, ap, ◌∙◌, subst, arith, length-append, eqb-true, ne_eqb}
-use Rattle.std.proofs.Math.Option.{Option, some}
+use Rattle.std.specs.Prelude.{Option, Some}
 use Rattle.std.proofs.lemmas.Bool.{eqb-false}
 use Rattle.term.specs.Tags.{exp_tag}
 use Rattle.lists.specs.Choice.{clash}
@@ -70,7 +70,7 @@ mutual
 -- ── one exp ──
 -- no exp of two arguments, and so, as it is well formed, no exp
 pub no_exp : (ar : ℕ → Option ℕ) → FitArities ar → (t : Term) → Formed ar t → ((x y : Term) → t ≢ exp x y) → (ts : Terms) → t ≢ app exp_tag ts
-no_exp ar g t w n ts q = go ts (let a : some (count ts) ≡ some 2 = sym (subst (Formed ar) q w).0 ∙ g.exp_arity in cc) q
+no_exp ar g t w n ts q = go ts (let a : Some (count ts) ≡ Some 2 = sym (subst (Formed ar) q w).0 ∙ g.exp_arity in cc) q
   where
     go : (ts : Terms) → count ts ≡ 2 → t ≢ app exp_tag ts
     go nil c q = absurd (omega arith)
@@ -158,7 +158,7 @@ module _ {arities src : List ℕ} {at e : ℕ} (group : FitArities (arity aritie
       let q : f ≡ exp_tag = eqb-true f exp_tag (sym (exp_app f ts O) ∙ h) in
       subst (λ (g : ℕ). OneAt arities src at e (app g ts) → Inner arities src at e (app g ts)) (sym q)
       (λ O.
-      let a : some (count ts) ≡ some 2 = sym O.formed.0 ∙ group.exp_arity in
+      let a : Some (count ts) ≡ Some 2 = sym O.formed.0 ∙ group.exp_arity in
       inner_of ts O (cc)) O
 
   -- it is none

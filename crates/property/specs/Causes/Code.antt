@@ -1,6 +1,6 @@
 -- What the code answers of a property file.
 use Rattle.std.specs.Prelude.{ℕ, ◌≤◌, ◌<◌, List, [], ◌∷◌, map, Bool, true, false, not, cond, ◌≡◌, refl, length}
-use Rattle.std.proofs.Math.Option.{none, some}
+use Rattle.std.specs.Prelude.{Some, None}
 use Rattle.std.proofs.Common.{ap, sym, ◌∙◌, subst, arith}
 use Rattle.lists.specs.Choice.{pick, clash}
 use Rattle.lists.specs.All.{All}
@@ -54,9 +54,9 @@ plainly (passed f) = passed tt
 plainly (refused n k) = refused n k
 
 by_fit : (f : Formula) (b : Bool) → fit [] f ≡ b → plainly (fit_ruling f) ≡ pick b (passed tt) (refused 5 0)
-by_fit f b h = ap (λ (c : Bool). plainly (or_refuse 5 (cond (not c) (some 0) none) (passed f))) h ∙ go b
+by_fit f b h = ap (λ (c : Bool). plainly (or_refuse 5 (cond (not c) (Some 0) None) (passed f))) h ∙ go b
   where
-    go : (b : Bool) → plainly (or_refuse 5 (cond (not b) (some 0) none) (passed f)) ≡ pick b (passed tt) (refused 5 0)
+    go : (b : Bool) → plainly (or_refuse 5 (cond (not b) (Some 0) None) (passed f)) ≡ pick b (passed tt) (refused 5 0)
     go true = refl
     go false = refl
 

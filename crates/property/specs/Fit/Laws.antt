@@ -1,7 +1,7 @@
 -- The test of cause 5 decides the statement.
 use Rattle.std.specs.Prelude.{ℕ, zero, suc, ◌+◌, List, [], ◌∷◌, ◌++◌, true, not, ◌≡◌, refl, length}
 use Rattle.std.proofs.Common.{⊎_elim, sym, ap, subst, arith}
-use Rattle.std.proofs.Math.Option.{Option, some}
+use Rattle.std.specs.Prelude.{Option, Some}
 use Rattle.lists.specs.Choice.{clash}
 use Rattle.lists.specs.Lists.{◌∈◌, any_by}
 use Rattle.lists.specs.Reflects.{reflects_true, reflects_back, reflects_dec, reflects_not}
@@ -11,7 +11,7 @@ use Rattle.property.specs.Formula.{absurdity, is, isnt, both, either, exists, ev
 use Rattle.property.specs.Fit.{HasSort, TermFits, PatternFits, AtomFits, InGuard, AllInGuard, IsFit}
 use Rattle.property.specs.Fit.{sort_is, in_scope, term_fits, pattern_fits, atom_fits, is_var, guarded, fit}
 
-sort_decides : (y s : Sort) → Reflects (◌≡◌ {A = Option Sort} (some y) (some s)) (sort_is y s)
+sort_decides : (y s : Sort) → Reflects (◌≡◌ {A = Option Sort} (Some y) (Some s)) (sort_is y s)
 sort_decides msg msg = right refl
 sort_decides msg tmp = wrong (λ e. clash (cc))
 sort_decides tmp msg = wrong (λ e. clash (cc))

@@ -1,7 +1,7 @@
 -- The meaning does not tell equal messages apart, neither in the trace nor in the valuation. No fitness is asked.
 use Rattle.std.specs.Prelude.{◌≡◌, refl, List, ◌++◌, ℕ, zero, suc}
 use Rattle.std.proofs.Common.{sym, subst₂, ◌∙◌, inl, inr, ⊎_elim}
-use Rattle.std.proofs.Math.ListN.{get_elem?}
+use Rattle.std.specs.Prelude.{slice_get}
 use Rattle.lists.specs.Pairs.{Pairs, nothing, more, pairs_append, pairs_itself, pairs_turned, pairs_joined, pairs_partner}
 use Rattle.steps.specs.Facts.Messages.{or_none}
 use Rattle.property.specs.Formula.{Pattern, Term, Atom, equal, before, together, action, Formula}
@@ -31,7 +31,7 @@ module _ (M : Messages) (S : Times) where
   fact_turned : (x y : Fact M.Msg) → LikeFact M.Same x y → LikeFact M.Same y x
   fact_turned x y h = record { symbol = sym h.symbol; messages = pairs_turned (λ a b p. M.turned p) h.messages }
 
-  node_alike : (k : ℕ) {tr tr' : Trace M.Msg} → AlikeTrace tr tr' → Pairs (LikeFact M.Same) (or_none (get_elem? tr k)) (or_none (get_elem? tr' k))
+  node_alike : (k : ℕ) {tr tr' : Trace M.Msg} → AlikeTrace tr tr' → Pairs (LikeFact M.Same) (or_none (slice_get tr k)) (or_none (slice_get tr' k))
   node_alike k nothing = nothing
   node_alike zero (more r p) = r
   node_alike (suc k) (more r p) = node_alike k p

@@ -1,7 +1,7 @@
 -- The judge decides the truth of a fit property, over messages and over numbers; naturals or integers, and equal messages, make no
 -- difference to it.
 use Rattle.std.specs.Prelude.{ℕ, zero, suc, List, [], ◌∷◌, map, ◌↔◌, ◌≡◌, refl}
-use Rattle.std.proofs.Math.ListN.{get_elem?}
+use Rattle.std.specs.Prelude.{slice_get}
 use Rattle.lists.specs.All.{All}
 use Rattle.lists.specs.Reflects.{Reflects, reflects_back}
 use Rattle.lists.specs.Pairs.{Pairs, nothing, more, pairs_map}
@@ -77,7 +77,7 @@ nodes_trace p fit xs within right (suc k) = go (actions_of_nodes p fit xs within
   where
     go :
         (l : List (List (MessageFact (arities p.functions)))) (i : ℕ)
-        → or_none (get_elem? (plain_trace p.functions l) i) ≡ map (plain_fact p.functions) (or_none (get_elem? l i))
+        → or_none (slice_get (plain_trace p.functions l) i) ≡ map (plain_fact p.functions) (or_none (slice_get l i))
     go [] i = refl
     go (x ∷ l) zero = refl
     go (x ∷ l) (suc i) = go l i

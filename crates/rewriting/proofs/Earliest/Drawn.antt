@@ -3,7 +3,8 @@ use Rattle.std.specs.Prelude.{◌≡◌, refl, Bool, true, false, List, [], ◌�
 use Rattle.std.proofs.Common.{sym, ◌∙◌, ap, ap₂, subst, ⊎_elim, inl, append_assoc, append-nil, arith}
 use mathlib.Core.List.Memᴰ
 use Rattle.std.proofs.lemmas.List.{map-append}
-use Rattle.std.proofs.Math.Option.{Option, none, some, some-injective}
+use Rattle.std.proofs.Common.{Option, Some, None}
+use Rattle.std.proofs.lemmas.Option.{same_Some}
 use Rattle.lists.specs.Tests.{by_bool, true_false, not_true, leb_le, leb_gt, zero_or_pos}
 use Rattle.lists.specs.Lists.{◌∈◌, bit, count_by, first_by, remove_by}
 use Rattle.lists.specs.Lists.Laws.{count_append, count_pos, first_mem, first_passes, remove_mem}
@@ -33,10 +34,10 @@ out_more a b k i written = let c = count_append (λ (d : Edge). same_place a d.s
 -- What is drawn of a node and those behind it is drawn of each.
 add_drawn :
     (k : ℕ) (o : Option (List Edge)) (d : Ruling (List Edge)) (es : List Edge) → add_node k o d ≡ passed es
-    → (es₁ : List Edge) × (es₂ : List Edge) × (o ≡ some es₁) × (d ≡ passed es₂) × (es ≡ es₁ ++ es₂)
-add_drawn k none d es h = absurd (refused_passed 14 k es h)
-add_drawn k (some es₁) (passed es₂) es h = (es₁, es₂, refl, refl, cc)
-add_drawn k (some es₁) (refused n j) es h = absurd (refused_passed n j es h)
+    → (es₁ : List Edge) × (es₂ : List Edge) × (o ≡ Some es₁) × (d ≡ passed es₂) × (es ≡ es₁ ++ es₂)
+add_drawn k None d es h = absurd (refused_passed 14 k es h)
+add_drawn k (Some es₁) (passed es₂) es h = (es₁, es₂, refl, refl, cc)
+add_drawn k (Some es₁) (refused n j) es h = absurd (refused_passed n j es h)
 
 module _ (F : Facts) (nodes : List (Node F.Fact)) where
   open F use {Fact, same, linear, same_sym, same_linear}
@@ -46,14 +47,14 @@ module _ (F : Facts) (nodes : List (Node F.Fact)) where
     ascends : Ascends place_of free
     stands :
         (t : Placed Fact) → t ∈ free
-        → (conclusion_at nodes t.place ≡ some t.fact) × (t.place.node < k) × (linear t.fact ≡ true → out_of t.place written ≡ 0)
+        → (conclusion_at nodes t.place ≡ Some t.fact) × (t.place.node < k) × (linear t.fact ≡ true → out_of t.place written ≡ 0)
     has :
-        (t : Placed Fact) → conclusion_at nodes t.place ≡ some t.fact → t.place.node < k → (linear t.fact ≡ true → out_of t.place written ≡ 0)
+        (t : Placed Fact) → conclusion_at nodes t.place ≡ Some t.fact → t.place.node < k → (linear t.fact ≡ true → out_of t.place written ≡ 0)
         → t ∈ free
     low : (e : Edge) → e ∈ written → e.source.node < k
 
   module _ (k i : ℕ) (free : List (Placed Fact)) (written : List Edge) (held : Held k free written) (p : Fact) (t : Placed Fact)
-      (found : first_by (λ t. same p t.fact) free ≡ some t) where
+      (found : first_by (λ t. same p t.fact) free ≡ Some t) where
     abbrev same_as : Placed Fact → Bool
     same_as u = same p u.fact
 
@@ -63,11 +64,11 @@ module _ (F : Facts) (nodes : List (Node F.Fact)) where
     known : same p t.fact ≡ true
     known = first_passes same_as free t found
 
-    is : (conclusion_at nodes t.place ≡ some t.fact) × (t.place.node < k) × (linear t.fact ≡ true → out_of t.place written ≡ 0)
+    is : (conclusion_at nodes t.place ≡ Some t.fact) × (t.place.node < k) × (linear t.fact ≡ true → out_of t.place written ≡ 0)
     is = held.stands t (first_mem same_as free t found)
 
     -- The source that is found is the lowest that fits.
-    source_lowest : premise_at nodes (record { node = k; index = i }) ≡ some p → Sourced (Tested F) linear nodes written (arrow t.place k i)
+    source_lowest : premise_at nodes (record { node = k; index = i }) ≡ Some p → Sourced (Tested F) linear nodes written (arrow t.place k i)
     source_lowest to = record {
       here = record {
         joins = record {
@@ -83,14 +84,14 @@ module _ (F : Facts) (nodes : List (Node F.Fact)) where
       below = λ b low f.
           let j = f.joins in
           let u : Placed Fact = record { place = b; fact = j.from } in
-          let q : j.to ≡ p = some-injective _ _ (sym j.has_target ∙ to) in
+          let q : j.to ≡ p = same_Some _ _ (sym j.has_target ∙ to) in
           let s : same p j.from ≡ true = ap (λ (g : Fact). same g j.from) (sym q) ∙ same_sym j.from j.to j.facts_same in
           first_lowest place_of same_as free t u held.ascends found (held.has u j.has_source j.earlier f.unused) s low;
     }
 
     -- A conclusion at the place of the source is the source's.
-    same_fact : (u : Placed Fact) → conclusion_at nodes u.place ≡ some u.fact → same_place u.place t.place ≡ true → u.fact ≡ t.fact
-    same_fact u h y = some-injective _ _ (sym h ∙ (ap (conclusion_at nodes) (place_eq u.place t.place y) ∙ is.0))
+    same_fact : (u : Placed Fact) → conclusion_at nodes u.place ≡ Some u.fact → same_place u.place t.place ≡ true → u.fact ≡ t.fact
+    same_fact u h y = same_Some _ _ (sym h ∙ (ap (conclusion_at nodes) (place_eq u.place t.place y) ∙ is.0))
 
     low_next : (e : Edge) → e ∈ behind → e.source.node < k
     low_next e m =
@@ -147,10 +148,10 @@ module _ (F : Facts) (nodes : List (Node F.Fact)) where
 
   edges_follow :
       (k i : ℕ) (ps : List Fact) (free : List (Placed Fact)) (written es : List Edge) → Held k free written
-      → ((t : Placed Fact) → t ∈ placed k i ps → premise_at nodes t.place ≡ some t.fact) → edges_into F k i free ps ≡ some es
+      → ((t : Placed Fact) → t ∈ placed k i ps → premise_at nodes t.place ≡ Some t.fact) → edges_into F k i free ps ≡ Some es
       → Wrote k written es (placed k i ps) (take_all F ps free)
   edges_follow k i [] free written es held w h =
-      subst (λ l. Wrote k written l [] free) (some-injective [] es h)
+      subst (λ l. Wrote k written l [] free) (same_Some [] es h)
       (record { follows = tt; in_order = refl; held = subst (λ l. Held k free l) (sym (append-nil written)) held })
   edges_follow k i (p ∷ ps) free written es held w h =
       let left = take_one F p free in
@@ -168,8 +169,8 @@ module _ (F : Facts) (nodes : List (Node F.Fact)) where
   -- The conclusions of node `k` are free behind it.
   held_more :
       (k : ℕ) (free : List (Placed Fact)) (written : List Edge) (cs : List Fact) → Held k free written
-      → ((t : Placed Fact) → t ∈ placed k 1 cs → conclusion_at nodes t.place ≡ some t.fact)
-      → ((t : Placed Fact) → conclusion_at nodes t.place ≡ some t.fact → t.place.node ≡ k → t ∈ placed k 1 cs)
+      → ((t : Placed Fact) → t ∈ placed k 1 cs → conclusion_at nodes t.place ≡ Some t.fact)
+      → ((t : Placed Fact) → conclusion_at nodes t.place ≡ Some t.fact → t.place.node ≡ k → t ∈ placed k 1 cs)
       → Held (suc k) (free ++ placed k 1 cs) written
   held_more k free written cs held of has = record {
     ascends = ascends_both place_of free (placed k 1 cs) held.ascends (placed_ascends k 1 cs)
@@ -198,9 +199,9 @@ module _ (F : Facts) (nodes : List (Node F.Fact)) where
 
   nodes_follow :
       (k : ℕ) (xs : List (Node Fact)) (free : List (Placed Fact)) (written es : List Edge) → Held k free written
-      → ((t : Placed Fact) → t ∈ conclusions_from k xs → conclusion_at nodes t.place ≡ some t.fact)
-      → ((t : Placed Fact) → conclusion_at nodes t.place ≡ some t.fact → k ≤ t.place.node → t ∈ conclusions_from k xs)
-      → ((t : Placed Fact) → t ∈ premises_from k xs → premise_at nodes t.place ≡ some t.fact) → draw_from F k free xs ≡ passed es
+      → ((t : Placed Fact) → t ∈ conclusions_from k xs → conclusion_at nodes t.place ≡ Some t.fact)
+      → ((t : Placed Fact) → conclusion_at nodes t.place ≡ Some t.fact → k ≤ t.place.node → t ∈ conclusions_from k xs)
+      → ((t : Placed Fact) → t ∈ premises_from k xs → premise_at nodes t.place ≡ Some t.fact) → draw_from F k free xs ≡ passed es
       → WroteAll k xs written es
   nodes_follow k [] free written es held of has w h =
       subst (λ l. WroteAll k [] written l) (passed_inj [] es h) (record { follows = tt; in_order = refl })

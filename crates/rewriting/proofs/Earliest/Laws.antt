@@ -2,8 +2,9 @@
 -- that makes the same facts equal.
 use Rattle.std.specs.Prelude.{◌≡◌, refl, Bool, true, List, [], ◌∷◌, ◌++◌, map, ℕ, zero, suc, ◌+◌, ◌≤◌, ◌<◌, take}
 use Rattle.std.proofs.Common.{sym, ◌∙◌, ap, ap₂, subst, ⊎_elim, append_assoc, append-nil, arith}
-use Rattle.std.proofs.Math.Option.{some, none-ne-some, some-injective}
-use Rattle.std.proofs.Math.ListN.{get_elem?}
+use Rattle.std.proofs.Common.{Some}
+use Rattle.std.proofs.lemmas.Option.{none-some, same_Some}
+use Rattle.std.specs.Prelude.{slice_get}
 use Rattle.lists.specs.Tests.{by_bool, bit_le}
 use Rattle.lists.specs.Lists.{◌∈◌, bit, count_by, nth, before}
 use Rattle.lists.specs.Lists.Laws.{count_append, count_mem, count_pos, mem_nth}
@@ -34,14 +35,14 @@ module _ {Fact : Type 0} (Same : Fact → Fact → Type 0) (linear : Fact → Bo
       (g.0, follows_append (written ++ (e ∷ [])) es fs g.1 (subst (λ l. Follows l fs) (sym (append_assoc written (e ∷ []) es)) h))
 
   -- The same by numbers.
-  follows_at : (written es : List Edge) → Follows written es → (i : ℕ) (e : Edge) → get_elem? es i ≡ some e → Sourced (written ++ take i es) e
-  follows_at written [] h i e s = absurd (none-ne-some e s)
+  follows_at : (written es : List Edge) → Follows written es → (i : ℕ) (e : Edge) → slice_get es i ≡ Some e → Sourced (written ++ take i es) e
+  follows_at written [] h i e s = absurd (none-some e s)
   follows_at written (d ∷ es) h zero e s =
-      subst (λ (c : Edge). Sourced (written ++ []) c) (some-injective d e s) (subst (λ l. Sourced l d) (sym (append-nil written)) h.0)
+      subst (λ (c : Edge). Sourced (written ++ []) c) (same_Some d e s) (subst (λ l. Sourced l d) (sym (append-nil written)) h.0)
   follows_at written (d ∷ es) h (suc i) e s =
       subst (λ l. Sourced l e) (append_assoc written (d ∷ []) (take i es)) (follows_at (written ++ (d ∷ [])) es h.1 i e s)
 
-  at_follows : (written es : List Edge) → ((i : ℕ) (e : Edge) → get_elem? es i ≡ some e → Sourced (written ++ take i es) e) → Follows written es
+  at_follows : (written es : List Edge) → ((i : ℕ) (e : Edge) → slice_get es i ≡ Some e → Sourced (written ++ take i es) e) → Follows written es
   at_follows written [] h = tt
   at_follows written (d ∷ es) h = (
     subst (λ l. Sourced l d) (append-nil written) (h 0 d refl),
@@ -83,7 +84,7 @@ module _ {Fact : Type 0} (Same : Fact → Fact → Type 0) (linear : Fact → Bo
   pub targets_earliest : (es : List Edge) → map target es ≡ premise_places → Follows [] es → Earliest Same linear nodes es
   targets_earliest es o h = record { one_into = one; in_order = ordered; sources = sourced }
     where
-      one : (a : Place) (f : Fact) → premise_at nodes a ≡ some f → into a es ≡ 1
+      one : (a : Place) (f : Fact) → premise_at nodes a ≡ Some f → into a es ≡ 1
       one a f p =
           let t : Placed Fact = record { place = a; fact = f } in
           omega (
@@ -95,14 +96,14 @@ module _ {Fact : Type 0} (Same : Fact → Fact → Type 0) (linear : Fact → Bo
             count_mem (λ t. same_place a t.place) (premises_from 1 nodes) t (stands_placed (λ x. x.premises) nodes t p) (place_self a),
           )
 
-      ordered : (i j : ℕ) (d e : Edge) → i < j → nth es i ≡ some d → nth es j ≡ some e → Lower d.target e.target
+      ordered : (i j : ℕ) (d e : Edge) → i < j → nth es i ≡ Some d → nth es j ≡ Some e → Lower d.target e.target
       ordered =
           ascends_nth target es
           (ascends_map target es
           (subst (Ascends (λ (a : Place). a)) (sym o) (map_ascends place_of (premises_from 1 nodes) (all_ascends (λ x. x.premises) 1 nodes))))
 
-      sourced : (j : ℕ) (e : Edge) → nth es j ≡ some e → Sourced (before j es) e
-      sourced zero e s = absurd (none-ne-some e s)
+      sourced : (j : ℕ) (e : Edge) → nth es j ≡ Some e → Sourced (before j es) e
+      sourced zero e s = absurd (none-some e s)
       sourced (suc i) e s = follows_at [] es h i e s
 
   -- There is one list of edges with given targets of which each takes the lowest source that fits.
@@ -126,7 +127,7 @@ module _ {Fact : Type 0} (Same : Fact → Fact → Type 0) (linear : Fact → Bo
 
   -- A linear conclusion that is used fits no more.
   out_once :
-      (a : Place) (f : Fact) → conclusion_at nodes a ≡ some f → linear f ≡ true → (written es : List Edge) → Follows written es → out_of a written ≤ 1
+      (a : Place) (f : Fact) → conclusion_at nodes a ≡ Some f → linear f ≡ true → (written es : List Edge) → Follows written es → out_of a written ≤ 1
       → out_of a (written ++ es) ≤ 1
   out_once a f h lf written [] g l = omega (arith, count_append (λ (e : Edge). same_place a e.source) written [])
   out_once a f h lf written (e ∷ es) g l =
@@ -141,7 +142,7 @@ module _ {Fact : Type 0} (Same : Fact → Fact → Type 0) (linear : Fact → Bo
           (λ y.
           let at_same = place_eq a e.source y in
           let fit = g.0.here in
-          let i : f ≡ fit.joins.from = some-injective _ _ (sym h ∙ ap (conclusion_at nodes) at_same ∙ fit.joins.has_source) in
+          let i : f ≡ fit.joins.from = same_Some _ _ (sym h ∙ ap (conclusion_at nodes) at_same ∙ fit.joins.has_source) in
           let z = fit.unused (ap linear (sym i) ∙ lf) in
           omega (arith, more, ap (λ (b : Place). out_of b written) at_same, bit_le (same_place a e.source)))
           (λ n. omega (arith, more, ap bit n))
@@ -159,8 +160,8 @@ module _ {Fact : Type 0} (Same : Fact → Fact → Type 0) (linear : Fact → Bo
   pub record FitsAnywhere (written : List Edge) (e : Edge) : Type 0 where
     pub from : Fact
     pub to : Fact
-    pub has_source : conclusion_at nodes e.source ≡ some from
-    pub has_target : premise_at nodes e.target ≡ some to
+    pub has_source : conclusion_at nodes e.source ≡ Some from
+    pub has_target : premise_at nodes e.target ≡ Some to
     pub facts_same : Same from to
     pub unused : linear from ≡ true → out_of e.source written ≡ 0
 

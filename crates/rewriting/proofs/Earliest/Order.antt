@@ -2,7 +2,8 @@
 use Rattle.std.specs.Prelude.{◌≡◌, refl, ◌⊎◌, Bool, true, false, List, [], ◌∷◌, ◌++◌, map, ℕ, zero, suc, ◌≤◌, ◌<◌}
 use Rattle.std.proofs.Common.{sym, ◌∙◌, ap, ap₂, subst, ⊎_elim, inl, inr, arith}
 use mathlib.Core.List.Memᴰ
-use Rattle.std.proofs.Math.Option.{some, none-ne-some, some-injective}
+use Rattle.std.proofs.Common.{Some}
+use Rattle.std.proofs.lemmas.Option.{none-some, same_Some}
 use Rattle.lists.specs.Choice.{by_order}
 use Rattle.lists.specs.Tests.{by_bool, true_false, not_true}
 use Rattle.lists.specs.Lists.{◌∈◌, nth, first_by, remove_by}
@@ -64,32 +65,32 @@ module _ {A : Type 0} (place : A → Place) where
   )
 
   -- By numbers.
-  pub ascends_nth : (l : List A) → Ascends l → (i j : ℕ) (x y : A) → i < j → nth l i ≡ some x → nth l j ≡ some y → Lower (place x) (place y)
-  ascends_nth l a zero j x y h p q = absurd (none-ne-some x p)
-  ascends_nth l a (suc i) zero x y h p q = absurd (none-ne-some y q)
-  ascends_nth [] a (suc i) (suc j) x y h p q = absurd (none-ne-some x p)
+  pub ascends_nth : (l : List A) → Ascends l → (i j : ℕ) (x y : A) → i < j → nth l i ≡ Some x → nth l j ≡ Some y → Lower (place x) (place y)
+  ascends_nth l a zero j x y h p q = absurd (none-some x p)
+  ascends_nth l a (suc i) zero x y h p q = absurd (none-some y q)
+  ascends_nth [] a (suc i) (suc j) x y h p q = absurd (none-some x p)
   ascends_nth (z ∷ l) a (suc zero) (suc zero) x y h p q = absurd (omega arith)
   ascends_nth (z ∷ l) a (suc zero) (suc (suc j)) x y h p q =
-      let e : z ≡ x = some-injective z x p in
+      let e : z ≡ x = same_Some z x p in
       subst (λ (w : A). Lower (place w) (place y)) e (a.0 y (nth_mem l y (suc j) q))
   ascends_nth (z ∷ l) a (suc (suc i)) (suc zero) x y h p q = absurd (omega arith)
   ascends_nth (z ∷ l) a (suc (suc i)) (suc (suc j)) x y h p q = ascends_nth l a.1 (suc i) (suc j) x y (omega arith) p q
 
   pub nth_ascends :
-      (l : List A) → ((i j : ℕ) (x y : A) → i < j → nth l i ≡ some x → nth l j ≡ some y → Lower (place x) (place y)) → Ascends l
+      (l : List A) → ((i j : ℕ) (x y : A) → i < j → nth l i ≡ Some x → nth l j ≡ Some y → Lower (place x) (place y)) → Ascends l
   nth_ascends [] h = tt
   nth_ascends (x ∷ l) h = (
     (λ y m. let (k, e) = mem_nth l y m in behind y k e),
     nth_ascends l (λ i j y z b p q. shifted i j y z b p q),
   )
     where
-      behind : (y : A) (k : ℕ) → nth l k ≡ some y → Lower (place x) (place y)
-      behind y zero e = absurd (none-ne-some y e)
+      behind : (y : A) (k : ℕ) → nth l k ≡ Some y → Lower (place x) (place y)
+      behind y zero e = absurd (none-some y e)
       behind y (suc k) e = h 1 (suc (suc k)) x y (omega arith) refl e
 
-      shifted : (i j : ℕ) (y z : A) → i < j → nth l i ≡ some y → nth l j ≡ some z → Lower (place y) (place z)
-      shifted zero j y z b p q = absurd (none-ne-some y p)
-      shifted (suc i) zero y z b p q = absurd (none-ne-some z q)
+      shifted : (i j : ℕ) (y z : A) → i < j → nth l i ≡ Some y → nth l j ≡ Some z → Lower (place y) (place z)
+      shifted zero j y z b p q = absurd (none-some y p)
+      shifted (suc i) zero y z b p q = absurd (none-some z q)
       shifted (suc i) (suc j) y z b p q = h (suc (suc i)) (suc (suc j)) y z (omega arith) p q
 
   -- Without the first that passes a test, a list still ascends; that one is at no place of what is left, and all others are left.
@@ -99,27 +100,27 @@ module _ {A : Type 0} (place : A → Place) where
     ascends_remove (x ∷ l) a = by_bool (p x) (λ y. rw y a.1) (λ n. rw n ((λ u m. a.0 u (remove_mem p l u m)), ascends_remove l a.1))
 
     pub removed_apart :
-        (l : List A) (t u : A) → Ascends l → first_by p l ≡ some t → u ∈ remove_by p l → same_place (place u) (place t) ≡ false
+        (l : List A) (t u : A) → Ascends l → first_by p l ≡ Some t → u ∈ remove_by p l → same_place (place u) (place t) ≡ false
     removed_apart [] t u a e m = absurd (Memᴰ.not-nil m)
     removed_apart (x ∷ l) t u a e m =
         by_bool (p x)
         (λ y.
-        let i : x ≡ t = some-injective x t (rw y at e) in
+        let i : x ≡ t = same_Some x t (rw y at e) in
         subst (λ (v : A). same_place (place u) (place v) ≡ false) i (apart_back (place x) (place u) (a.0 u (rw y at m))))
         (λ n.
-        let f : first_by p l ≡ some t = rw n at e in
+        let f : first_by p l ≡ Some t = rw n at e in
         ⊎_elim
         (λ (j : u ≡ x). subst (λ (v : A). same_place (place v) (place t) ≡ false) (sym j) (apart (place x) (place t) (a.0 t (first_mem p l t f))))
         (λ o. removed_apart l t u a.1 f o)
         (Memᴰ.cases_cons (rw n at m)))
 
     -- The first that passes a test is the lowest that does.
-    pub first_lowest : (l : List A) (t u : A) → Ascends l → first_by p l ≡ some t → u ∈ l → p u ≡ true → Lower (place u) (place t) → ⊥
+    pub first_lowest : (l : List A) (t u : A) → Ascends l → first_by p l ≡ Some t → u ∈ l → p u ≡ true → Lower (place u) (place t) → ⊥
     first_lowest [] t u a e m h low = Memᴰ.not-nil m
     first_lowest (x ∷ l) t u a e m h low =
         by_bool (p x)
         (λ y.
-        let i : x ≡ t = some-injective x t (rw y at e) in
+        let i : x ≡ t = same_Some x t (rw y at e) in
         let z : Lower (place u) (place x) = subst (λ (v : A). Lower (place u) (place v)) (sym i) low in
         ⊎_elim
         (λ (j : u ≡ x). not_itself (place u) (place x) (ap place j) z)
@@ -132,12 +133,12 @@ module _ {A : Type 0} (place : A → Place) where
         (Memᴰ.cases_cons m))
 
 pub kept_mem :
-    {A : Type 0} (p : A → Bool) (l : List A) (t u : A) → first_by p l ≡ some t → u ∈ l → (u ≡ t → ⊥) → u ∈ remove_by p l
+    {A : Type 0} (p : A → Bool) (l : List A) (t u : A) → first_by p l ≡ Some t → u ∈ l → (u ≡ t → ⊥) → u ∈ remove_by p l
 kept_mem p [] t u e m d = m
 kept_mem p (x ∷ l) t u e m d =
     by_bool (p x)
     (λ y.
-    let i : x ≡ t = some-injective x t (rw y at e) in
+    let i : x ≡ t = same_Some x t (rw y at e) in
     rw y (⊎_elim (λ (j : u ≡ x). absurd (d (j ∙ i))) (λ o. o) (Memᴰ.cases_cons m)))
     (λ n.
     rw n (⊎_elim (λ (j : u ≡ x). Memᴰ.head j) (λ o. Memᴰ.tail (kept_mem p l t u (rw n at e) o d)) (Memᴰ.cases_cons m)))

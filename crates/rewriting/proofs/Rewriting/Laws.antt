@@ -3,7 +3,8 @@
 use Rattle.std.specs.Prelude.{◌≡◌, refl, ◌↔◌, Bool, true, false, not, ◌||◌, List, [], ◌∷◌, ◌++◌, ℕ, suc, ◌+◌, ◌≤◌, leb, eqb}
 use Rattle.std.proofs.Common.{sym, ◌∙◌, ap, subst, ⊎_elim, arith}
 use mathlib.Core.List.Memᴰ
-use Rattle.std.proofs.Math.Option.{Option, none, some, none-ne-some, some-injective}
+use Rattle.std.proofs.Common.{Option, Some, None}
+use Rattle.std.proofs.lemmas.Option.{none-some, same_Some}
 use Rattle.lists.specs.Tests.{by_bool, true_false, not_true, or_split, eqb_eq, eqb_self, leb_le, le_leb, leb_sum}
 use Rattle.lists.specs.Lists.{◌∈◌, bit, count_by}
 use Rattle.lists.specs.Lists.Laws.{count_append, count_pos, count_mem}
@@ -172,15 +173,15 @@ module _
         }
 
   -- ── a name is made already, in the machine and among the names made ──
-  already_in : (made : List ℕ) (o : Option ℕ) → made_already made o ≡ false → (m : ℕ) → o ≡ some m → m ∈ made → ⊥
-  already_in made none f m e i = absurd (none-ne-some m e)
-  already_in made (some n) f m e i =
-      let l = count_mem (eqb n) made m i (ap (eqb n) (sym (some-injective n m e)) ∙ eqb_self n) in
+  already_in : (made : List ℕ) (o : Option ℕ) → made_already made o ≡ false → (m : ℕ) → o ≡ Some m → m ∈ made → ⊥
+  already_in made None f m e i = absurd (none-some m e)
+  already_in made (Some n) f m e i =
+      let l = count_mem (eqb n) made m i (ap (eqb n) (sym (same_Some n m e)) ∙ eqb_self n) in
       true_false (leb 1 (count_by (eqb n) made)) (le_leb 1 (count_by (eqb n) made) l) f
 
-  in_already : (made : List ℕ) (o : Option ℕ) → ((m : ℕ) → o ≡ some m → m ∈ made → ⊥) → made_already made o ≡ false
-  in_already made none h = refl
-  in_already made (some n) h =
+  in_already : (made : List ℕ) (o : Option ℕ) → ((m : ℕ) → o ≡ Some m → m ∈ made → ⊥) → made_already made o ≡ false
+  in_already made None h = refl
+  in_already made (Some n) h =
       not_true (leb 1 (count_by (eqb n) made))
       (λ t. let (a, i, e) = count_pos (eqb n) made (leb_le 1 (count_by (eqb n) made) t) in
       h n refl (subst (λ (k : ℕ). k ∈ made) (sym (eqb_eq n a e)) i))

@@ -2,7 +2,8 @@
 use Rattle.std.specs.Prelude.{◌≡◌, refl, true, false, ◌||◌, List, [], ◌∷◌, ℕ, suc, ◌+◌, ◌≤◌, leb}
 use Rattle.std.proofs.Common.{sym, ◌∙◌, ap, ⊎_elim, arith}
 use mathlib.Core.List.Memᴰ
-use Rattle.std.proofs.Math.Option.{Option, none, some, none-ne-some, some-injective}
+use Rattle.std.proofs.Common.{Option, Some, None}
+use Rattle.std.proofs.lemmas.Option.{none-some, same_Some}
 use Rattle.lists.specs.Tests.{by_bool, leb_le, le_leb, leb_sum}
 use Rattle.lists.specs.Lists.{◌∈◌, bit}
 use Rattle.lists.specs.Lists.Laws.{count_append, count_mem, count_remove, count_remove_other, first_some, first_passes, first_mem}
@@ -88,13 +89,13 @@ module _ (F : Facts) where
       omega arith
 
   -- The writer finds a source for each premise just where there is enough.
-  pub add_some : (a : Place) (o : Option (Placed Fact)) (r : Option (List Edge)) (es : List Edge) → add_edge a o r ≡ some es →
-      (t : Placed Fact) × (fs : List Edge) × (o ≡ some t) × (r ≡ some fs) × (es ≡ record { source = t.place; target = a } ∷ fs)
-  add_some a none r es h = absurd (none-ne-some es h)
-  add_some a (some t) none es h = absurd (none-ne-some es h)
-  add_some a (some t) (some fs) es h = (t, fs, refl, refl, sym (some-injective _ es h))
+  pub add_some : (a : Place) (o : Option (Placed Fact)) (r : Option (List Edge)) (es : List Edge) → add_edge a o r ≡ Some es →
+      (t : Placed Fact) × (fs : List Edge) × (o ≡ Some t) × (r ≡ Some fs) × (es ≡ record { source = t.place; target = a } ∷ fs)
+  add_some a None r es h = absurd (none-some es h)
+  add_some a (Some t) None es h = absurd (none-some es h)
+  add_some a (Some t) (Some fs) es h = (t, fs, refl, refl, sym (same_Some _ es h))
 
-  pub edges_sources : (k i : ℕ) (ps : List Fact) (free : List (Placed Fact)) (es : List Edge) → edges_into F k i free ps ≡ some es → Sources ps free
+  pub edges_sources : (k i : ℕ) (ps : List Fact) (free : List (Placed Fact)) (es : List Edge) → edges_into F k i free ps ≡ Some es → Sources ps free
   edges_sources k i [] free es h = record { linears = λ f lf. omega arith; persistents = λ p m lp. absurd (Memᴰ.not-nil m) }
   edges_sources k i (p ∷ ps) free es h =
       let (t, fs, a, b, c) = add_some _ _ _ es h in
@@ -112,7 +113,7 @@ module _ (F : Facts) where
             (Memᴰ.cases_cons m);
       }
 
-  pub sources_edges : (k i : ℕ) (ps : List Fact) (free : List (Placed Fact)) → Sources ps free → (es : List Edge) × (edges_into F k i free ps ≡ some es)
+  pub sources_edges : (k i : ℕ) (ps : List Fact) (free : List (Placed Fact)) → Sources ps free → (es : List Edge) × (edges_into F k i free ps ≡ Some es)
   sources_edges k i [] free h = ([], refl)
   sources_edges k i (p ∷ ps) free h =
       let one : 1 ≤ count_placed F p free =

@@ -1,12 +1,12 @@
 -- An accepted graph by another statement of equality, which holds of a conclusion and a premise of the nodes wherever the first does.
 use Rattle.std.specs.Prelude.{◌≡◌, Bool, List}
-use Rattle.std.proofs.Math.Option.{some}
+use Rattle.std.specs.Prelude.{Some}
 use Rattle.rewriting.specs.Graph.{Node, Place, Edge, premise_at, conclusion_at, Joins, Accepted}
 
 -- Wherever a conclusion and a premise are the same by one statement, they are by another.
 abbrev pub Implies : {Fact : Type 0} → List (Node Fact) → (Fact → Fact → Type 0) → (Fact → Fact → Type 0) → Type 0
 Implies {Fact} nodes Same Other =
-    (a b : Place) (f g : Fact) → conclusion_at nodes a ≡ some f → premise_at nodes b ≡ some g → Same f g → Other f g
+    (a b : Place) (f g : Fact) → conclusion_at nodes a ≡ Some f → premise_at nodes b ≡ Some g → Same f g → Other f g
 
 module _ {Fact : Type 0} {Same Other : Fact → Fact → Type 0} {nodes : List (Node Fact)} (implies : Implies nodes Same Other) where
   unfoldable pub joins_as : (e : Edge) → Joins Same nodes e → Joins Other nodes e

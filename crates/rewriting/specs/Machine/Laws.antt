@@ -1,7 +1,8 @@
 -- Where the machine stops, and what it leaves.
+use Rattle.lists.specs.Tests.{some_none}
 use Rattle.std.specs.Prelude.{◌≡◌, refl, true, false, ◌||◌, List, [], ◌∷◌, ◌++◌, ℕ, suc, ◌+◌, ◌-◌, leb}
 use Rattle.std.proofs.Common.{sym, ◌∙◌, ap, ap₂, append_assoc, append-nil, arith}
-use Rattle.std.proofs.Math.Option.{Option, none, some, some-ne-none}
+use Rattle.std.specs.Prelude.{Option, Some, None}
 use Rattle.lists.specs.Tests.{by_bool}
 use Rattle.lists.specs.Lists.{leaves, scan}
 use Rattle.rewriting.specs.Facts.{Facts, count}
@@ -29,18 +30,18 @@ module _ (F : Facts) where
 
   -- The node at which the machine fails: it is a pass that keeps a state.
   abbrev pub stop : Outcome Fact → Option ℕ
-  stop (ran s) = none
-  stop (failed k) = some k
+  stop (ran s) = None
+  stop (failed k) = Some k
 
   pub stop_scan : (k : ℕ) (s : State Fact) (xs : List (Node Fact)) → stop (run_from F k s xs) ≡ scan (λ j s x. fails F s x) (after F) k s xs
   stop_scan k s [] = refl
   stop_scan k s (x ∷ xs) = by_bool (fails F s x) (λ t. rw t) (λ f. rw f (stop_scan (suc k) (after F s x) xs))
 
-  pub clear_ran : (k : ℕ) (s : State Fact) (xs : List (Node Fact)) → scan (λ j s x. fails F s x) (after F) k s xs ≡ none → run_from F k s xs ≡ ran
+  pub clear_ran : (k : ℕ) (s : State Fact) (xs : List (Node Fact)) → scan (λ j s x. fails F s x) (after F) k s xs ≡ None → run_from F k s xs ≡ ran
       (leaves (after F) s xs)
   clear_ran k s [] h = refl
   clear_ran k s (x ∷ xs) h =
-      by_bool (fails F s x) (λ t. absurd (some-ne-none k (rw t at h))) (λ f. rw f (clear_ran (suc k) (after F s x) xs (rw f at h)))
+      by_bool (fails F s x) (λ t. absurd (some_none k (rw t at h))) (λ f. rw f (clear_ran (suc k) (after F s x) xs (rw f at h)))
 
   -- What the machine leaves.
   pub ran_left : (k : ℕ) (s : State Fact) (xs : List (Node Fact)) (e : State Fact) → run_from F k s xs ≡ ran e → leaves (after F) s xs ≡ e

@@ -2,8 +2,9 @@
 use Rattle.std.specs.Prelude.{◌≡◌, refl, true, List, [], ◌∷◌, ◌++◌, ℕ, zero, suc, ◌+◌, ◌≤◌, eqb, length}
 use Rattle.std.proofs.Common.{sym, ◌∙◌, ap, ⊎_elim, arith}
 use mathlib.Core.List.Memᴰ
-use Rattle.std.proofs.Math.Option.{Option, some, none-ne-some, some-injective}
-use Rattle.std.proofs.Math.ListN.{get_elem?}
+use Rattle.std.specs.Prelude.{Option, Some}
+use Rattle.std.proofs.lemmas.Option.{none-some, same_Some}
+use Rattle.std.specs.Prelude.{slice_get}
 use Rattle.lists.specs.Tests.{bit_le, bit_true, at_most_one, and_split, and_both, eqb_eq, eqb_self}
 use Rattle.lists.specs.Lists.{◌∈◌, bit, count_by, nth}
 use Rattle.lists.specs.Lists.Laws.{count_append, count_ext, count_pos, count_mem}
@@ -28,23 +29,23 @@ place_sym a b h = ap (λ c. same_place b c) (place_eq a b h) ∙ place_self b
 
 module _ {Fact : Type 0} where
   placed_mem : (k i : ℕ) (fs : List Fact) (t : Placed Fact) → t ∈ placed k i fs →
-      (j : ℕ) × (t.place.node ≡ k) × (t.place.index ≡ i + j) × (get_elem? fs j ≡ some t.fact)
+      (j : ℕ) × (t.place.node ≡ k) × (t.place.index ≡ i + j) × (slice_get fs j ≡ Some t.fact)
   placed_mem k i [] t m = absurd (Memᴰ.not-nil m)
   placed_mem k i (f ∷ fs) t m =
       ⊎_elim
-      (λ e. (0, ap (λ u. u.place.node) e, (let z = ap (λ u. u.place.index) e in omega arith), ap {B = Option Fact} some (sym (ap (λ u. u.fact) e))))
+      (λ e. (0, ap (λ u. u.place.node) e, (let z = ap (λ u. u.place.index) e in omega arith), ap {B = Option Fact} Some (sym (ap (λ u. u.fact) e))))
       (λ k'. let (j, a, b, c) = placed_mem k (suc i) fs t k' in (suc j, a, omega arith, c))
       (Memᴰ.cases_cons m)
 
   pub placed_node : (k i : ℕ) (fs : List Fact) (t : Placed Fact) → t ∈ placed k i fs → t.place.node ≡ k
   placed_node k i fs t m = (placed_mem k i fs t m).1
 
-  placed_has : (k i : ℕ) (fs : List Fact) (t : Placed Fact) (j : ℕ) → t.place.node ≡ k → t.place.index ≡ i + j → get_elem? fs j ≡ some t.fact →
+  placed_has : (k i : ℕ) (fs : List Fact) (t : Placed Fact) (j : ℕ) → t.place.node ≡ k → t.place.index ≡ i + j → slice_get fs j ≡ Some t.fact →
       t ∈ placed k i fs
-  placed_has k i [] t j a b c = absurd (none-ne-some _ c)
+  placed_has k i [] t j a b c = absurd (none-some _ c)
   placed_has k i (f ∷ fs) t zero a b c =
       let n : t.place.index ≡ i = omega arith in
-      let g : t.fact ≡ f = sym (some-injective f t.fact c) in
+      let g : t.fact ≡ f = sym (same_Some f t.fact c) in
       Memᴰ.head (λ d. record { place = record { node = a d; index = n d }; fact = g d })
   placed_has k i (f ∷ fs) t (suc j) a b c = Memᴰ.tail (placed_has k (suc i) fs t j a (omega arith) c)
 
@@ -57,22 +58,22 @@ module _ {Fact : Type 0} where
       (placed_behind k (suc i) fs m ∙ ap (λ (j : ℕ). placed k (suc i) fs ++ placed k j m) e)
 
   -- The placed facts of one node.
-  pub placed_at : (k : ℕ) (fs : List Fact) (t : Placed Fact) → t ∈ placed k 1 fs → (t.place.node ≡ k) × (nth fs t.place.index ≡ some t.fact)
+  pub placed_at : (k : ℕ) (fs : List Fact) (t : Placed Fact) → t ∈ placed k 1 fs → (t.place.node ≡ k) × (nth fs t.place.index ≡ Some t.fact)
   placed_at k fs t m =
       let (j, a, b, c) = placed_mem k 1 fs t m in
       let s : t.place.index ≡ suc j = omega arith in
       (a, rw s c)
 
-  pub placed_of : (k : ℕ) (fs : List Fact) (t : Placed Fact) → t.place.node ≡ k → nth fs t.place.index ≡ some t.fact → t ∈ placed k 1 fs
+  pub placed_of : (k : ℕ) (fs : List Fact) (t : Placed Fact) → t.place.node ≡ k → nth fs t.place.index ≡ Some t.fact → t ∈ placed k 1 fs
   placed_of k fs t a b = here t.place.index refl b
     where
-      here : (n : ℕ) → t.place.index ≡ n → nth fs n ≡ some t.fact → t ∈ placed k 1 fs
-      here zero e c = absurd (none-ne-some _ c)
+      here : (n : ℕ) → t.place.index ≡ n → nth fs n ≡ Some t.fact → t ∈ placed k 1 fs
+      here zero e c = absurd (none-some _ c)
       here (suc n) e c = placed_has k 1 fs t n a (omega arith) c
 
   module _ (part : Node Fact → List Fact) where
     pub placed_all_mem : (k : ℕ) (xs : List (Node Fact)) (t : Placed Fact) → t ∈ placed_all part k xs →
-        (j : ℕ) × (t.place.node ≡ k + j) × (in_node part t.place.index (get_elem? xs j) ≡ some t.fact)
+        (j : ℕ) × (t.place.node ≡ k + j) × (in_node part t.place.index (slice_get xs j) ≡ Some t.fact)
     placed_all_mem k [] t m = absurd (Memᴰ.not-nil m)
     placed_all_mem k (x ∷ xs) t m =
         ⊎_elim
@@ -80,26 +81,26 @@ module _ {Fact : Type 0} where
         (λ h. let (j, a, b) = placed_all_mem (suc k) xs t h in (suc j, omega arith, b))
         (Memᴰ.append_cases (placed k 1 (part x)) m)
 
-    placed_all_has : (k : ℕ) (xs : List (Node Fact)) (t : Placed Fact) (j : ℕ) → t.place.node ≡ k + j → in_node part t.place.index (get_elem? xs j) ≡ some
+    placed_all_has : (k : ℕ) (xs : List (Node Fact)) (t : Placed Fact) (j : ℕ) → t.place.node ≡ k + j → in_node part t.place.index (slice_get xs j) ≡ Some
         t.fact →
         t ∈ placed_all part k xs
-    placed_all_has k [] t j a b = absurd (none-ne-some _ b)
+    placed_all_has k [] t j a b = absurd (none-some _ b)
     placed_all_has k (x ∷ xs) t zero a b = Memᴰ.append_left _ (placed_of k (part x) t (omega arith) b)
     placed_all_has k (x ∷ xs) t (suc j) a b = Memᴰ.append_right (placed k 1 (part x)) (placed_all_has (suc k) xs t j (omega arith) b)
 
     -- What is placed stands at its place.
-    pub placed_stands : (nodes : List (Node Fact)) (t : Placed Fact) → t ∈ placed_all part 1 nodes → fact_at part nodes t.place ≡ some t.fact
+    pub placed_stands : (nodes : List (Node Fact)) (t : Placed Fact) → t ∈ placed_all part 1 nodes → fact_at part nodes t.place ≡ Some t.fact
     placed_stands nodes t m =
         let (j, a, b) = placed_all_mem 1 nodes t m in
         let s : t.place.node ≡ suc j = omega arith in
         rw s b
 
     -- What stands at a place is placed there.
-    pub stands_placed : (nodes : List (Node Fact)) (t : Placed Fact) → fact_at part nodes t.place ≡ some t.fact → t ∈ placed_all part 1 nodes
+    pub stands_placed : (nodes : List (Node Fact)) (t : Placed Fact) → fact_at part nodes t.place ≡ Some t.fact → t ∈ placed_all part 1 nodes
     stands_placed nodes t h = go t.place.node refl h
       where
-        go : (n : ℕ) → t.place.node ≡ n → in_node part t.place.index (nth nodes n) ≡ some t.fact → t ∈ placed_all part 1 nodes
-        go zero e c = absurd (none-ne-some _ c)
+        go : (n : ℕ) → t.place.node ≡ n → in_node part t.place.index (nth nodes n) ≡ Some t.fact → t ∈ placed_all part 1 nodes
+        go zero e c = absurd (none-some _ c)
         go (suc n) e c = placed_all_has 1 nodes t n (omega arith) c
 
     placed_once : (a : Place) (k i : ℕ) (fs : List Fact) → count_at a (placed k i fs) ≤ 1

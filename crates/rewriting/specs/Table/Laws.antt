@@ -1,7 +1,7 @@
 -- A list of passes answers what its rows say; the answer is unique; it passes just where no row applies.
 use Rattle.std.specs.Prelude.{◌≡◌, refl, ◌↔◌, List, [], ◌∷◌, ◌++◌, ℕ, suc, ltb}
 use Rattle.std.proofs.Common.{sym, ◌∙◌, ap, subst, inl, inr, arith}
-use Rattle.std.proofs.Math.Option.{Option, none, some}
+use Rattle.std.specs.Prelude.{Option, Some, None}
 use Rattle.lists.specs.Tests.{by_bool, leb_le, leb_gt}
 use Rattle.rewriting.specs.Table.{Ruling, passed, refused, Row, Least, Nowhere, Absent, Ruled, Says}
 use Rattle.rewriting.specs.Table.{Finds, Pass, or_refuse, rows_then, ruling_then, rows_of, ruling_of, and_then, rows_after}
@@ -29,8 +29,8 @@ least_unique P j k g h =
 
 -- A pass finds a cause under another name.
 pub finds_least : (P Q : ℕ → Type 0) → ((k : ℕ) → Least P k → Q k) → ((k : ℕ) → Q k → P k) → (o : Option ℕ) → Finds P o → Finds Q o
-finds_least P Q f g none h = λ k q. h k (g k q)
-finds_least P Q f g (some k) h = record { here = f k h; below = λ j l q. h.below j l (g j q) }
+finds_least P Q f g None h = λ k q. h k (g k q)
+finds_least P Q f g (Some k) h = record { here = f k h; below = λ j l q. h.below j l (g j q) }
 
 pub finds_iff : (P Q : ℕ → Type 0) → ((k : ℕ) → P k → Q k) → ((k : ℕ) → Q k → P k) → (o : Option ℕ) → Finds P o → Finds Q o
 finds_iff P Q f g o h = finds_least P Q (λ k l. f k l.here) g o h
@@ -38,8 +38,8 @@ finds_iff P Q f g o h = finds_least P Q (λ k l. f k l.here) g o h
 module _ {A : Type 0} (Good : A → Type 0) where
   row_ruled : (c : Row) (cs : List Row) (o : Option ℕ) (r : Ruling A) → Finds c.has o → (Nowhere c → Ruled cs Good r) → Ruled (c ∷ cs) Good
       (or_refuse c.number o r)
-  row_ruled c cs none r h g = inl (h, g h)
-  row_ruled c cs (some k) r h g = inr (k, h, refl)
+  row_ruled c cs None r h g = inl (h, g h)
+  row_ruled c cs (Some k) r h g = inr (k, h, refl)
 
   -- Passes, then an answer that the further rows rule where the passes found nothing.
   pub ruled_then : (ps : List Pass) (cs : List Row) (r : Ruling A) → (Absent (rows_of ps) → Ruled cs Good r) → Ruled (rows_then ps cs) Good (ruling_then ps r)

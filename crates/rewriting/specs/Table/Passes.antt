@@ -1,7 +1,7 @@
 -- The passes: a Boolean test with a fixed item, a bound, the least element that fails a test.
 use Rattle.std.specs.Prelude.{◌≡◌, refl, Bool, true, false, cond, not, List, ℕ, suc, ◌<◌, ltb}
 use Rattle.std.proofs.Common.{ap, arith}
-use Rattle.std.proofs.Math.Option.{none, some}
+use Rattle.std.specs.Prelude.{Some, None}
 use Rattle.lists.specs.Tests.{true_false, not_split, le_leb, leb_le}
 use Rattle.lists.specs.Lists.{first_bad}
 use Rattle.rewriting.specs.Table.Laws.{finds_iff}
@@ -13,12 +13,12 @@ abbrev pub restated : (p : Pass) (Q : ℕ → Type 0) → ((k : ℕ) → p.cause
 restated p Q f g = record { cause = row p.cause.number Q; found = p.found; finds = finds_iff p.cause.has Q f g p.found p.finds }
 
 -- A cause with one item, found by a Boolean test.
-pub tested : (i : ℕ) (P : Type 0) (b : Bool) → (b ≡ true → P) → (P → b ≡ true) → Finds (λ k. (k ≡ i) × P) (cond b (some i) none)
+pub tested : (i : ℕ) (P : Type 0) (b : Bool) → (b ≡ true → P) → (P → b ≡ true) → Finds (λ k. (k ≡ i) × P) (cond b (Some i) None)
 tested i P true to fro = record { here = (refl, to refl); below = λ j l h. omega (arith, h.0) }
 tested i P false to fro = λ k h. true_false false (fro h.1) refl
 
 abbrev pub test_pass : (n i : ℕ) (P : Type 0) (b : Bool) → (b ≡ true → P) → (P → b ≡ true) → Pass
-test_pass n i P b to fro = record { cause = fixed_row n i P; found = cond b (some i) none; finds = tested i P b to fro }
+test_pass n i P b to fro = record { cause = fixed_row n i P; found = cond b (Some i) None; finds = tested i P b to fro }
 
 -- A size and a bound: `m` is less than `l`. The item is 0 or a file (a limit below a length), or the bytes needed themselves.
 abbrev pub less_pass : (n i m l : ℕ) → Pass

@@ -1,6 +1,6 @@
 -- What the code finds for a rule number: the rule's bytes, written out; its place in the protocol file; or no rule.
 use Rattle.std.specs.Prelude.{ℕ, ◌+◌, ◌-◌, ◌≤◌, ◌<◌, List, ◌≡◌, length, get_or, ltb}
-use Rattle.std.proofs.Math.Option.{some, none}
+use Rattle.std.specs.Prelude.{Some, None}
 use Rattle.std.proofs.Math.Path.{ap}
 use Rattle.std.proofs.Common.{sym, ◌∙◌, subst, arith, lt-ltb, le-ltb}
 use Rattle.lists.specs.Choice.{pick, by_size}
@@ -22,26 +22,26 @@ use Rattle.rules.specs.Numbered.Writing.{Holds}
 -- ── an apply-rule ──
 pub record AppliedAs (arities : List ℕ) (t len : ℕ) (out : List ℕ) : Type 0 where
   pub arguments : ℕ
-  pub declared : arity arities t ≡ some arguments
+  pub declared : arity arities t ≡ Some arguments
   pub holds : Holds out len (encode_rule (applies t arguments))
 
 abbrev pub Applies : List ℕ → ℕ → FoundRule → List ℕ → Type 0
 Applies arities t (fd.Written len) out = AppliedAs arities t len out
 Applies arities t (fd.At place) out = ⊥
-Applies arities t fd.Nothing out = arity arities t ≡ none
+Applies arities t fd.Nothing out = arity arities t ≡ None
 
 module _ (fs arities : List ℕ) (small : All (λ a. a < 5) fs) (same : arities ≡ tag_arities fs) (t : ℕ) (inside : t < length arities) where
   slot_is : get_or arities t 0 ≡ get_or (tag_arities fs) t undeclared
   slot_is = slot_inside arities t inside ∙ ap (λ (l : List ℕ). get_or l t undeclared) same
 
-  pub slot_taken : 3 ≤ t → get_or arities t 0 ≤ 4 → arity (tag_arities fs) t ≡ some (get_or arities t 0)
-  slot_taken h k = arity_some (tag_arities fs) t h (λ e. omega (arith, slot_is)) ∙ ap some (sym slot_is)
+  pub slot_taken : 3 ≤ t → get_or arities t 0 ≤ 4 → arity (tag_arities fs) t ≡ Some (get_or arities t 0)
+  slot_taken h k = arity_some (tag_arities fs) t h (λ e. omega (arith, slot_is)) ∙ ap Some (sym slot_is)
 
   left_empty : (a : ℕ) → Slot a → 4 < a → a ≡ undeclared
   left_empty a (takes h) k = absurd (omega arith)
   left_empty a (empty h) k = h
 
-  pub slot_left : 4 < get_or arities t 0 → arity (tag_arities fs) t ≡ none
+  pub slot_left : 4 < get_or arities t 0 → arity (tag_arities fs) t ≡ None
   slot_left k =
       arity_none (tag_arities fs) t
       (left_empty (get_or (tag_arities fs) t undeclared) (slot_at fs small t) (omega (arith, slot_is)))
@@ -62,19 +62,19 @@ module _ (places : List ℕ) (n k : ℕ) where
 -- ── the rule of a number ──
 pub record WrittenAs (p : Protocol) (n len : ℕ) (out : List ℕ) : Type 0 where
   pub its : Rule
-  pub is : rule_of p n ≡ some its
+  pub is : rule_of p n ≡ Some its
   pub has_slot : slot_of n < slot_of (n + 1)
   pub holds : Holds out len (encode_rule its)
 
 pub record PlacedAs (p : Protocol) (file arities ars : List ℕ) (n place : ℕ) : Type 0 where
   pub its : Rule
-  pub is : rule_of p n ≡ some its
+  pub is : rule_of p n ≡ Some its
   pub here : Here (rule file arities ars) its place
 
 abbrev pub Finds : Protocol → List ℕ → List ℕ → List ℕ → ℕ → FoundRule → List ℕ → Type 0
 Finds p file arities ars n (fd.Written len) out = WrittenAs p n len out
 Finds p file arities ars n (fd.At place) out = PlacedAs p file arities ars n place
-Finds p file arities ars n fd.Nothing out = rule_of p n ≡ none
+Finds p file arities ars n fd.Nothing out = rule_of p n ≡ None
 
 module _ (p : Protocol) (n : ℕ) where
   -- what its number stands for
@@ -82,7 +82,7 @@ module _ (p : Protocol) (n : ℕ) where
   unfolding rule_of
   of_number k e = ap (rule_as p) e
 
-  pub of_fixed : n < 5 → rule_of p n ≡ some (fixed n)
+  pub of_fixed : n < 5 → rule_of p n ≡ Some (fixed n)
   of_fixed h = of_number (a_fixed n) (number_fixed n h)
 
   module _ (file slots' ars out : List ℕ) where

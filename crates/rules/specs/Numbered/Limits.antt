@@ -2,7 +2,7 @@
 use Rattle.std.specs.Prelude.{ℕ, zero, suc, ◌+◌, ◌≤◌, ◌<◌, Bool, ◌≡◌, length, get_or, replicate, eqb}
 use mathlib.Core.List.{List, [], ◌∷◌, ◌++◌, map}
 use Rattle.std.proofs.Math.Bool.{true, false}
-use Rattle.std.proofs.Math.Option.{Option, some, none}
+use Rattle.std.specs.Prelude.{Option, Some, None}
 use Rattle.std.proofs.Math.Path.{refl, subst}
 use Rattle.std.proofs.Common.{ap, sym, ◌∙◌, arith, lt-ltb}
 use Rattle.std.proofs.lemmas.List.{length-map, length-replicate}
@@ -67,7 +67,7 @@ slot_at fs h t =
     all_at Slot undeclared (empty refl) (builtin ++ (padded 16 fs ++ signing))
     (all_append Slot builtin (padded 16 fs ++ signing) builtin_slots (all_append Slot (padded 16 fs) signing (padded_slots 16 fs h) signing_slots)) t
 
-pub arity_small : (fs : List ℕ) → All (λ a. a < 5) fs → (t k : ℕ) → arity (tag_arities fs) t ≡ some k → k ≤ 4
+pub arity_small : (fs : List ℕ) → All (λ a. a < 5) fs → (t k : ℕ) → arity (tag_arities fs) t ≡ Some k → k ≤ 4
 arity_small fs h t k e = arity_most 4 (omega arith) fs (all_map (λ a. a < 5) (λ a. a ≤ 4) (λ a l. omega arith) fs h) t k e
 
 -- ── variables ──
@@ -122,10 +122,10 @@ module _ (arities : List ℕ) where
   variable_within : (v : ℕ) → v < 256 → TermWithin arities (leaf variable v)
   variable_within v h = record { formed = tt; range = small_range v h; short = omega arith }
 
-  applied_within : (t k : ℕ) → arity arities t ≡ some k → t < 256 → k ≤ 8 → TermWithin arities (app t (terms (variables 0 k)))
+  applied_within : (t k : ℕ) → arity arities t ≡ Some k → t < 256 → k ≤ 8 → TermWithin arities (app t (terms (variables 0 k)))
   applied_within t k h l m =
       record {
-        formed = (h ∙ ap some (sym (variables_count 0 k)), variables_formed 0 k);
+        formed = (h ∙ ap Some (sym (variables_count 0 k)), variables_formed 0 k);
         range = (small_range t l, variables_range 0 k (omega arith));
         short = omega (arith, variables_symbols 0 k);
       }
@@ -180,7 +180,7 @@ module _ (arities : List ℕ) where
         by_test b {x} {y} p q = elim b as (λ k. RuleWithin arities (fact_arities os) (pick k x y)) [ true ↦ p | false ↦ q ]
 
     -- of any arity that leaves no more premises than a list may have
-    pub applies_within : (t k : ℕ) → arity arities t ≡ some k → t < 256 → k ≤ 8 → RuleWithin arities (fact_arities os) (applies t k)
+    pub applies_within : (t k : ℕ) → arity arities t ≡ Some k → t < 256 → k ≤ 8 → RuleWithin arities (fact_arities os) (applies t k)
     applies_within t k h l m =
         record {
           laid = record {
@@ -203,18 +203,18 @@ module _ (p : Protocol) (w : Within p) where
   abbrev Good : Rule → Type 0
   Good = RuleWithin (tag_arities p.functions) (fact_arities p.symbols)
 
-  from_arity : (t : ℕ) (r : Rule) (o : Option ℕ) → t < 256 → arity (tag_arities p.functions) t ≡ o → applied t o ≡ some r → Good r
-  from_arity t r (some k) l h e =
+  from_arity : (t : ℕ) (r : Rule) (o : Option ℕ) → t < 256 → arity (tag_arities p.functions) t ≡ o → applied t o ≡ Some r → Good r
+  from_arity t r (Some k) l h e =
       let z : applies t k ≡ r = cc in
       let m = arity_small p.functions w.arities t k h in
       subst Good z (applies_within (tag_arities p.functions) p.symbols t k h l (omega arith))
-  from_arity t r none l h e = clash (cc)
+  from_arity t r None l h e = clash (cc)
 
-  pub rule_within : (n : ℕ) (r : Rule) → rule_of p n ≡ some r → Good r
+  pub rule_within : (n : ℕ) (r : Rule) → rule_of p n ≡ Some r → Good r
   unfolding rule_of
   rule_within n r e = go (numbered n) (numbered_view n) e
     where
-      go : (k : Numbered) → View n k → rule_as p k ≡ some r → Good r
+      go : (k : Numbered) → View n k → rule_as p k ≡ Some r → Good r
       go _ (is_fixed l) e = let z : fixed n ≡ r = cc in subst Good z (fixed_within (tag_arities p.functions) p.symbols n)
       go _ (is_apply t l) e = from_arity t r (arity (tag_arities p.functions) t) (omega arith) refl e
       go _ (is_own k l m) e = all_nth Good p.rules w.rules (suc k) r e

@@ -1,8 +1,8 @@
 -- The numbers of rules: what each range says, and that the map is one to one.
 use Rattle.std.specs.Prelude.{ℕ, ◌+◌, ◌-◌, ◌≤◌, ◌<◌, ◌≡◌, length, get_or, ltb}
-use Rattle.std.proofs.Math.Option.{some, none}
+use Rattle.std.specs.Prelude.{Some, None}
 use Rattle.std.proofs.Common.{ap, sym, ◌∙◌, subst, arith}
-use Rattle.std.proofs.Math.ListN.{get_elem?}
+use Rattle.std.specs.Prelude.{slice_get}
 use borrow.Author.Tests.{lt-ltb, le-ltb}
 use Rattle.lists.specs.Choice.{pick, by_size}
 use Rattle.lists.specs.Lists.Laws.{at_outside}
@@ -68,24 +68,24 @@ number_back n s =
     ap number_of (number_signing n l s) ∙ ap (λ b. pick b (n - 66 + 2) (n - 66 + 66)) (le-ltb (n - 66) 29 (omega arith)) ∙ omega arith
 
 -- "a protocol rule r (from 0) is 31+r", whatever the protocol
-pub own_number : (p : Protocol) (r : ℕ) → r < most_rules → rule_of p (31 + r) ≡ get_elem? p.rules r
+pub own_number : (p : Protocol) (r : ℕ) → r < most_rules → rule_of p (31 + r) ≡ slice_get p.rules r
 unfolding rule_of
 own_number p r h =
     let z : 31 + r - 31 ≡ r = omega arith in
-    ap (rule_as p) (number_own (31 + r) (omega arith) (omega arith)) ∙ ap (get_elem? p.rules) z
+    ap (rule_as p) (number_own (31 + r) (omega arith) (omega arith)) ∙ ap (slice_get p.rules) z
 
 -- no protocol has one of the other numbers
-pub no_number : (p : Protocol) (n : ℕ) → length p.rules + 31 ≤ n → n < 95 → rule_of p n ≡ none
+pub no_number : (p : Protocol) (n : ℕ) → length p.rules + 31 ≤ n → n < 95 → rule_of p n ≡ None
 unfolding rule_of
 no_number p n h k =
     ap (rule_as p) (number_own n (omega arith) k) ∙ at_outside p.rules (n - 31) (omega arith)
 
-pub no_number_behind : (p : Protocol) (n : ℕ) → 101 ≤ n → rule_of p n ≡ none
+pub no_number_behind : (p : Protocol) (n : ℕ) → 101 ≤ n → rule_of p n ≡ None
 unfolding rule_of
 no_number_behind p n h = ap (rule_as p) (number_nothing n h)
 
 -- "Their apply-rules are 95 to 100, in that order", whatever the protocol
-pub signing_number : (p : Protocol) (j : ℕ) → j < 6 → rule_of p (95 + j) ≡ some (applies (aenc_tag + j) (get_or signing j undeclared))
+pub signing_number : (p : Protocol) (j : ℕ) → j < 6 → rule_of p (95 + j) ≡ Some (applies (aenc_tag + j) (get_or signing j undeclared))
 unfolding rule_of
 signing_number p j h =
     let z : 95 + j - 66 ≡ 29 + j = omega arith in

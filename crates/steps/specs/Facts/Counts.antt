@@ -1,8 +1,8 @@
 -- How many facts a node has in a list, and which fact symbols are linear.
 use Rattle.std.specs.Prelude.{ℕ, suc, ◌+◌, ◌≤◌, List, [], map, true, false, ◌↔◌, ◌≡◌, refl, length, get_or, eqb}
-use Rattle.std.proofs.Math.Option.{Option, some}
+use Rattle.std.specs.Prelude.{Option, Some}
 use Rattle.std.proofs.Common.{ap, sym, ◌∙◌, subst, arith}
-use Rattle.std.proofs.Math.ListN.{get_elem?}
+use Rattle.std.specs.Prelude.{slice_get}
 use Rattle.std.proofs.lemmas.List.{length-map}
 use Rattle.lists.specs.Tests.{eqb_eq}
 use Rattle.lists.specs.Lists.Laws.{at_some}
@@ -45,7 +45,7 @@ module _ (p : Protocol) (ts : List Term) where
 
 -- "own ones start at 4", "each arity (0 to 8) and 0 linear or 1 persistent"
 pub own_linear :
-    (p : Protocol) (ts : List Term) (i : ℕ) (o : Own) → get_elem? p.symbols i ≡ some o → (is_linear p (fact_of (first_own + i) ts) ≡ true) ↔ (o.flag ≡ 0)
+    (p : Protocol) (ts : List Term) (i : ℕ) (o : Own) → slice_get p.symbols i ≡ Some o → (is_linear p (fact_of (first_own + i) ts) ≡ true) ↔ (o.flag ≡ 0)
 own_linear p ts i o h = (
   (λ t. sym flag ∙ eqb_eq (get_or (fact_flags p.symbols) (first_own + i) 0) 0 t),
   (λ e. ap (λ (n : ℕ). eqb n 0) (flag ∙ e)),

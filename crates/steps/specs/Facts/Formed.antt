@@ -1,8 +1,9 @@
 -- The facts of a node within the limits: well formed, as many arguments as the symbol takes; and without variables if the values are.
 use Rattle.std.specs.Prelude.{ℕ, zero, suc, ◌<◌, ◌≤◌, List, [], ◌∷◌, Bool, true, false, ◌↔◌, ◌≡◌, refl, length, get_or}
-use Rattle.std.proofs.Math.Option.{Option, some, some-injective}
+use Rattle.std.specs.Prelude.{Option, Some}
+use Rattle.std.proofs.lemmas.Option.{same_Some}
 use Rattle.std.proofs.Common.{ap, sym, ◌∙◌, subst, arith}
-use Rattle.std.proofs.Math.ListN.{get_elem?}
+use Rattle.std.specs.Prelude.{slice_get}
 use Rattle.std.proofs.lemmas.List.{length-map}
 use Rattle.number.specs.Groups.{number_limit}
 use Rattle.lists.specs.Lists.{any_by}
@@ -44,20 +45,20 @@ value_ground vs g v l = go vs g v (leaf variable v) l
 -- ── the values of a node of which 7 is absent ──
 each_sorted :
     (P : Term → Type 0) (ss : List ℕ) (vs : List Term) → length vs ≡ length ss
-    → ((i sort : ℕ) (v : Term) → get_elem? ss i ≡ some sort → get_elem? vs i ≡ some v → P v) → All P vs
+    → ((i sort : ℕ) (v : Term) → slice_get ss i ≡ Some sort → slice_get vs i ≡ Some v → P v) → All P vs
 each_sorted P ss [] n h = tt
 each_sorted P [] (v ∷ vs) n h = absurd (omega arith)
 each_sorted P (s ∷ ss) (v ∷ vs) n h = (h 0 s v refl refl, each_sorted P ss vs (omega arith) (λ i t u a c. h (suc i) t u a c))
 
 module _ (p : Protocol) (x : Node) (b : NodeWithin p x) (r : NodeRight p x) where
   pub same_rule : r.is ≡ b.is
-  same_rule = some-injective r.is b.is (sym r.known ∙ b.known)
+  same_rule = same_Some r.is b.is (sym r.known ∙ b.known)
 
   -- what holds of a value that fits holds of all its values
   pub node_fits : (P : Term → Type 0) → ((sort : ℕ) (v : Term) → ValueFits sort v → P v) → All P x.values
   node_fits P h =
       each_sorted P b.is.sorts x.values b.takes
-      (λ i sort v e d. h sort v (r.fits i sort v (record { sorted = ap (λ (u : Rule). get_elem? u.sorts i) same_rule ∙ e; valued = d })))
+      (λ i sort v e d. h sort v (r.fits i sort v (record { sorted = ap (λ (u : Rule). slice_get u.sorts i) same_rule ∙ e; valued = d })))
 
   pub node_ground : All Ground x.values
   node_ground = node_fits Ground (λ sort v f. f.is_ground)

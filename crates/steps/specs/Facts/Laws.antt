@@ -1,7 +1,7 @@
 -- Two facts pass the test just where they have the same symbol and the same canonical bytes, and so, if they are well formed, equal messages.
 use Rattle.std.specs.Prelude.{ℕ, true, ◌↔◌, ◌≡◌, get_or, eqb}
 use mathlib.Core.List.{List, [], ◌∷◌, map}
-use Rattle.std.proofs.Math.Option.{Option}
+use Rattle.std.specs.Prelude.{Option}
 use Rattle.std.proofs.Math.Path.{refl}
 use Rattle.std.proofs.Common.{ap, ap₂, sym, ◌∙◌}
 use Rattle.lists.specs.Choice.{clash}

@@ -1,9 +1,9 @@
 -- The facts of a node as messages of crate message's promise, by number and without bytes, so that who speaks of a trace uses that promise
 -- alone.
 use Rattle.std.specs.Prelude.{ℕ, zero, suc, List, [], ◌∷◌, map, true, ◌↔◌, ◌≡◌, refl}
-use Rattle.std.proofs.Math.Option.{Option, none, some}
+use Rattle.std.specs.Prelude.{Option, Some, None}
 use Rattle.std.proofs.Common.{ap, ap₂}
-use Rattle.std.proofs.Math.ListN.{get_elem?}
+use Rattle.std.specs.Prelude.{slice_get}
 use Rattle.lists.specs.Lists.{nth}
 use Rattle.lists.specs.All.{All}
 use Rattle.lists.specs.All.Laws.{all_map, all_both}
@@ -87,8 +87,8 @@ pub test_exactly :
 test_exactly free m n = term_decides (arity (tag_arities free)) (declared free) m.term n.term m.formed n.formed
 
 abbrev pub or_none : {A : Type 0} → Option (List A) → List A
-or_none none = []
-or_none (some fs) = fs
+or_none None = []
+or_none (Some fs) = fs
 
 -- ── the facts of nodes within the limits of which 7 and 8 are absent ──
 module _ (p : Protocol) (fit : Within p) where
@@ -123,7 +123,7 @@ module _ (p : Protocol) (fit : Within p) where
       where
         go :
             (xs : List Node) (h : All IsNode xs) (i : ℕ)
-            → map (term_fact ar) (or_none (get_elem? (each IsNode (messages_of action_list) xs h) i)) ≡ actions_of p (get_elem? xs i)
+            → map (term_fact ar) (or_none (slice_get (each IsNode (messages_of action_list) xs h) i)) ≡ actions_of p (slice_get xs i)
         go [] h i = refl
         go (x ∷ xs) h zero = node_terms action_list x h.0
         go (x ∷ xs) h (suc i) = go xs h.1 i

@@ -1,6 +1,7 @@
 -- The name of a node, as the code reads it.
 use Rattle.std.specs.Prelude.{ℕ, ◌+◌, ◌<◌, List, [], ◌∷◌, Bool, ◌≡◌, length, get_or}
-use Rattle.std.proofs.Math.Option.{Option, none, some, some-injective}
+use Rattle.std.specs.Prelude.{Option, Some, None}
+use Rattle.std.proofs.lemmas.Option.{same_Some}
 use Rattle.std.proofs.Common.{ap, sym, ◌∙◌, subst, arith, eq-eqb, ne_eqb}
 use Rattle.lists.specs.Choice.{pick}
 use Rattle.octets.specs.Head.{Bytes}
@@ -52,7 +53,7 @@ module _ (file arities : List ℕ) (at : ℕ) (bytes : Bytes file) (t : Term) (e
   number_of (md.Of f) (d, h) = ap fresh_number (leaf_is file arities at bytes t e there 2 f.0 d h)
   number_of md.Nothing h = no_fresh file arities at bytes t e there h
 
-pub zero_sorts : (p : Protocol) (n : ℕ) → n ≡ 0 → (u : Rule) × (rule_of p n ≡ some u) × (u.sorts ≡ 1 ∷ [])
+pub zero_sorts : (p : Protocol) (n : ℕ) → n ≡ 0 → (u : Rule) × (rule_of p n ≡ Some u) × (u.sorts ≡ 1 ∷ [])
 unfolding fixed
 zero_sorts p n h = (fixed n, of_fixed p n (omega arith), ap (λ (k : ℕ). (fixed k).sorts) h)
 
@@ -64,7 +65,7 @@ module _ {p s nodes : List ℕ} {j : ℕ} {P : Protocol} {x : Node} (h : NodeIn 
   zero_values : number ≡ 0 → length x.values ≡ 1
   zero_values z =
       let (u, a, b) = zero_sorts P x.rule (sym h.row.rule ∙ z) in
-      let c : h.within.is ≡ u = some-injective h.within.is u (sym h.within.known ∙ a) in
+      let c : h.within.is ≡ u = same_Some h.within.is u (sym h.within.known ∙ a) in
       h.within.takes ∙ ap (λ (w : Rule). length w.sorts) c ∙ ap length b
 
   pub zero_name :
@@ -74,11 +75,11 @@ module _ {p s nodes : List ℕ} {j : ℕ} {P : Protocol} {x : Node} (h : NodeIn 
       let o : places_at j + 0 ≡ places_at j = omega arith in
       let v : get_or x.values 0 no_term ≡ value_at x.values 0 = same_inside x.values 0 no_term (leaf variable 0) l in
       let n : facts.made_name x ≡ fresh_number (get_or x.values 0 no_term) =
-      ap (λ (b : Bool). pick b (fresh_number (value_at x.values 0)) none) (eq-eqb x.rule 0 (sym h.row.rule ∙ z)) ∙ ap fresh_number (sym v) in
+      ap (λ (b : Bool). pick b (fresh_number (value_at x.values 0)) None) (eq-eqb x.rule 0 (sym h.row.rule ∙ z)) ∙ ap fresh_number (sym v) in
       subst (λ (o : Option ℕ). MadeIs o m) (sym n)
       (number_of s (slots_of p) (get_or nodes (places_at j) 0) bytes (get_or x.values 0 no_term) (get_or nodes (places_at j + (0 + 1)) 0)
       (ap (λ (k : ℕ). term s (slots_of p) (get_or nodes k 0)) (sym o) ∙ h.row.places 0 l) m q)
 
-  pub other_name : (number ≡ 0 → ⊥) → facts.made_name x ≡ none
+  pub other_name : (number ≡ 0 → ⊥) → facts.made_name x ≡ None
   other_name z =
-      ap (λ (b : Bool). pick b (fresh_number (value_at x.values 0)) none) (ne_eqb x.rule 0 (λ q. z (h.row.rule ∙ q)))
+      ap (λ (b : Bool). pick b (fresh_number (value_at x.values 0)) None) (ne_eqb x.rule 0 (λ q. z (h.row.rule ∙ q)))

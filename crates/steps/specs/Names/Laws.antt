@@ -1,7 +1,7 @@
 -- The pass over the names by the nodes is crate rewriting's pass of cause 9.
 use Rattle.std.specs.Prelude.{ℕ, suc, ◌+◌, ◌<◌, ◌≤◌, List, [], ◌∷◌, ◌++◌, Bool, true, false, cond, ◌||◌, ◌≡◌, refl, eqb, leb, length, get_or, take, drop, set}
 use Rattle.std.proofs.Common.{append_assoc, append-nil, ap, ap₂, sym, ◌∙◌, subst, arith, drop_of_length-le, drop-cons, take-suc, get_or-set_same, get_or-set_other, eqb-true, eq-eqb, ne_eqb}
-use Rattle.std.proofs.Math.Option.{Option, none, some}
+use Rattle.std.specs.Prelude.{Option, Some, None}
 use Rattle.std.proofs.lemmas.Bool.{eqb-false}
 use Rattle.lists.specs.Choice.{by_order}
 use Rattle.lists.specs.Lists.{count_by}
@@ -33,13 +33,13 @@ made_more xs j d l =
 
 -- ── is a name among those of the first nodes? ──
 abbrev same_as : ℕ → Option ℕ → Bool
-same_as m none = false
-same_as m (some n) = eqb m n
+same_as m None = false
+same_as m (Some n) = eqb m n
 
 module _ (m : ℕ) (xs : List Node) (d : Node) (j : ℕ) (l : j < length xs) where
   one_more : (o : Option ℕ) → leb 1 (count_by (eqb m) (name_of o)) ≡ same_as m o
-  one_more none = refl
-  one_more (some n) = go (eqb m n)
+  one_more None = refl
+  one_more (Some n) = go (eqb m n)
     where
       go : (b : Bool) → leb 1 (count_by (λ (x : ℕ). b) (n ∷ [])) ≡ b
       go true = refl
@@ -66,8 +66,8 @@ same_suc m n = go (eqb m n) refl
     go false h = ne_eqb (suc m) (suc n) (λ e. eqb-false m n h (omega arith)) ∙ sym h
 
 same_entry : (m : ℕ) (o : Option ℕ) → eqb (suc m) (name_entry o) ≡ same_as m o
-same_entry m none = ne_eqb (suc m) 0 (λ e. omega arith)
-same_entry m (some n) = same_suc m n
+same_entry m None = ne_eqb (suc m) 0 (λ e. omega arith)
+same_entry m (Some n) = same_suc m n
 
 pub entered_none : (names : List ℕ) (xs : List Node) → Entered names xs 0
 entered_none names xs = record { each = λ k l. absurd (omega arith) }
@@ -98,20 +98,20 @@ module _ (names : List ℕ) (xs : List Node) (n : ℕ) (h : Entered names xs n) 
   again_of j l entry e z b k = go (made_name (get_or xs j no_node)) (e ∙ h.each j l)
     where
       go : (o : Option ℕ) → entry ≡ name_entry o → b ≡ again_in (take j xs) o
-      go none q = absurd (z q)
-      go (some m) q = k m q
+      go None q = absurd (z q)
+      go (Some m) q = k m q
 
   pub again_none : (j : ℕ) → j < n → (entry : ℕ) → entry ≡ get_or names j 0 → entry ≡ 0 → false ≡ again_in (take j xs) (made_name (get_or xs j no_node))
   again_none j l entry e z = go (made_name (get_or xs j no_node)) (sym z ∙ e ∙ h.each j l)
     where
       go : (o : Option ℕ) → 0 ≡ name_entry o → false ≡ again_in (take j xs) o
-      go none q = refl
-      go (some m) q = absurd (omega arith)
+      go None q = refl
+      go (Some m) q = absurd (omega arith)
 
 -- ── the pass ──
 again_already : (ys : List Node) (o : Option ℕ) → made_already (made_by ys) o ≡ again_in ys o
-again_already ys none = refl
-again_already ys (some m) = refl
+again_already ys None = refl
+again_already ys (Some m) = refl
 
 module _ (p : Protocol) (d : Node) (xs : List Node) where
   -- what is left is what there was
@@ -123,10 +123,10 @@ module _ (p : Protocol) (d : Node) (xs : List Node) where
 
   step : (j : ℕ) (b : Bool) → j < length xs → again_in (take j xs) (made_name (get_or xs j d)) ≡ b → NamesLeft j
       → first_name_twice (rewrittens p xs)
-      ≡ cond b (some (j + 1)) (name_twice_from (suc (j + 1)) (made_by (take j xs) ++ name_of (made_name (get_or xs j d))) (rewrittens p (drop (suc j) xs)))
+      ≡ cond b (Some (j + 1)) (name_twice_from (suc (j + 1)) (made_by (take j xs) ++ name_of (made_name (get_or xs j d))) (rewrittens p (drop (suc j) xs)))
   step j b l t h =
       h ∙ ap (λ (ys : List Node). name_twice_from (j + 1) (made_by (take j xs)) (rewrittens p ys)) (drop-cons xs j d l)
-      ∙ ap (λ (a : Bool). cond a (some (j + 1)) (name_twice_from (suc (j + 1)) (made_by (take j xs) ++ name_of (made_name (get_or xs j d)))
+      ∙ ap (λ (a : Bool). cond a (Some (j + 1)) (name_twice_from (suc (j + 1)) (made_by (take j xs) ++ name_of (made_name (get_or xs j d)))
       (rewrittens p (drop (suc j) xs))))
       (again_already (take j xs) (made_name (get_or xs j d)) ∙ t)
 
@@ -142,6 +142,6 @@ module _ (p : Protocol) (d : Node) (xs : List Node) where
       (rewrittens p xs)
   names_twice j l t h = found_is j ∙ sym (step j true l t h)
 
-  pub names_none : (j : ℕ) → length xs ≤ j → NamesLeft j → none ≡ first_name_twice (rewrittens p xs)
+  pub names_none : (j : ℕ) → length xs ≤ j → NamesLeft j → None ≡ first_name_twice (rewrittens p xs)
   names_none j l h =
       sym (h ∙ ap (λ (ys : List Node). name_twice_from (j + 1) (made_by (take j xs)) (rewrittens p ys)) (drop_of_length-le xs l))

@@ -1,7 +1,7 @@
 -- What code answers of nodes: the place behind one; the nodes of a list, each with its row in the table.
 use Rattle.std.specs.Prelude.{ℕ, suc, ◌<◌, List, Bool, false, ◌≡◌, refl, length, get_or}
 use Rattle.std.proofs.Math.Bool.{true}
-use Rattle.std.proofs.Math.Option.{Option, none, some}
+use Rattle.std.specs.Prelude.{Option, Some, None}
 use Rattle.std.proofs.Math.Path.{ap}
 use Rattle.std.proofs.Common.{sym, ◌∙◌, subst, eq-eqb, ne_eqb}
 use Rattle.lists.specs.Choice.{pick, clash}
@@ -27,8 +27,8 @@ terms_end fault = end.Broken
 
 -- a node whose rule number was read
 abbrev pub node_from : Protocol → List ℕ → Option Rule → ℕ → NodeEnd
-node_from p file none at = end.NoRule
-node_from p file (some u) at = terms_end (many (term file (tag_arities p.functions)) (length u.sorts) at)
+node_from p file None at = end.NoRule
+node_from p file (Some u) at = terms_end (many (term file (tag_arities p.functions)) (length u.sorts) at)
 
 abbrev pub node_of : Protocol → List ℕ → Read ℕ → NodeEnd
 node_of p file (got r e) = node_from p file (rule_of p r) e
@@ -63,16 +63,16 @@ module _ (p : Protocol) (file : List ℕ) (at : ℕ) where
   broken_terms fault f h = refl
 
   end_values : (r d : ℕ) (o : Option Rule) {e : ℕ} → node_from p file o d ≡ end.End e → (x : Node) × (values p file r o d ≡ got x e)
-  end_values r d none h = clash (cc)
-  end_values r d (some u) h = end_terms (many (term file (tag_arities p.functions)) (length u.sorts) d) (node_of_lem r) h
+  end_values r d None h = clash (cc)
+  end_values r d (Some u) h = end_terms (many (term file (tag_arities p.functions)) (length u.sorts) d) (node_of_lem r) h
 
   broken_values : (r d : ℕ) (o : Option Rule) → node_from p file o d ≡ end.Broken → (absent o ≡ false) × (values p file r o d ≡ fault)
-  broken_values r d none h = clash (cc)
-  broken_values r d (some u) h = (refl, broken_terms (many (term file (tag_arities p.functions)) (length u.sorts) d) _ h)
+  broken_values r d None h = clash (cc)
+  broken_values r d (Some u) h = (refl, broken_terms (many (term file (tag_arities p.functions)) (length u.sorts) d) _ h)
 
   no_values : (d : ℕ) (o : Option Rule) → node_from p file o d ≡ end.NoRule → absent o ≡ true
-  no_values d none h = refl
-  no_values d (some u) h = go (many (term file (tag_arities p.functions)) (length u.sorts) d) h
+  no_values d None h = refl
+  no_values d (Some u) h = go (many (term file (tag_arities p.functions)) (length u.sorts) d) h
     where
       go : (r : Read (List Term)) → terms_end r ≡ end.NoRule → false ≡ true
       go (got x e) h = clash (cc)

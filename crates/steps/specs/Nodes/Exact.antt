@@ -2,7 +2,7 @@
 use Prim.Native.Nat.{ℕ, zero, suc, ◌+◌, ◌≤◌, ◌<◌}
 use mathlib.Core.List.{List, [], ◌∷◌, ◌++◌, append-nil}
 use Rattle.std.specs.Prelude.{Bool, false, ◌↔◌, ◌≡◌}
-use Rattle.std.proofs.Math.Option.{Option, none, some}
+use Rattle.std.specs.Prelude.{Option, Some, None}
 use Rattle.std.proofs.Math.Path.{refl, ap, ap₂, sym}
 use Rattle.std.proofs.Common.{◌∙◌, subst, eq-eqb}
 use native.Mathlib.Omega.{arith}
@@ -46,8 +46,8 @@ most_small = omega arith
 module _ (p : Protocol) (file : List ℕ) where
   -- ── the front-to-back reading has read just where the plain reader has ──
   known_in : (r e at : ℕ) (o : Option Rule) (x : Node) → values p file r o at ≡ got x e → absent o ≡ false
-  known_in r e at none x h = clash (cc)
-  known_in r e at (some u) x h = refl
+  known_in r e at None x h = clash (cc)
+  known_in r e at (Some u) x h = refl
 
   pub node_known : (at e : ℕ) (x : Node) → node p file at ≡ got x e → unknown p (read_number file at) ≡ false
   unfolding node
@@ -89,22 +89,22 @@ module _ (p : Protocol) (file : List ℕ) where
   -- ── exact ──
   module _ (bytes : Bytes file) where
     abbrev Valued : Option Rule → List Term → Type 0
-    Valued none vs = ⊥
-    Valued (some u) vs = (length vs ≡ length u.sorts) × All (Good (tag_arities p.functions)) vs
+    Valued None vs = ⊥
+    Valued (Some u) vs = (length vs ≡ length u.sorts) × All (Good (tag_arities p.functions)) vs
 
     abbrev values_at : Option Rule → ℕ → Read (List Term)
-    values_at none at = fault
-    values_at (some u) at = many (term file (tag_arities p.functions)) (length u.sorts) at
+    values_at None at = fault
+    values_at (Some u) at = many (term file (tag_arities p.functions)) (length u.sorts) at
 
     values_exact : (o : Option Rule) → Exact file (values_at o) (Valued o) (flat encode)
-    values_exact none = record { back = λ vs at rest good there. absurd good; form = λ vs at e h. clash (cc) }
-    values_exact (some u) =
+    values_exact None = record { back = λ vs at rest good there. absurd good; form = λ vs at e h. clash (cc) }
+    values_exact (Some u) =
         many_exact file (term file (tag_arities p.functions)) (Good (tag_arities p.functions)) encode (term_exact file (tag_arities p.functions) bytes)
         (length u.sorts)
 
     values_as : (r at : ℕ) (o : Option Rule) → values p file r o at ≡ and_then (values_at o at) (λ vs e. got (node_of_lem r vs) e)
-    values_as r at none = refl
-    values_as r at (some u) = refl
+    values_as r at None = refl
+    values_as r at (Some u) = refl
 
     node_as : (at : ℕ) → node p file at ≡ and_then (read_number file at) (λ r e. and_then (values_at (rule_of p r) e) (λ vs f. got (node_of_lem r vs) f))
     unfolding node
@@ -116,8 +116,8 @@ module _ (p : Protocol) (file : List ℕ) where
         go fault = refl
 
     within_from : (x : Node) (o : Option Rule) → rule_of p x.rule ≡ o → x.rule < number_limit → Valued o x.values → NodeWithin p x
-    within_from x none h l v = absurd v
-    within_from x (some u) h l v = record { is = u; known = h; range = l; takes = v.0; each = v.1 }
+    within_from x None h l v = absurd v
+    within_from x (Some u) h l v = record { is = u; known = h; range = l; takes = v.0; each = v.1 }
 
     plain_exact :
         Exact file (λ at. and_then (read_number file at) (λ r e. and_then (values_at (rule_of p r) e) (λ vs f. got (node_of_lem r vs) f)))

@@ -1,7 +1,7 @@
 -- What the reading of nodes leaves in their table: the values of one node, and one row after another.
 use Rattle.std.specs.Prelude.{ℕ, ◌+◌, ◌≤◌, ◌<◌, Bool, false, ◌||◌, ◌≡◌, refl, length, get_or, set}
 use mathlib.Core.List.{List, [], ◌∷◌, ◌++◌}
-use Rattle.std.proofs.Math.Option.{Option, none}
+use Rattle.std.specs.Prelude.{Option, None}
 use Rattle.std.proofs.Math.Path.{ap, sym}
 use Rattle.std.proofs.Common.{ap₂, ◌∙◌, subst, arith, add-one, length-set, get_or-set_same, get_or-set_other}
 use Rattle.lists.specs.Choice.{clash, by_size}
@@ -229,7 +229,7 @@ module _ (p : List ℕ) (P : Protocol) (number : ℕ) {r : Found} where
   pub as_found : {place : ℕ} → r ≡ fd.At place → Finds p P number r → RuleFound p P number place
   as_found e x = subst (Finds p P number) e x
 
-  pub as_none : r ≡ fd.Nothing → Finds p P number r → rule_of P number ≡ none
+  pub as_none : r ≡ fd.Nothing → Finds p P number r → rule_of P number ≡ None
   as_none e x = subst (Finds p P number) e x
 
 module _ {P : Protocol} {p : List ℕ} (f : Prepared p P) (s : List ℕ) (number at : ℕ) (nodes : List ℕ) (j : ℕ) where
@@ -273,7 +273,7 @@ module _ {P : Protocol} {p : List ℕ} (f : Prepared p P) (s : List ℕ) (number
         }
 
   -- there is none
-  pub none_entered : rule_of P number ≡ none → NodeEntered P p s number at nodes nodes j end.NoRule
+  pub none_entered : rule_of P number ≡ None → NodeEntered P p s number at nodes nodes j end.NoRule
   none_entered h = record {
     is_end = sym (ap (λ (o : Option Rule). node_from P s o at) h);
     row = λ x e q. clash (let z : fault ≡ got x e = sym (ap (λ (o : Option Rule). values P s number o at) h) ∙ q in cc);

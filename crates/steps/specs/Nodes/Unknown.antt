@@ -1,7 +1,7 @@
 -- "no such rule", node k, said exactly: k - 1 nodes were read, and then a rule number that no rule has.
 use Prim.Native.Nat.{ℕ, zero, suc, ◌+◌, ◌<◌}
 use Rattle.std.specs.Prelude.{List, [], ◌∷◌, Bool, true, false, ◌↔◌, ◌≡◌, refl, length, eqb}
-use Rattle.std.proofs.Math.Option.{Option, none, some}
+use Rattle.std.specs.Prelude.{Option, Some, None}
 use Rattle.std.proofs.Math.Path.{ap}
 use Rattle.std.proofs.Common.{sym, ◌∙◌}
 use native.Mathlib.Omega.{arith}
@@ -42,7 +42,7 @@ module _ (p : Protocol) (file : List ℕ) where
     pub number : k ≡ b + many_before
     pub fewer : many_before < n
     pub tells : read_number file place ≡ got rule next
-    pub no_such : rule_of p rule ≡ none
+    pub no_such : rule_of p rule ≡ None
 
   -- the count was read too, and the nodes are numbered from 1
   pub record RuleMissing (at k : ℕ) : Type 0 where
@@ -51,11 +51,11 @@ module _ (p : Protocol) (file : List ℕ) where
     pub counts : below file (suc most_nodes) at ≡ got count start
     pub there : NoRuleFrom 1 count start k
 
-  absent_none : (o : Option Rule) → absent o ≡ true → o ≡ none
-  absent_none none h = refl
-  absent_none (some u) h = clash (cc)
+  absent_none : (o : Option Rule) → absent o ≡ true → o ≡ None
+  absent_none None h = refl
+  absent_none (Some u) h = clash (cc)
 
-  cut_unknown : {C : Type 0} (o : Read ℕ) → unknown p o ≡ true → ((r e : ℕ) → o ≡ got r e → rule_of p r ≡ none → C) → C
+  cut_unknown : {C : Type 0} (o : Read ℕ) → unknown p o ≡ true → ((r e : ℕ) → o ≡ got r e → rule_of p r ≡ None → C) → C
   cut_unknown (got r e) h k = k r e refl (absent_none (rule_of p r) h)
   cut_unknown fault h k = clash (cc)
 

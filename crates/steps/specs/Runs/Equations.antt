@@ -2,7 +2,8 @@
 -- the equations make their arguments equal. For nodes within the limits this is what the test of facts says, so that nobody has to believe
 -- canonical forms.
 use Rattle.std.specs.Prelude.{ℕ, List, ◌↔◌, ◌≡◌, refl}
-use Rattle.std.proofs.Math.Option.{Option, some, none, none-ne-some}
+use Rattle.std.specs.Prelude.{Option, Some, None}
+use Rattle.std.proofs.lemmas.Option.{none-some}
 use Rattle.std.proofs.Common.{sym, ◌∙◌, ap}
 use Rattle.lists.specs.Lists.{nth}
 use Rattle.lists.specs.Lists.Laws.{map_nth}
@@ -64,20 +65,20 @@ module _ (p : Protocol) (xs : List Node) where
 module _ (p : Protocol) (xs : List Node) (Q : Fact → Type 0) (each : All (λ x. (list : ℕ) → All Q (facts_of p list x)) xs) where
   at_holds :
       (facts : graph.Node Fact → List Fact) (list : ℕ) → ((x : Node) → facts (rewritten p x) ≡ facts_of p list x) → (a : Place) (f : Fact)
-      → graph.fact_at facts (rewrittens p xs) a ≡ some f → Q f
+      → graph.fact_at facts (rewrittens p xs) a ≡ Some f → Q f
   at_holds facts list same a f h = go (nth (rewrittens p xs) a.node) refl h
     where
-      go : (o : Option (graph.Node Fact)) → nth (rewrittens p xs) a.node ≡ o → in_node facts a.index o ≡ some f → Q f
-      go none e q = absurd (none-ne-some f q)
-      go (some y) e q =
+      go : (o : Option (graph.Node Fact)) → nth (rewrittens p xs) a.node ≡ o → in_node facts a.index o ≡ Some f → Q f
+      go None e q = absurd (none-some f q)
+      go (Some y) e q =
           let (x, i, j) = map_nth (rewritten p) xs a.node y e in
-          let k : nth (facts_of p list x) a.index ≡ some f = ap (λ (l : List Fact). nth l a.index) (sym (same x) ∙ ap facts j) ∙ q in
+          let k : nth (facts_of p list x) a.index ≡ Some f = ap (λ (l : List Fact). nth l a.index) (sym (same x) ∙ ap facts j) ∙ q in
           all_nth Q (facts_of p list x) (all_nth _ xs each a.node x i list) a.index f k
 
-  pub source_holds : (a : Place) (f : Fact) → conclusion_at (rewrittens p xs) a ≡ some f → Q f
+  pub source_holds : (a : Place) (f : Fact) → conclusion_at (rewrittens p xs) a ≡ Some f → Q f
   source_holds = at_holds (λ y. y.conclusions) conclusion_list (λ x. refl)
 
-  pub target_holds : (a : Place) (f : Fact) → premise_at (rewrittens p xs) a ≡ some f → Q f
+  pub target_holds : (a : Place) (f : Fact) → premise_at (rewrittens p xs) a ≡ Some f → Q f
   target_holds = at_holds (λ y. y.premises) premise_list (λ x. refl)
 
 -- ── the two say the same ──
@@ -85,10 +86,10 @@ module _ (p : Protocol) (fit : Within p) (xs : List Node) (within : All (NodeWit
   formed_each : All (λ x. (list : ℕ) → All (FactFormed p) (facts_of p list x)) xs
   formed_each = all_map (NodeWithin p) _ (λ x w list. facts_formed p fit x w list) xs within
 
-  source_formed : (a : Place) (f : Fact) → conclusion_at (rewrittens p xs) a ≡ some f → FactFormed p f
+  source_formed : (a : Place) (f : Fact) → conclusion_at (rewrittens p xs) a ≡ Some f → FactFormed p f
   source_formed = source_holds p xs (FactFormed p) formed_each
 
-  target_formed : (a : Place) (f : Fact) → premise_at (rewrittens p xs) a ≡ some f → FactFormed p f
+  target_formed : (a : Place) (f : Fact) → premise_at (rewrittens p xs) a ≡ Some f → FactFormed p f
   target_formed = target_holds p xs (FactFormed p) formed_each
 
   -- the test of facts decides between the conclusions and the premises

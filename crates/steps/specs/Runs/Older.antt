@@ -1,7 +1,7 @@
 -- Change 4 leaves document 01's runs as they were: of a protocol and nodes without the six functions the runs, the accepted graphs and the earliest
 -- sources are those that the ten equations alone give.
 use Rattle.std.specs.Prelude.{ℕ, zero, suc, ◌-◌, ◌<◌, List, [], ◌∷◌, map, Bool, true, false, ◌↔◌, ◌≡◌, eqb}
-use Rattle.std.proofs.Math.Option.{Option, some, none}
+use Rattle.std.specs.Prelude.{Option, Some, None}
 use Rattle.std.proofs.Math.Path.{refl, sym, subst}
 use Rattle.std.proofs.Common.{◌∙◌, ap, arith}
 use Rattle.lists.specs.Choice.{pick, by_size, clash}
@@ -74,24 +74,24 @@ module _ (p : Protocol) where
       by_test true u v h k = h
       by_test false u v h k = k
 
-  applies_older : (t k : ℕ) → older t ≡ some k → OlderRule (applies t k)
+  applies_older : (t k : ℕ) → older t ≡ Some k → OlderRule (applies t k)
   applies_older t k e =
-      (premises_older 0 k, (tt, ((((e ∙ ap some (sym (variables_count 0 k)), variables_formed (older_arities free) 0 k), tt), tt), tt)))
+      (premises_older 0 k, (tt, ((((e ∙ ap Some (sym (variables_count 0 k)), variables_formed (older_arities free) 0 k), tt), tt), tt)))
     where
       premises_older : (i n : ℕ) → All OlderTerms (map known (variables i n))
       premises_older i zero = tt
       premises_older i (suc n) = ((tt, tt), premises_older (suc i) n)
 
-  from_arity : (t : ℕ) (r : Rule) (o : Option ℕ) → t < 29 → arity (tag_arities free) t ≡ o → applied t o ≡ some r → OlderRule r
-  from_arity t r (some k) l h e = let z : applies t k ≡ r = cc in subst OlderRule z (applies_older t k (alike free t l ∙ h))
-  from_arity t r none l h e = clash (cc)
+  from_arity : (t : ℕ) (r : Rule) (o : Option ℕ) → t < 29 → arity (tag_arities free) t ≡ o → applied t o ≡ Some r → OlderRule r
+  from_arity t r (Some k) l h e = let z : applies t k ≡ r = cc in subst OlderRule z (applies_older t k (alike free t l ∙ h))
+  from_arity t r None l h e = clash (cc)
 
   module _ (rules-older : All OlderRule p.rules) where
-    rule_older : (n : ℕ) (r : Rule) → n < 95 → rule_of p n ≡ some r → OlderRule r
+    rule_older : (n : ℕ) (r : Rule) → n < 95 → rule_of p n ≡ Some r → OlderRule r
     unfolding rule_of
     rule_older n r l e =
         by_size n 5
-        (λ h. let z : some (fixed n) ≡ some r = sym (ap (rule_as p) (number_fixed n h)) ∙ e in
+        (λ h. let z : Some (fixed n) ≡ Some r = sym (ap (rule_as p) (number_fixed n h)) ∙ e in
         let q : fixed n ≡ r = cc in subst OlderRule q (fixed_older n)) λ h.
         by_size n 31
         (λ k. from_arity (n - 2) r (arity (tag_arities free) (n - 2)) (omega arith) refl (sym (ap (rule_as p) (number_apply n h k)) ∙ e)) λ k.

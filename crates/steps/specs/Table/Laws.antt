@@ -1,6 +1,6 @@
 -- What a row says: its node's rule stands in the prepared protocol, its values at their places.
 use Rattle.std.specs.Prelude.{ℕ, suc, ◌+◌, ◌*◌, ◌<◌, ◌≤◌, List, ◌≡◌, length, get_or}
-use Rattle.std.proofs.Math.Option.{some}
+use Rattle.std.specs.Prelude.{Some}
 use Rattle.std.proofs.Common.{ap, sym, ◌∙◌, arith}
 use Rattle.lists.specs.All.Laws.{all_inside}
 use Rattle.lists.specs.Choice.{clash}
@@ -83,7 +83,7 @@ row_kept p s nodes nodes' j k x l same r = record {
 -- ── the rule of a number in a prepared protocol ──
 pub record RuleOf (p : List ℕ) (number : ℕ) (P : Protocol) (u : Rule) : Type 0 where
   pub prepared : Prepared p P
-  pub is : rule_of P number ≡ some u
+  pub is : rule_of P number ≡ Some u
 
 module _ {p : List ℕ} {number : ℕ} {P : Protocol} {u : Rule} (h : RuleOf p number P u) where
   pub of_listed : number < rule_count

@@ -2,7 +2,7 @@
 use Rattle.std.specs.Prelude.{ℕ, zero, suc, ◌≤◌, ◌<◌, List, [], Bool, true, false, not, ◌&&◌, ◌||◌, ◌≡◌, refl, length, ltb, eqb, ◌↔◌}
 use Rattle.std.proofs.Common.{append-nil, ap, ap₂, sym, ◌∙◌, subst, arith, lt-ltb, le-ltb, ne_eqb}
 use Rattle.std.proofs.Math.Bool.{and-false, and-true}
-use Rattle.std.proofs.Math.Option.{none}
+use Rattle.std.specs.Prelude.{None}
 use Rattle.steps.specs.Values.{most_in_value}
 use Rattle.octets.specs.Limits.{longest}
 use Rattle.message.specs.Canon.{canon}
@@ -125,16 +125,16 @@ module _ (file arities : List ℕ) (at : ℕ) (bytes : Bytes file) (t : Term) (e
       go sy.Fault g b = clash (cc)
 
   -- a term that no fresh name begins is none
-  pub no_fresh : ((n d : ℕ) → symbol_at file arities at ≡ sy.Leaf 2 n d → ⊥) → fresh_number t ≡ none
+  pub no_fresh : ((n d : ℕ) → symbol_at file arities at ≡ sy.Leaf 2 n d → ⊥) → fresh_number t ≡ None
   no_fresh h = go (symbol_at file arities at) refl built
     where
-      leaves : (k n d : ℕ) → symbol_at file arities at ≡ sy.Leaf k n d → k < 3 → fresh_number (leaf (kind_of k) n) ≡ none
+      leaves : (k n d : ℕ) → symbol_at file arities at ≡ sy.Leaf k n d → k < 3 → fresh_number (leaf (kind_of k) n) ≡ None
       leaves zero n d g l = refl
       leaves (suc zero) n d g l = refl
       leaves (suc (suc zero)) n d g l = absurd (h n d g)
       leaves (suc (suc (suc k))) n d g l = absurd (omega arith)
 
-      go : (y : Symbol) → symbol_at file arities at ≡ y → build (term file arities) y ≡ got t e → fresh_number t ≡ none
+      go : (y : Symbol) → symbol_at file arities at ≡ y → build (term file arities) y ≡ got t e → fresh_number t ≡ None
       go (sy.Leaf k n d) g b = ap fresh_number (leaf_is k n d g) ∙ leaves k n d g (leaf_at file arities at k n d g).small
       go (sy.Op k n d) g b =
           cut_got (many (term file arities) n d) _ b (λ ts f hm q.

@@ -1,8 +1,9 @@
 -- The tests decide what fits: of a value that is well formed and in range, of a node's values one by one, of a rule's terms.
 use Rattle.std.specs.Prelude.{ℕ, zero, suc, ◌<◌, List, [], ◌∷◌, Bool, true, false, not, ◌&&◌, ◌↔◌, ◌≡◌, refl, ltb}
-use Rattle.std.proofs.Math.Option.{some, none-ne-some, some-injective}
+use Rattle.std.specs.Prelude.{Some}
+use Rattle.std.proofs.lemmas.Option.{none-some, same_Some}
 use Rattle.std.proofs.Common.{ap, sym, ◌∙◌, arith, ltb-true, lt-ltb, ltb-false, le-ltb}
-use Rattle.std.proofs.Math.ListN.{get_elem?}
+use Rattle.std.specs.Prelude.{slice_get}
 use Rattle.lists.specs.Choice.{clash}
 use Rattle.number.specs.Groups.{number_limit}
 use Rattle.term.specs.Term.{variable, public, fresh, Term, leaf, app, encode, symbols, Formed}
@@ -85,8 +86,8 @@ pub record BadValue (ss : List ℕ) (vs : List Term) : Type 0 where
   pub index : ℕ
   pub sort : ℕ
   pub value : Term
-  pub sorted : get_elem? ss index ≡ some sort
-  pub valued : get_elem? vs index ≡ some value
+  pub sorted : slice_get ss index ≡ Some sort
+  pub valued : slice_get vs index ≡ Some value
   pub is_false : value_ok sort value ≡ false
 
 pub values_fail : (ss : List ℕ) (vs : List Term) → values_ok ss vs ≡ false → BadValue ss vs
@@ -100,12 +101,12 @@ values_fail (s ∷ ss) (v ∷ vs) h =
     record { index = suc b.index; sort = b.sort; value = b.value; sorted = b.sorted; valued = b.valued; is_false = b.is_false })
     (λ f. record { index = 0; sort = s; value = v; sorted = refl; valued = refl; is_false = f })
 
-pub fail_values : (ss : List ℕ) (vs : List Term) (i s : ℕ) (v : Term) → get_elem? ss i ≡ some s → get_elem? vs i ≡ some v → value_ok s v ≡ false → values_ok ss vs
+pub fail_values : (ss : List ℕ) (vs : List Term) (i s : ℕ) (v : Term) → slice_get ss i ≡ Some s → slice_get vs i ≡ Some v → value_ok s v ≡ false → values_ok ss vs
     ≡ false
-fail_values [] vs i s v a b f = absurd (none-ne-some s a)
-fail_values (r ∷ ss) [] i s v a b f = absurd (none-ne-some v b)
+fail_values [] vs i s v a b f = absurd (none-some s a)
+fail_values (r ∷ ss) [] i s v a b f = absurd (none-some v b)
 fail_values (r ∷ ss) (w ∷ vs) zero s v a b f =
-    let d : value_ok r w ≡ false = ap (λ (k : ℕ). value_ok k w) (some-injective r s a) ∙ ap (value_ok s) (some-injective w v b) ∙ f in
+    let d : value_ok r w ≡ false = ap (λ (k : ℕ). value_ok k w) (same_Some r s a) ∙ ap (value_ok s) (same_Some w v b) ∙ f in
     ap (λ (q : Bool). q && values_ok ss vs) d
 fail_values (r ∷ ss) (w ∷ vs) (suc i) s v a b f =
     let h = fail_values ss vs i s v a b f in

@@ -1,8 +1,9 @@
 -- The passes of causes 7 and 8: each finds the least node that has the cause; and neither finds one just where every node is right.
 use Rattle.std.specs.Prelude.{ℕ, suc, List, Bool, true, false, ◌↔◌, ◌≡◌, refl}
-use Rattle.std.proofs.Math.Option.{Option, none, some, some-injective}
+use Rattle.std.specs.Prelude.{Option, Some, None}
+use Rattle.std.proofs.lemmas.Option.{same_Some}
 use Rattle.std.proofs.Common.{ap, sym, ◌∙◌, subst, arith}
-use Rattle.std.proofs.Math.ListN.{get_elem?}
+use Rattle.std.specs.Prelude.{slice_get}
 use Rattle.term.specs.Arity.{tag_arities}
 use Rattle.lists.specs.Choice.{by_size}
 use Rattle.lists.specs.All.{All}
@@ -22,9 +23,9 @@ use Rattle.steps.specs.Values.Tests.{value_ok, values_ok, rule_ok, of_rule, node
 use Rattle.steps.specs.Values.Laws.{value_decides, values_fail, fail_values, terms_fail, fail_terms}
 
 -- of the rule, where there is one
-cut_rule : {C : Type 0} (q : Rule → Bool) (o : Option Rule) → of_rule q o ≡ false → ((u : Rule) → o ≡ some u → q u ≡ false → C) → C
-cut_rule q none h k = true_false true refl h
-cut_rule q (some u) h k = k u refl h
+cut_rule : {C : Type 0} (q : Rule → Bool) (o : Option Rule) → of_rule q o ≡ false → ((u : Rule) → o ≡ Some u → q u ≡ false → C) → C
+cut_rule q None h k = true_false true refl h
+cut_rule q (Some u) h k = k u refl h
 
 module _ (p : Protocol) (xs : List Node) where
   abbrev slots_of : List ℕ
@@ -49,7 +50,7 @@ module _ (p : Protocol) (xs : List Node) where
 
   -- ── 7: the values are well formed ──
   module _ (within : All (NodeWithin p) xs) where
-    good_at : (k : ℕ) (x : Node) → nth xs k ≡ some x → (i : ℕ) (v : Term) → get_elem? x.values i ≡ some v → Good slots_of v
+    good_at : (k : ℕ) (x : Node) → nth xs k ≡ Some x → (i : ℕ) (v : Term) → slice_get x.values i ≡ Some v → Good slots_of v
     good_at k x h i v e = all_nth (Good slots_of) x.values (all_nth (NodeWithin p) xs within k x h).each (suc i) v e
 
     pub fails_wrong : (k : ℕ) → Fails (λ j x. node_values_ok p x) xs k → WrongValue p xs k
@@ -88,7 +89,7 @@ module _ (p : Protocol) (xs : List Node) where
     value_pass = restated (least_pass 7 (λ k x. node_values_ok p x) xs) (WrongValue p xs) fails_wrong wrong_fails
 
     -- ── no node has 7 or 8 just where every node is right ──
-    node_right : Absent (value_rows p xs) → (k : ℕ) (x : Node) → nth xs k ≡ some x → NodeRight p x
+    node_right : Absent (value_rows p xs) → (k : ℕ) (x : Node) → nth xs k ≡ Some x → NodeRight p x
     node_right a k x h =
         let w = all_nth (NodeWithin p) xs within k x h in
         record {
@@ -121,13 +122,13 @@ module _ (p : Protocol) (xs : List Node) where
       (λ r. (
         (λ k h.
             let n = all_nth (NodeRight p) xs r k h.node h.stands in
-            let i : h.is ≡ n.is = some-injective h.is n.is (sym h.known ∙ n.known) in
+            let i : h.is ≡ n.is = same_Some h.is n.is (sym h.known ∙ n.known) in
             h.wrong (n.fits h.variable_is h.sort h.value (subst (λ (u : Rule). ValueAt u h.node h.variable_is h.sort h.value) i
             h.there))),
         (
           (λ k h.
               let n = all_nth (NodeRight p) xs r k h.node h.stands in
-              let i : h.is ≡ n.is = some-injective h.is n.is (sym h.known ∙ n.known) in
+              let i : h.is ≡ n.is = same_Some h.is n.is (sym h.known ∙ n.known) in
               omega (arith, h.long, n.small h.term (subst (λ (u : Rule). TermOf u h.term) i h.there))),
           tt,
         ),

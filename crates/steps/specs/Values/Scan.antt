@@ -1,16 +1,16 @@
 -- A pass over a list by numbers: the least element that fails a test, which may ask its number, from 1; 0 where none does.
 use Rattle.std.specs.Prelude.{ℕ, zero, suc, ◌+◌, ◌≤◌, ◌<◌, List, Bool, true, false, not, cond, ◌≡◌, refl, length, get_or, drop}
-use Rattle.std.proofs.Math.Option.{Option, none, some}
+use Rattle.std.specs.Prelude.{Option, Some, None}
 use Rattle.std.proofs.Common.{ap, ap₂, sym, ◌∙◌, arith, add-one, drop_of_length-le, drop-cons}
 use Rattle.lists.specs.Lists.{first_bad}
 use Rattle.rewriting.specs.Table.{Ruling, refused, or_refuse}
 
 -- what the code's number says
 abbrev pub as_found : ℕ → Option ℕ
-as_found zero = none
-as_found (suc k) = some (suc k)
+as_found zero = None
+as_found (suc k) = Some (suc k)
 
-pub found_is : (k : ℕ) → as_found (k + 1) ≡ some (k + 1)
+pub found_is : (k : ℕ) → as_found (k + 1) ≡ Some (k + 1)
 found_is k = rw add-one
 
 -- an answer by the number that a pass found, or what follows where it found none
@@ -34,10 +34,10 @@ module _ {A : Type 0} (ok : ℕ → A → Bool) (d : A) (xs : List A) where
   rest_all = refl
 
   step : (j : ℕ) (b : Bool) → j < length xs → ok (j + 1) (get_or xs j d) ≡ b → Rest j
-      → first_bad ok 1 xs ≡ cond (not b) (some (j + 1)) (first_bad ok (suc (j + 1)) (drop (suc j) xs))
+      → first_bad ok 1 xs ≡ cond (not b) (Some (j + 1)) (first_bad ok (suc (j + 1)) (drop (suc j) xs))
   step j b l t h =
       h ∙ ap (first_bad ok (j + 1)) (drop-cons xs j d l)
-      ∙ ap (λ (a : Bool). cond (not a) (some (j + 1)) (first_bad ok (suc (j + 1)) (drop (suc j) xs))) t
+      ∙ ap (λ (a : Bool). cond (not a) (Some (j + 1)) (first_bad ok (suc (j + 1)) (drop (suc j) xs))) t
 
   pub rest_more : (j : ℕ) → j < length xs → ok (j + 1) (get_or xs j d) ≡ true → Rest j → Rest (j + 1)
   rest_more j l t h =
@@ -48,5 +48,5 @@ module _ {A : Type 0} (ok : ℕ → A → Bool) (d : A) (xs : List A) where
   pub rest_bad : (j : ℕ) → j < length xs → ok (j + 1) (get_or xs j d) ≡ false → Rest j → as_found (j + 1) ≡ first_bad ok 1 xs
   rest_bad j l t h = found_is j ∙ sym (step j false l t h)
 
-  pub rest_none : (j : ℕ) → length xs ≤ j → Rest j → none ≡ first_bad ok 1 xs
+  pub rest_none : (j : ℕ) → length xs ≤ j → Rest j → None ≡ first_bad ok 1 xs
   rest_none j l h = sym (h ∙ ap (first_bad ok (j + 1)) (drop_of_length-le xs l))

@@ -1,6 +1,6 @@
 -- The tests of a node's values and of its filled-in terms, as the code makes them.
 use Rattle.std.specs.Prelude.{ℕ, zero, suc, List, [], ◌∷◌, Bool, true, false, not, ◌&&◌, ltb}
-use Rattle.std.proofs.Math.Option.{Option, none, some}
+use Rattle.std.specs.Prelude.{Option, Some, None}
 use Rattle.octets.specs.Compare.{compare_bytes, is_equal}
 use Rattle.number.specs.Groups.{number_limit}
 use Rattle.term.specs.Term.{variable, public, fresh, Term, leaf, app, encode, symbols}
@@ -54,8 +54,8 @@ rule_ok vs u = all_by (all_by (fact_ok vs)) u.lists
 
 -- of the rule, where there is one
 abbrev pub of_rule : (Rule → Bool) → Option Rule → Bool
-of_rule q none = true
-of_rule q (some u) = q u
+of_rule q None = true
+of_rule q (Some u) = q u
 
 module _ (p : Protocol) where
   abbrev pub node_values_ok : Node → Bool

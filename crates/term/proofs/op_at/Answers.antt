@@ -2,7 +2,7 @@
 use Prim.Native.Nat.{ℕ}
 use Rattle.term.specs.declared.Symbol.TheVariants.{Op}
 use mathlib.Core.Path.{ap, sym, ◌∙◌}
-use mathlib.Core.Option.{Option}
+use Rattle.std.proofs.Common.{Option}
 use Rattle.term.specs.Reader.{op_at}
 use Rattle.term.specs.Arity.Laws.{arity_none, arity_some}
 use Rattle.term.proofs.op_at.Goals as goal

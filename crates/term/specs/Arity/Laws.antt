@@ -1,6 +1,6 @@
 -- The laws of arities: what each tag's slot is; tags are few, and so are arguments.
 use Rattle.std.specs.Prelude.{ℕ, zero, suc, ◌+◌, ◌≤◌, ◌<◌, List, [], ◌∷◌, ◌++◌, ◌≡◌, refl, length, get_or, ltb}
-use Rattle.std.proofs.Math.Option.{some, none}
+use Rattle.std.specs.Prelude.{Some, None}
 use Rattle.std.proofs.Common.{ap, sym, ◌∙◌, length-append, get_or-append-add}
 use native.Mathlib.Omega.{arith}
 use Rattle.std.proofs.Math.ListN.{get_or-append, get_or-eq_default}
@@ -21,16 +21,16 @@ pub slot_outside : (l : List ℕ) (f : ℕ) → length l ≤ f → undeclared �
 slot_outside l f h = sym (get_or-eq_default l undeclared h)
 
 module _ (l : List ℕ) (f : ℕ) where
-  pub arity_none : get_or l f undeclared ≡ undeclared → arity l f ≡ none
+  pub arity_none : get_or l f undeclared ≡ undeclared → arity l f ≡ None
   unfolding arity
-  arity_none h = simp (eq-eqb (get_or l f undeclared) undeclared h) (pick_same (ltb f 3) none)
+  arity_none h = simp (eq-eqb (get_or l f undeclared) undeclared h) (pick_same (ltb f 3) None)
 
-  pub arity_some : 3 ≤ f → (get_or l f undeclared ≡ undeclared → ⊥) → arity l f ≡ some (get_or l f undeclared)
+  pub arity_some : 3 ≤ f → (get_or l f undeclared ≡ undeclared → ⊥) → arity l f ≡ Some (get_or l f undeclared)
   unfolding arity
   arity_some h k = simp (le-ltb f 3 h, ne_eqb (get_or l f undeclared) undeclared k)
 
   -- a function's tag is no leaf's
-  pub no_leaf : (n : ℕ) → arity l f ≡ some n → 3 ≤ f
+  pub no_leaf : (n : ℕ) → arity l f ≡ Some n → 3 ≤ f
   unfolding arity
   no_leaf n e = cut_lt _ _ _ f 3 e (λ h e. clash (cc)) (λ h e. h)
 
@@ -70,9 +70,9 @@ slot_signing free j h =
     ∙ get_or-append-add (padded 16 free) signing j undeclared
 
 -- "with arities 2, 2, 1, 2, 3, 0"
-pub signing_arity : (free : List ℕ) (j : ℕ) → j < 6 → arity (tag_arities free) (29 + j) ≡ some (get_or signing j undeclared)
+pub signing_arity : (free : List ℕ) (j : ℕ) → j < 6 → arity (tag_arities free) (29 + j) ≡ Some (get_or signing j undeclared)
 signing_arity free j h =
-    arity_some (tag_arities free) (29 + j) (omega arith) (λ z. signing_declared j h (sym (slot_signing free j h) ∙ z)) ∙ ap some (slot_signing free j h)
+    arity_some (tag_arities free) (29 + j) (omega arith) (λ z. signing_declared j h (sym (slot_signing free j h) ∙ z)) ∙ ap Some (slot_signing free j h)
   where
     signing_declared : (j : ℕ) → j < 6 → get_or signing j undeclared ≡ undeclared → ⊥
     signing_declared zero h e = omega arith
@@ -91,12 +91,12 @@ tag_arities_length free =
     ∙ omega (arith, length-append (padded most_functions free) signing, length_padded most_functions free)
 
 -- what a slot says where a function has an arity
-pub arity_slot : (l : List ℕ) (f n : ℕ) → arity l f ≡ some n → (get_or l f undeclared ≡ undeclared → ⊥) × (get_or l f undeclared ≡ n)
+pub arity_slot : (l : List ℕ) (f n : ℕ) → arity l f ≡ Some n → (get_or l f undeclared ≡ undeclared → ⊥) × (get_or l f undeclared ≡ n)
 unfolding arity
 arity_slot l f n e =
     cut_lt _ _ _ f 3 e (λ h e. clash (cc)) (λ h e. cut_eq _ _ _ (get_or l f undeclared) undeclared e (λ u e. clash (cc)) (λ u e. (u, (cc))))
 
-pub tag_few : (free : List ℕ) (f n : ℕ) → arity (tag_arities free) f ≡ some n → f < tag_count
+pub tag_few : (free : List ℕ) (f n : ℕ) → arity (tag_arities free) f ≡ Some n → f < tag_count
 tag_few free f n e =
     by_size f tag_count (λ h. h) (λ h.
     absurd ((arity_slot (tag_arities free) f n e).0 (sym (slot_outside (tag_arities free) f (omega (arith, tag_arities_length free))))))
@@ -115,7 +115,7 @@ module _ (most : ℕ) where
   padded_small (suc n) (a ∷ l) h = ((λ u. h.0), padded_small n l h.1)
 
   -- three arguments at most, of verify, and as many as are declared
-  pub arity_most : 3 ≤ most → (free : List ℕ) → All (λ a. a ≤ most) free → (f n : ℕ) → arity (tag_arities free) f ≡ some n → n ≤ most
+  pub arity_most : 3 ≤ most → (free : List ℕ) → All (λ a. a ≤ most) free → (f n : ℕ) → arity (tag_arities free) f ≡ Some n → n ≤ most
   unfolding tag_arities
   arity_most three free h f n e =
       let l = builtin ++ (padded 16 free ++ signing) in

@@ -2,7 +2,7 @@
 use Prim.Native.Nat.{ℕ, zero, suc, ◌+◌, ◌<◌}
 use Rattle.std.specs.Prelude.{List, [], ◌∷◌, ◌++◌, ◌≡◌, length, drop}
 use Rattle.std.proofs.Common.{append_assoc, ap, ap₂, sym, ◌∙◌, subst, subst₂, arith, length-append}
-use Rattle.std.proofs.Math.Option.{Option, some}
+use Rattle.std.specs.Prelude.{Option, Some}
 use Rattle.std.proofs.Math.Path.{refl}
 use Rattle.lists.specs.Choice.{clash}
 use Rattle.octets.specs.Head.{Bytes, Stands, stands_join, behind}
@@ -81,7 +81,7 @@ module _ (file arities : List ℕ) where
       symbol_leaf file arities at h (tag_small k) ∙ ap (name_at (tag_of k)) g ∙ ap (sy.Leaf (tag_of k) n) len
 
   pub symbol_of_app :
-      (f : ℕ) (ts : Terms) (at : ℕ) (rest : List ℕ) → arity arities f ≡ some (count ts) → f < number_limit
+      (f : ℕ) (ts : Terms) (at : ℕ) (rest : List ℕ) → arity arities f ≡ Some (count ts) → f < number_limit
       → drop at file ≡ encode (app f ts) ++ rest → symbol_at file arities at ≡ sy.Op f (count ts) (at + length (groups f))
   symbol_of_app f ts at rest w r e =
       let e' : drop at file ≡ groups f ++ (encodes ts ++ rest) = e ∙ append_assoc (groups f) (encodes ts) rest in
@@ -150,7 +150,7 @@ module _ (file arities : List ℕ) (bytes : Bytes file) where
       let w = all_good arities ts m.0.1 in
       let q : app u (terms ts) ≡ t = cc in
       let r : f ≡ e = cc in
-      let c : arity arities u ≡ some (count (terms ts)) = o.takes ∙ ap some (sym (count_terms ts ∙ m.0.0)) in
+      let c : arity arities u ≡ Some (count (terms ts)) = o.takes ∙ ap Some (sym (count_terms ts ∙ m.0.0)) in
       let st = subst (λ (l : List ℕ). Stands file d l f) (sym (encodes_terms ts)) m.1 in
       subst₂ (λ (x : Term) (j : ℕ). Good arities x × Stands file at (encode x) j) q r
       (((c, w.0), (a.0, w.1)), stands_join a.1 st))

@@ -1,7 +1,7 @@
 -- The symbol at a place, from what was read; a term goes forward; a term by its first symbol, however deep it is.
 use Prim.Native.Nat.{ℕ, zero, suc, ◌+◌, ◌≤◌, ◌<◌}
 use Rattle.std.specs.Prelude.{List, ◌≡◌, length}
-use Rattle.std.proofs.Math.Option.{Option, some, none}
+use Rattle.std.specs.Prelude.{Option, Some, None}
 use Rattle.std.proofs.Math.Path.{refl, ap, sym}
 use Rattle.std.proofs.Common.{ap₂, ◌∙◌, arith, lt-ltb, le-ltb}
 use Rattle.lists.specs.Choice.{cut_lt, clash}
@@ -41,7 +41,7 @@ module _ (file arities : List ℕ) (at : ℕ) where
   pub record OpAt (t k e : ℕ) : Type 0 where
     pub tag : read_number file at ≡ got t e
     pub big : 3 ≤ t
-    pub takes : arity arities t ≡ some k
+    pub takes : arity arities t ≡ Some k
 
   name_from :
       (t n e d u : ℕ) → read_number file at ≡ got t d → t < 3 → (r : Read ℕ) → read_number file d ≡ r → name_at t r ≡ sy.Leaf u n e
@@ -58,16 +58,16 @@ module _ (file arities : List ℕ) (at : ℕ) where
   no_name t u k e fault h = clash (cc)
 
   no_op : {C : Type 0} (t u n e f : ℕ) (o : Option ℕ) → op_at t o f ≡ sy.Leaf u n e → C
-  no_op t u n e f (some k) h = clash (cc)
-  no_op t u n e f none h = clash (cc)
+  no_op t u n e f (Some k) h = clash (cc)
+  no_op t u n e f None h = clash (cc)
 
   op_from : (t u k e f : ℕ) → read_number file at ≡ got t f → 3 ≤ t → (o : Option ℕ) → arity arities t ≡ o → op_at t o f ≡ sy.Op u k e → OpAt u k e
-  op_from t u k e f h l (some j) g q =
+  op_from t u k e f h l (Some j) g q =
       let a : t ≡ u = cc in
       let b : j ≡ k = cc in
       let c : f ≡ e = cc in
-      record { tag = h ∙ ap₂ got a c; big = omega arith; takes = ap (arity arities) (sym a) ∙ g ∙ ap some b }
-  op_from t u k e f h l none g q = clash (cc)
+      record { tag = h ∙ ap₂ got a c; big = omega arith; takes = ap (arity arities) (sym a) ∙ g ∙ ap Some b }
+  op_from t u k e f h l None g q = clash (cc)
 
   leaf_from : (t n e : ℕ) (r : Read ℕ) → read_number file at ≡ r → symbol_of file arities r ≡ sy.Leaf t n e → LeafAt t n e
   leaf_from t n e (got u d) h g =

@@ -1,7 +1,7 @@
 -- The laws of the encoding: it is read in one way only, and a symbol takes a byte at least; a wider range of numbers.
 use Rattle.std.specs.Prelude.{ℕ, ◌≤◌, ◌<◌, List, ◌++◌, ◌≡◌, refl, length}
 use Rattle.std.proofs.Common.{append_assoc, ap, ap₂, sym, ◌∙◌, arith, length-append}
-use Rattle.std.proofs.Math.Option.{Option, some}
+use Rattle.std.specs.Prelude.{Option, Some}
 use Rattle.number.specs.Groups.{groups}
 use Rattle.number.specs.Groups.Laws.{groups_prefix, groups_some}
 use Rattle.term.specs.Term.{Kind, variable, public, fresh, Term, leaf, app, Terms, nil}
@@ -25,7 +25,7 @@ tag_same fresh public e = absurd (omega arith)
 tag_same fresh fresh e = refl
 
 -- ── the same bytes in front are of the same term ──
-module _ (ar : ℕ → Option ℕ) (no_leaf : (f n : ℕ) → ar f ≡ some n → 3 ≤ f) where
+module _ (ar : ℕ → Option ℕ) (no_leaf : (f n : ℕ) → ar f ≡ Some n → 3 ≤ f) where
   mutual
     pub encode_prefix :
         (t u : Term) (x y : List ℕ) → Formed ar t → Formed ar u → encode t ++ x ≡ encode u ++ y → (t ≡ u) × (x ≡ y)
@@ -45,7 +45,7 @@ module _ (ar : ℕ → Option ℕ) (no_leaf : (f n : ℕ) → ar f ≡ some n �
     encode_prefix (app f ts) (app g us) x y v w e =
         let e' = sym (append_assoc (groups f) (encodes ts) x) ∙ e ∙ append_assoc (groups g) (encodes us) y in
         let a = groups_prefix f g _ _ e' in
-        let s : some (count ts) ≡ some (count us) = sym v.0 ∙ ap ar a.0 ∙ w.0 in
+        let s : Some (count ts) ≡ Some (count us) = sym v.0 ∙ ap ar a.0 ∙ w.0 in
         let r = encodes_prefix ts us x y v.1 w.1 (cc) a.1 in
         (ap₂ app a.0 r.0, r.1)
 

@@ -1,7 +1,7 @@
 -- The number of a canonical form, by the name that its bytes begin with; the form of an argument that was written.
 use Rattle.std.specs.Prelude.{ℕ, ◌+◌, ◌^◌, ◌<◌, List, [], ◌++◌, ◌≡◌, refl, take}
 use Rattle.std.proofs.Common.{append-nil, ⊎_elim, ap, sym, ◌∙◌, arith}
-use Rattle.std.proofs.Math.Option.{Option, none}
+use Rattle.std.specs.Prelude.{Option, None}
 use Rattle.std.proofs.Math.Path.{subst}
 use Rattle.lists.specs.Choice.{clash}
 use Rattle.lists.specs.All.{All}
@@ -60,7 +60,7 @@ module _ {form p : List ℕ} where
       let g = symbol_of_app form (slots_of p) k ts 0 [] f.formed.0 f.range.0 (begins (app k ts) f) in
       clash (cc)
 
-  no_public : (t : Term) → FormIn form p t → ((n e : ℕ) → symbol_at form (slots_of p) 0 ≡ sy.Leaf 1 n e → ⊥) → public_number t ≡ none
+  no_public : (t : Term) → FormIn form p t → ((n e : ℕ) → symbol_at form (slots_of p) 0 ≡ sy.Leaf 1 n e → ⊥) → public_number t ≡ None
   no_public (leaf variable m) f h = refl
   no_public (leaf public m) f h =
       absurd (h m _ (symbol_of_leaf form (slots_of p) public m 0 [] f.range (begins (leaf public m) f)))

@@ -1,6 +1,6 @@
 -- Of a fit protocol and right nodes the answer says whether the property holds of the trace, over all messages and whole numbers.
 use Rattle.std.specs.Prelude.{ℕ, List, [], ◌∷◌, map, true, ◌↔◌, ◌≡◌, refl}
-use Rattle.std.proofs.Math.Option.{Option}
+use Rattle.std.specs.Prelude.{Option}
 use Rattle.std.proofs.Common.{subst, subst₂}
 use Rattle.lists.specs.All.{All}
 use Rattle.lists.specs.All.Laws.{all_both}

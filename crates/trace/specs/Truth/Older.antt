@@ -2,7 +2,7 @@
 -- property holds over document 01's messages alone, equal by the ten equations.
 use Rattle.std.specs.Prelude.{ℕ, true, ◌↔◌, ◌≡◌, refl}
 use mathlib.Core.List.{List, [], map}
-use Rattle.std.proofs.Math.Option.{Option}
+use Rattle.std.specs.Prelude.{Option}
 use Rattle.std.proofs.Math.Path.{sym}
 use Rattle.std.proofs.Common.{◌∙◌, ap₂}
 use Rattle.lists.specs.All.{All}

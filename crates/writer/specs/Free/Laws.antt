@@ -1,7 +1,7 @@
 -- The first free element that passes a test, the table with one element less, and with one more.
 use Rattle.std.specs.Prelude.{ℕ, zero, suc, ◌≤◌, ◌<◌, List, [], ◌∷◌, ◌++◌, Bool, true, false, cond, ◌≡◌, refl, length, get_or, set}
 use Rattle.std.proofs.Common.{append-nil, ap, ap₂, sym, ◌∙◌, arith, get_or-set_same, get_or-set_other}
-use Rattle.std.proofs.Math.Option.{none, some}
+use Rattle.std.specs.Prelude.{Some, None}
 use Rattle.lists.specs.Choice.{by_order}
 use Rattle.lists.specs.Lists.{first_by, remove_by}
 use Rattle.lists.specs.Lists.Laws.{first_behind, first_before, remove_behind, remove_before}
@@ -35,7 +35,7 @@ module _ {A : Type 0} (item : ℕ → A) where
   module _ (q : A → Bool) (free : List ℕ) where
     -- ── none so far ──
     abbrev pub NoneTo : ℕ → Type 0
-    NoneTo v = first_by q (free_to item free v) ≡ none
+    NoneTo v = first_by q (free_to item free v) ≡ None
 
     pub none_empty : (v : ℕ) → get_or free v 0 ≡ 0 → NoneTo v → NoneTo (suc v)
     none_empty v e h = ap (λ (m : ℕ). first_by q (free_to item free v ++ held_at m (item v))) e ∙ first_behind q (free_to item free v) [] h
@@ -43,7 +43,7 @@ module _ {A : Type 0} (item : ℕ → A) where
     pub none_differs : (v : ℕ) → q (item v) ≡ false → NoneTo v → NoneTo (suc v)
     none_differs v f h = go (get_or free v 0)
       where
-        go : (m : ℕ) → first_by q (free_to item free v ++ held_at m (item v)) ≡ none
+        go : (m : ℕ) → first_by q (free_to item free v ++ held_at m (item v)) ≡ None
         go zero = first_behind q (free_to item free v) [] h
         go (suc m) = first_behind q (free_to item free v) (item v ∷ []) h ∙ rw f
 
@@ -56,12 +56,12 @@ module _ {A : Type 0} (item : ℕ → A) where
       pub before : NoneTo v
 
     module _ {v : ℕ} where
-      first_here : {n : ℕ} → FirstAt v n → first_by q (free_to item free (suc v)) ≡ some (item v)
+      first_here : {n : ℕ} → FirstAt v n → first_by q (free_to item free (suc v)) ≡ Some (item v)
       first_here h =
           ap (λ (m : ℕ). first_by q (free_to item free v ++ held_at m (item v))) h.held
-          ∙ first_behind q (free_to item free v) (item v ∷ []) h.before ∙ ap (λ (b : Bool). cond b (some (item v)) none) h.passes
+          ∙ first_behind q (free_to item free v) (item v ∷ []) h.before ∙ ap (λ (b : Bool). cond b (Some (item v)) None) h.passes
 
-      first_on : {n : ℕ} → FirstAt v n → (m : ℕ) → v < m → first_by q (free_to item free m) ≡ some (item v)
+      first_on : {n : ℕ} → FirstAt v n → (m : ℕ) → v < m → first_by q (free_to item free m) ≡ Some (item v)
       first_on h zero l = absurd (omega arith)
       first_on h (suc m) l =
           by_order v m
@@ -69,7 +69,7 @@ module _ {A : Type 0} (item : ℕ → A) where
           (λ e. ap (λ (k : ℕ). first_by q (free_to item free (suc k))) (sym e) ∙ first_here h)
           (λ a. absurd (omega arith))
 
-      pub first_is : {n : ℕ} → FirstAt v n → first_by q (free_to item free n) ≡ some (item v)
+      pub first_is : {n : ℕ} → FirstAt v n → first_by q (free_to item free n) ≡ Some (item v)
       first_is {n} h = first_on h n h.inside
 
       -- ── without it ──

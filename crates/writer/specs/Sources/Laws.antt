@@ -1,7 +1,7 @@
 -- One premise more, one node more: what follows gives up its first edge, which goes into the table.
 use Rattle.std.specs.Prelude.{ℕ, suc, ◌+◌, ◌*◌, ◌≤◌, ◌<◌, List, [], ◌∷◌, ◌++◌, Bool, cond, ◌≡◌, refl, length, get_or, set, drop}
 use Rattle.std.proofs.Common.{append_assoc, append-nil, ap, ap₂, sym, ◌∙◌, subst, arith, length-append, length-set, drop_of_length-le, drop-cons, get_or-set_same, get_or-set_other}
-use Rattle.std.proofs.Math.Option.{Option, none, some}
+use Rattle.std.specs.Prelude.{Option, Some, None}
 use Rattle.std.proofs.lemmas.List.{length-map}
 use Rattle.std.proofs.Math.ListN.{get_or-append}
 use Rattle.std.proofs.Math.Seq.{get_or-append_seam}
@@ -123,16 +123,16 @@ then_then : (es fs : List Edge) (r : Ruling (List Edge)) → edges_then es (edge
 then_then es fs (passed gs) = ap {B = Ruling (List Edge)} passed (sym (append_assoc es fs gs))
 then_then es fs (refused n k) = refl
 
-then_none : (k : ℕ) (r : Ruling (List Edge)) → add_node k (some []) r ≡ r
+then_none : (k : ℕ) (r : Ruling (List Edge)) → add_node k (Some []) r ≡ r
 then_none k (passed fs) = refl
 then_none k (refused n j) = refl
 
 then_edge :
     (k : ℕ) (a : Place) (t : Placed Fact) (o : Option (List Edge)) (r : Ruling (List Edge))
-    → add_node k (add_edge a (some t) o) r ≡ edges_then (edge_of t.place a ∷ []) (add_node k o r)
-then_edge k a t none r = refl
-then_edge k a t (some es) (passed fs) = refl
-then_edge k a t (some es) (refused n j) = refl
+    → add_node k (add_edge a (Some t) o) r ≡ edges_then (edge_of t.place a ∷ []) (add_node k o r)
+then_edge k a t None r = refl
+then_edge k a t (Some es) (passed fs) = refl
+then_edge k a t (Some es) (refused n j) = refl
 
 module _ {p s nodes free edges : List ℕ} {k i e : ℕ} {P : Protocol} {xs : List Node} where
   -- ── a premise ──
@@ -316,7 +316,7 @@ module _ {p s nodes free edges : List ℕ} {k e : ℕ} {P : Protocol} {xs : List
   node_left f {free'} n =
       let few = facts_few P f.right.stand.prepared.body.within (get_or xs k no_node)
       (all_inside (NodeWithin P) no_node xs f.right.stand.within k f.inside) premise_list in
-      let none : drop (length (premises P xs k)) (premises P xs k) ≡ [] = drop_of_length-le (premises P xs k) {i = length (premises P xs k)} (omega arith) in
+      let None : drop (length (premises P xs k)) (premises P xs k) ≡ [] = drop_of_length-le (premises P xs k) {i = length (premises P xs k)} (omega arith) in
       let one : suc k ≡ k + 1 = omega arith in
       record {
         right = f.right;
@@ -328,7 +328,7 @@ module _ {p s nodes free edges : List ℕ} {k e : ℕ} {P : Protocol} {xs : List
           stand = f.reached.stand;
           room = f.reached.room;
           drawn = f.reached.drawn ∙ ap (edges_then f.reached.so_far)
-              (premises_done (free_in P xs free (most_facts * k)) (length (premises P xs k)) (drop (length (premises P xs k)) (premises P xs k)) none
+              (premises_done (free_in P xs free (most_facts * k)) (length (premises P xs k)) (drop (length (premises P xs k)) (premises P xs k)) None
               ∙ ap (λ (l : List (Placed Fact)). draw_from (protocol_facts P) (suc (suc k)) l (drop (suc k) (rewrittens P xs))) (sym n.more)
               ∙ ap (λ (j : ℕ). draw_from (protocol_facts P) (suc j) (free_in P xs free' (most_facts * (k + 1))) (drop j (rewrittens P xs))) one);
         };
@@ -342,12 +342,12 @@ module _ {p s nodes free edges : List ℕ} {k e : ℕ} {P : Protocol} {xs : List
   -- ── all nodes ──
   pub all_chosen : Choosing p s nodes free edges k e P xs → k ≡ length xs → Chosen edges e P xs
   all_chosen h q =
-      let none : drop k (rewrittens P xs) ≡ [] = drop_of_length-le (rewrittens P xs) {i = k} (omega (arith, length-map xs (rewritten P))) in
+      let None : drop k (rewrittens P xs) ≡ [] = drop_of_length-le (rewrittens P xs) {i = k} (omega (arith, length-map xs (rewritten P))) in
       record {
         is = h.reached.so_far;
         drawn = h.reached.drawn
             ∙ ap (λ (ys : List (graph.Node Fact)). edges_then h.reached.so_far (draw_from (protocol_facts P) (suc k) (free_in P xs free (most_facts * k)) ys))
-            none
+            None
             ∙ ap {B = Ruling (List Edge)} passed (append-nil h.reached.so_far);
         stand = h.reached.stand;
       }
