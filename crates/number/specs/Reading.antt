@@ -1,12 +1,8 @@
 -- Reading by place: what stands there and the place behind it, or a fault. A number; one thing after another; n of them; a count and
 -- that many. Every file of document 01 is a reader made of these.
-use Rattle.std.specs.Prelude.{ℕ, zero, suc, ◌+◌, ◌-◌, ◌*◌, List, [], ◌∷◌, Bool, length, get_or, ltb, eqb}
+use Rattle.std.specs.Prelude.{ℕ, zero, suc, ◌+◌, ◌-◌, ◌*◌, List, [], ◌∷◌, Bool, length, get_or, ltb, eqb, Option, Some, None}
 use Rattle.lists.specs.Choice.{pick}
 use Rattle.number.specs.Groups.{base, most_groups}
-use Rattle.number.specs.declared.Number.{Number}
-use Rattle.number.specs.declared.Number.TheVariants as num
-use Rattle.number.specs.declared.Seen.{Seen}
-use Rattle.number.specs.declared.Seen.TheVariants as sn
 -- one thing after another
 pub mod Laws
 -- n of them
@@ -62,11 +58,11 @@ module _ {A : Type 0} where
 
   -- ── what code answers of a reading ──
   -- the place behind it, and a test of what was read
-  abbrev pub seen : (A → Bool) → Read A → Seen
-  seen q (got x e) = sn.End e (q x)
-  seen q fault = sn.Fault
+  abbrev pub seen : (A → Bool) → Read A → Option (ℕ × Bool)
+  seen q (got x e) = Some (e, q x)
+  seen q fault = None
 
 -- a number
-abbrev pub as_read : Number → Read ℕ
-as_read (num.Value v e) = got v e
-as_read num.Fault = fault
+abbrev pub as_read : Option (ℕ × ℕ) → Read ℕ
+as_read (Some (v, e)) = got v e
+as_read None = fault

@@ -20,42 +20,28 @@ pub const MOST_GROUPS: usize = 4;
 
 pub const NUMBER_LIMIT: usize = 1 << (BITS * MOST_GROUPS);
 
-// What stands at a place: a number and the place behind it, or no number.
-#[derive(Drop)]
-pub enum Number {
-    Value(u32, usize),
-    Fault,
-}
-
-// What code answers of a reading: the place behind it, and whether a test holds of what was read.
-#[derive(Drop)]
-pub enum Seen {
-    End(usize, bool),
-    Fault,
-}
-
 // Groups of value `low`, and the rest of the number behind them, which counts `weight` times.
-fn joined(low: u32, weight: u32, v: u32, e: usize) -> Number
+fn joined(low: u32, weight: u32, v: u32, e: usize) -> Option<(u32, usize)>
     requires { (low < weight) × (weight ≤ base ^ (most_groups - 1)) × (v < base) }
     ensures { as_read result ≡ joined low weight (got v e) }
 {
     if v == 0 {
-        return Number::Fault;
+        return None;
     }
-    Number::Value(low + weight * v, e)
+    Some((low + weight * v, e))
 }
 
 // The number at a place. A fault: the end of the slice, a group past the last, a form that is not the shortest.
 // Nearly all numbers are one group: it is read in front of the loop. The slice is handed on to no call, for which it would be laid on the stack.
-pub fn read_number(file: &[u8], at: usize) -> Number
+pub fn read_number(file: &[u8], at: usize) -> Option<(u32, usize)>
     ensures { as_read result ≡ read_number file.now at }
 {
     if file.len() <= at {
-        return Number::Fault;
+        return None;
     }
     let b = file[at];
     if b < TOP_BIT {
-        return Number::Value(b as u32, at + 1);
+        return Some((b as u32, at + 1));
     }
     let mut i = at + 1;
     let mut low = (b - TOP_BIT) as u32;
@@ -63,7 +49,7 @@ pub fn read_number(file: &[u8], at: usize) -> Number
     let mut left = MOST_GROUPS - 1;
     while 0 < left {
         if file.len() <= i {
-            return Number::Fault;
+            return None;
         }
         let c = file[i];
         i += 1;
@@ -74,22 +60,15 @@ pub fn read_number(file: &[u8], at: usize) -> Number
         weight *= BASE;
         left -= 1;
     }
-    Number::Fault
+    None
 }
 
 // A number below n.
-pub fn below(file: &[u8], at: usize, n: usize) -> Number
+pub fn below(file: &[u8], at: usize, n: usize) -> Option<(u32, usize)>
     ensures { as_read result ≡ below file.now n at }
 {
-    match read_number(file, at) {
-        Number::Value(v, e) => {
-            if (v as usize) < n {
-                return Number::Value(v, e);
-            }
-            Number::Fault
-        }
-        Number::Fault => Number::Fault,
-    }
+    let (v, e) = read_number(file, at)?;
+    if (v as usize) < n { Some((v, e)) } else { None }
 }
 
 // How many bytes a number takes.

@@ -23,26 +23,26 @@ kind_of (suc zero) = public
 kind_of (suc (suc n)) = fresh
 
 -- ── the symbol at a place ──
-abbrev pub name_at : ℕ → Read ℕ → Symbol
-name_at t (got n e) = sy.Leaf t n e
-name_at t fault = sy.Fault
+abbrev pub name_at : ℕ → Read ℕ → Option Symbol
+name_at t (got n e) = Some (sy.Leaf t n e)
+name_at t fault = None
 
-abbrev pub op_at : ℕ → Option ℕ → ℕ → Symbol
-op_at t (Some k) e = sy.Op t k e
-op_at t None e = sy.Fault
+abbrev pub op_at : ℕ → Option ℕ → ℕ → Option Symbol
+op_at t (Some k) e = Some (sy.Op t k e)
+op_at t None e = None
 
-abbrev pub symbol_of : List ℕ → List ℕ → Read ℕ → Symbol
+abbrev pub symbol_of : List ℕ → List ℕ → Read ℕ → Option Symbol
 symbol_of file arities (got t e) = pick (ltb t first_function) (name_at t (read_number file e)) (op_at t (arity arities t) e)
-symbol_of file arities fault = sy.Fault
+symbol_of file arities fault = None
 
-unfoldable pub symbol_at : List ℕ → List ℕ → ℕ → Symbol
+unfoldable pub symbol_at : List ℕ → List ℕ → ℕ → Option Symbol
 symbol_at file arities at = symbol_of file arities (read_number file at)
 
 -- ── the term at a place ──
-abbrev pub build : (ℕ → Read Term) → Symbol → Read Term
-build p (sy.Leaf t n e) = got (leaf (kind_of t) n) e
-build p (sy.Op t k e) = and_then (many p k e) (λ ts f. got (app t (terms ts)) f)
-build p sy.Fault = fault
+abbrev pub build : (ℕ → Read Term) → Option Symbol → Read Term
+build p (Some (sy.Leaf t n e)) = got (leaf (kind_of t) n) e
+build p (Some (sy.Op t k e)) = and_then (many p k e) (λ ts f. got (app t (terms ts)) f)
+build p None = fault
 
 -- at most `depth` deep
 unfoldable pub term_in : ℕ → List ℕ → List ℕ → ℕ → Read Term

@@ -10,8 +10,6 @@ ghost use Rattle.term.specs.Reader.{name_at, op_at, symbol_at, term};
 ghost use Rattle.term.specs.Walk.{hits, walked, walks, ended, endeds, bytes_of};
 ghost use Rattle.term.specs.Walk.Laws.{step_of};
 
-use number::Number;
-
 // "0 variable and its number; 1 public name and its number; 2 fresh name and its number"
 pub const VARIABLE: usize = 0;
 
@@ -76,28 +74,14 @@ pub struct Public(pub u32);
 pub enum Symbol {
     Leaf(usize, u32, usize),
     Op(usize, u8, usize),
-    Fault,
 }
 
-// One symbol of a walk: how many terms it takes, whether the test hit, the place behind it.
-#[derive(Drop)]
-pub enum Step {
-    Takes(u8, bool, usize),
-    Fault,
-}
-
-// Terms: the place behind them, their symbols, whether the test hit.
-#[derive(Drop)]
-pub enum Walk {
-    End(usize, usize, bool),
-    Fault,
-}
-
-// Terms: the place behind them, their symbols.
-#[derive(Drop)]
-pub enum Part {
-    End(usize, usize),
-    Fault,
+// Terms that were walked: the place behind them, their symbols, whether the test hit.
+#[derive(Clone, Copy)]
+pub struct Walk {
+    pub end: usize,
+    pub size: usize,
+    pub hit: bool,
 }
 
 // The slot of a tag.
@@ -111,41 +95,35 @@ fn slot(arities: &[u8], tag: usize) -> u8
 }
 
 // The function of a tag, and the place behind the tag.
-fn op_at(arities: &[u8], tag: usize, next: usize) -> Symbol
+fn op_at(arities: &[u8], tag: usize, next: usize) -> Option<Symbol>
     requires { first_function ≤ tag }
     ensures { result ≡ op_at tag (arity arities.now tag) next }
 {
     let k = slot(arities, tag);
     if k == UNDECLARED {
-        return Symbol::Fault;
+        return None;
     }
-    Symbol::Op(tag, k, next)
+    Some(Symbol::Op(tag, k, next))
 }
 
 // The leaf of a tag, its number at a place.
-fn leaf_at(file: &[u8], tag: usize, at: usize) -> Symbol
+fn leaf_at(file: &[u8], tag: usize, at: usize) -> Option<Symbol>
     ensures { result ≡ name_at tag (read_number file.now at) }
 {
-    match number::read_number(file, at) {
-        Number::Value(n, e) => Symbol::Leaf(tag, n, e),
-        Number::Fault => Symbol::Fault,
-    }
+    let (n, e) = number::read_number(file, at)?;
+    Some(Symbol::Leaf(tag, n, e))
 }
 
 // The symbol at a place.
-pub fn symbol_at(file: &[u8], arities: &[u8], at: usize) -> Symbol
+pub fn symbol_at(file: &[u8], arities: &[u8], at: usize) -> Option<Symbol>
     ensures { result ≡ symbol_at file.now arities.now at }
 {
-    match number::read_number(file, at) {
-        Number::Value(t, e) => {
-            let tag = t as usize;
-            if tag < FIRST_FUNCTION {
-                return leaf_at(file, tag, e);
-            }
-            op_at(arities, tag, e)
-        }
-        Number::Fault => Symbol::Fault,
+    let (t, e) = number::read_number(file, at)?;
+    let tag = t as usize;
+    if tag < FIRST_FUNCTION {
+        return leaf_at(file, tag, e);
     }
+    op_at(arities, tag, e)
 }
 
 // Whether a leaf is of that kind, from lo on and below hi.
@@ -155,13 +133,13 @@ fn hit(kind: usize, lo: usize, hi: usize, t: usize, n: usize) -> bool
     (t == kind) & (!(n < lo) & (n < hi))
 }
 
-fn one_symbol(file: &[u8], arities: &[u8], at: usize, kind: usize, lo: usize, hi: usize) -> Step
+fn one_symbol(file: &[u8], arities: &[u8], at: usize, kind: usize, lo: usize, hi: usize) -> Option<(u8, bool, usize)>
     ensures { result ≡ step_of kind lo hi (symbol_at file.now arities.now at) }
 {
-    match symbol_at(file, arities, at) {
-        Symbol::Leaf(t, n, e) => Step::Takes(0, hit(kind, lo, hi, t, n as usize), e),
-        Symbol::Op(_, k, e) => Step::Takes(k, false, e),
-        Symbol::Fault => Step::Fault,
+    let y = symbol_at(file, arities, at)?;
+    match y {
+        Symbol::Leaf(t, n, e) => Some((0, hit(kind, lo, hi, t, n as usize), e)),
+        Symbol::Op(_, k, e) => Some((k, false, e)),
     }
 }
 
@@ -174,7 +152,7 @@ pub fn walk_terms(
     kind: usize,
     lo: usize,
     hi: usize,
-) -> Walk
+) -> Option<Walk>
     requires { (length file.now ≤ longest) × (k ≤ longest) }
     ensures { result ≡ walks kind lo hi (many (term file.now arities.now) k at) }
 {
@@ -183,23 +161,21 @@ pub fn walk_terms(
     let mut count: usize = 0;
     let mut found = false;
     while 0 < pending {
-        match one_symbol(file, arities, i, kind, lo, hi) {
-            Step::Takes(n, h, e) => {
-                pending = pending - 1 + n as usize;
-                found = found | h;
-                i = e;
-                count += 1;
-            }
-            Step::Fault => {
-                return Walk::Fault;
-            }
-        }
+        let (n, h, e) = one_symbol(file, arities, i, kind, lo, hi)?;
+        pending = pending - 1 + n as usize;
+        found = found | h;
+        i = e;
+        count += 1;
     }
-    Walk::End(i, count, found)
+    Some(Walk {
+        end: i,
+        size: count,
+        hit: found,
+    })
 }
 
 // The same for one term.
-pub fn walk_term(file: &[u8], arities: &[u8], at: usize, kind: usize, lo: usize, hi: usize) -> Walk
+pub fn walk_term(file: &[u8], arities: &[u8], at: usize, kind: usize, lo: usize, hi: usize) -> Option<Walk>
     requires { length file.now ≤ longest }
     ensures { result ≡ walked kind lo hi (term file.now arities.now at) }
 {
@@ -207,18 +183,16 @@ pub fn walk_term(file: &[u8], arities: &[u8], at: usize, kind: usize, lo: usize,
 }
 
 // Passes over k terms from a place on.
-pub fn terms_end(file: &[u8], arities: &[u8], at: usize, k: usize) -> Part
+pub fn terms_end(file: &[u8], arities: &[u8], at: usize, k: usize) -> Option<(usize, usize)>
     requires { (length file.now ≤ longest) × (k ≤ longest) }
     ensures { result ≡ endeds (many (term file.now arities.now) k at) }
 {
-    match walk_terms(file, arities, at, k, VARIABLE, 0, 0) {
-        Walk::End(e, n, _) => Part::End(e, n),
-        Walk::Fault => Part::Fault,
-    }
+    let w = walk_terms(file, arities, at, k, VARIABLE, 0, 0)?;
+    Some((w.end, w.size))
 }
 
 // Passes over the term at a place.
-pub fn term_end(file: &[u8], arities: &[u8], at: usize) -> Part
+pub fn term_end(file: &[u8], arities: &[u8], at: usize) -> Option<(usize, usize)>
     requires { length file.now ≤ longest }
     ensures { result ≡ ended (term file.now arities.now at) }
 {
@@ -231,7 +205,7 @@ pub fn term_part<'a>(file: &'a [u8], arities: &[u8], at: usize) -> &'a [u8]
     ensures { result.now ≡ bytes_of (term file.now arities.now at) }
 {
     match term_end(file, arities, at) {
-        Part::End(e, _) => &file[at..e],
-        Part::Fault => &file[..0],
+        Some((e, _)) => &file[at..e],
+        None => &file[..0],
     }
 }

@@ -1,8 +1,8 @@
 -- One thing after another: from what was read to its parts, and back.
-use Rattle.std.specs.Prelude.{ℕ, Bool, ◌≡◌, refl}
+use Rattle.std.specs.Prelude.{ℕ, Bool, ◌≡◌, refl, Some, None}
 use Rattle.std.proofs.Common.{ap}
+use Rattle.std.proofs.lemmas.Option.{some_pair_parts}
 use Rattle.lists.specs.Choice.{clash}
-use Rattle.number.specs.declared.Seen.TheVariants as sn
 use Rattle.number.specs.Reading.{Read, got, fault, and_then, seen}
 
 module _ {A B : Type 0} where
@@ -34,13 +34,13 @@ module _ {A B : Type 0} where
 
 -- what was read, from what code has of it
 module _ {A : Type 0} (q : A → Bool) where
-  pub cut_seen : {C : Type 0} {e : ℕ} {b : Bool} (r : Read A) → seen q r ≡ sn.End e b → ((x : A) → r ≡ got x e → q x ≡ b → C) → C
+  pub cut_seen : {C : Type 0} {e : ℕ} {b : Bool} (r : Read A) → seen q r ≡ Some (e, b) → ((x : A) → r ≡ got x e → q x ≡ b → C) → C
   cut_seen {C} {e} {b} (got x d) h k =
-      let a : d ≡ e = cc in
-      k x (ap (got x) a) (cc)
+      let parts : (d ≡ e) × (q x ≡ b) = some_pair_parts d e (q x) b h in
+      k x (ap (got x) parts.0) parts.1
   cut_seen fault h k = clash (cc)
 
-  pub cut_fault : (r : Read A) → seen q r ≡ sn.Fault → r ≡ fault
+  pub cut_fault : (r : Read A) → seen q r ≡ None → r ≡ fault
   cut_fault (got x d) h = clash (cc)
   cut_fault fault h = refl
 

@@ -1,12 +1,11 @@
 -- n things one after another: one more, and none. Said once for every list of the files.
 use Prim.Native.Nat.{ℕ, zero, suc, ◌+◌, ◌≤◌, ◌<◌}
 use mathlib.Core.List.{List, [], ◌∷◌, ◌++◌}
-use Rattle.std.specs.Prelude.{Bool, false, ◌||◌, ◌≡◌}
+use Rattle.std.specs.Prelude.{Bool, false, ◌||◌, ◌≡◌, Some, None}
 use Rattle.std.proofs.Math.Path.{refl, ap, sym}
 use Rattle.std.proofs.Common.{ap₂, ◌∙◌, add-one}
 use native.Mathlib.Omega.{arith}
 use Rattle.std.proofs.Math.ListN.{length}
-use Rattle.number.specs.declared.Seen.TheVariants as sn
 use Rattle.number.specs.Reading.{Read, got, fault, and_then, many, seen, below, counted}
 use Rattle.lists.specs.Lists.{any_by}
 use Rattle.lists.specs.Lists.Laws.{any_snoc}
@@ -99,16 +98,16 @@ module _ {A : Type 0} (p : ℕ → Read A) where
 
   -- what code has of a reading of n things: the place behind them, and whether the test hit one
   module _ (q : A → Bool) where
-    pub walk_more : (i at₀ at e : ℕ) (b c : Bool) → seen (any_by q) (many p i at₀) ≡ sn.End at b → seen q (p at) ≡ sn.End e c → seen (any_by q)
+    pub walk_more : (i at₀ at e : ℕ) (b c : Bool) → seen (any_by q) (many p i at₀) ≡ Some (at, b) → seen q (p at) ≡ Some (e, c) → seen (any_by q)
         (many p (i + 1) at₀)
-        ≡ sn.End e (b || c)
+        ≡ Some (e, b || c)
     walk_more i at₀ at e b c h k =
         rw add-one (cut_seen (any_by q) (many p i at₀) h (λ xs g hb. cut_seen q (p at) k (λ x g' hc.
-        ap (seen (any_by q)) (many_snoc i at₀ at e xs x g g') ∙ ap (sn.End e) (any_snoc q xs x ∙ ap₂ ◌||◌ hb hc))))
+        ap (seen (any_by q)) (many_snoc i at₀ at e xs x g g') ∙ ap (λ (d : Bool). Some (e, d)) (any_snoc q xs x ∙ ap₂ ◌||◌ hb hc))))
 
-    pub walk_stop : (i n at₀ at : ℕ) (b : Bool) → seen (any_by q) (many p i at₀) ≡ sn.End at b → seen q (p at) ≡ sn.Fault → i < n → seen (any_by q)
+    pub walk_stop : (i n at₀ at : ℕ) (b : Bool) → seen (any_by q) (many p i at₀) ≡ Some (at, b) → seen q (p at) ≡ None → i < n → seen (any_by q)
         (many p n at₀) ≡
-        sn.Fault
+        None
     walk_stop i n at₀ at b h k l =
         cut_seen (any_by q) (many p i at₀) h (λ xs g hb. ap (seen (any_by q)) (many_stop i n at₀ at xs g (cut_fault q (p at) k) l))
 
@@ -147,7 +146,7 @@ module _ {A : Type 0} (p : ℕ → Read A) where
   came_stop at j i n c h l = many_stop p j n at i c.items c.there h l
 
   module _ (q : A → Bool) where
-    pub walk_none : (at : ℕ) → seen (any_by q) (many p 0 at) ≡ sn.End at false
+    pub walk_none : (at : ℕ) → seen (any_by q) (many p 0 at) ≡ Some (at, false)
     unfolding many
     walk_none at = refl
 

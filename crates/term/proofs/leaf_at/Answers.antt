@@ -4,10 +4,10 @@ use Rattle.number.specs.Reading.{as_read}
 use Rattle.term.specs.Reader.{name_at}
 use Rattle.term.proofs.leaf_at.Goals as goal
 
-pub returns-in-Value : goal.returns-in-Value
-returns-in-Value c =
-    ap (name_at c.args.tag) (ap as_read (sym c.in-Value.is) ∙ c.read_number.ensures)
+pub returns : goal.returns
+returns c =
+    ap (name_at c.args.tag) (ap as_read (sym c.in_ok-n.was) ∙ c.read_number.ensures)
 
-pub returns-in-Fault : goal.returns-in-Fault
-returns-in-Fault c =
-    ap (name_at c.args.tag) (ap as_read (sym c.in-Fault.is) ∙ c.read_number.ensures)
+pub returns-in_err-n : goal.returns-in_err-n
+returns-in_err-n c =
+    rw c.from_residual.ensures (ap (name_at c.args.tag) (ap as_read (sym c.in_err-n.was) ∙ c.read_number.ensures))

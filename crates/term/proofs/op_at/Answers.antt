@@ -2,7 +2,7 @@
 use Prim.Native.Nat.{ℕ}
 use Rattle.term.specs.declared.Symbol.TheVariants.{Op}
 use mathlib.Core.Path.{ap, sym, ◌∙◌}
-use Rattle.std.proofs.Common.{Option}
+use Rattle.std.proofs.Common.{Option, Some}
 use Rattle.term.specs.Reader.{op_at}
 use Rattle.term.specs.Arity.Laws.{arity_none, arity_some}
 use Rattle.term.proofs.op_at.Goals as goal
@@ -15,6 +15,6 @@ returns-then-k c =
 pub returns : goal.returns
 returns c =
     let a = c.args in
-    ap (λ (k : ℕ). Op a.tag k a.next) c.slot-k.ensures
+    ap (λ (k : ℕ). Some (Op a.tag k a.next)) c.slot-k.ensures
     ∙ sym (ap (λ (o : Option ℕ). op_at a.tag o a.next) (arity_some a.arities.now a.tag c.requires
     (λ e. c.if-k.false (c.slot-k.ensures ∙ e))))

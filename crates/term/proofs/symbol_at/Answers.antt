@@ -7,14 +7,15 @@ use Rattle.term.proofs.symbol_at.Goals as goal
 pub returns-then-tag-lt-FIRST_FUNCTION : goal.returns-then-tag-lt-FIRST_FUNCTION
 returns-then-tag-lt-FIRST_FUNCTION c =
     c.leaf_at.ensures ∙ sym (symbol_leaf c.args.file.now c.args.arities.now c.args.at
-    (sym c.read_number.ensures ∙ ap as_read c.in-Value.is) c.if-tag-lt-FIRST_FUNCTION.true)
+    (sym c.read_number.ensures ∙ ap as_read c.in_ok-t.was) c.if-tag-lt-FIRST_FUNCTION.true)
 
-pub returns-else-tag-lt-FIRST_FUNCTION : goal.returns-else-tag-lt-FIRST_FUNCTION
-returns-else-tag-lt-FIRST_FUNCTION c =
+pub returns : goal.returns
+returns c =
     c.op_at.ensures ∙ sym (symbol_op c.args.file.now c.args.arities.now c.args.at
-    (sym c.read_number.ensures ∙ ap as_read c.in-Value.is) c.if-tag-lt-FIRST_FUNCTION.false)
+    (sym c.read_number.ensures ∙ ap as_read c.in_ok-t.was) c.if-tag-lt-FIRST_FUNCTION.false)
 
-pub returns-in-Fault : goal.returns-in-Fault
-returns-in-Fault c =
-    sym (symbol_none c.args.file.now c.args.arities.now c.args.at
-    (sym c.read_number.ensures ∙ ap as_read c.in-Fault.is))
+pub returns-in_err-t : goal.returns-in_err-t
+returns-in_err-t c =
+    rw c.from_residual.ensures
+    (sym (symbol_none c.args.file.now c.args.arities.now c.args.at
+    (sym c.read_number.ensures ∙ ap as_read c.in_err-t.was)))

@@ -5,13 +5,14 @@ use Rattle.term.specs.Reader.{term}
 use Rattle.term.specs.Walk.Laws.{walks_part, part_of}
 use Rattle.term.proofs.terms_end.Goals as goal
 
-pub returns-in-End : goal.returns-in-End
-returns-in-End c =
+pub returns : goal.returns
+returns c =
     let a = c.args in
-    ap part_of (sym c.in-End.is ∙ c.walk_terms.ensures) ∙ walks_part 0 0 0 (many (term a.file.now a.arities.now) a.k a.at)
+    ap part_of (sym c.in_ok-w.was ∙ c.walk_terms.ensures) ∙ walks_part 0 0 0 (many (term a.file.now a.arities.now) a.k a.at)
 
-pub returns-in-Fault : goal.returns-in-Fault
-returns-in-Fault c =
+pub returns-in_err-w : goal.returns-in_err-w
+returns-in_err-w c =
     let a = c.args in
-    ap part_of (sym c.in-Fault.is ∙ c.walk_terms.ensures) ∙ walks_part 0 0 0
-    (many (term a.file.now a.arities.now) a.k a.at)
+    rw c.from_residual.ensures
+    (ap part_of (sym c.in_err-w.was ∙ c.walk_terms.ensures) ∙ walks_part 0 0 0
+    (many (term a.file.now a.arities.now) a.k a.at))

@@ -2,7 +2,7 @@
 use Prim.Native.Nat.{ℕ, zero, suc, ◌+◌, ◌<◌}
 use Rattle.std.specs.Prelude.{List, [], ◌∷◌, ◌++◌, ◌≡◌, length, drop}
 use Rattle.std.proofs.Common.{append_assoc, ap, ap₂, sym, ◌∙◌, subst, subst₂, arith, length-append}
-use Rattle.std.specs.Prelude.{Option, Some}
+use Rattle.std.specs.Prelude.{Option, Some, None}
 use Rattle.std.proofs.Math.Path.{refl}
 use Rattle.lists.specs.Choice.{clash}
 use Rattle.octets.specs.Head.{Bytes, Stands, stands_join, behind}
@@ -71,18 +71,18 @@ kind_range k = omega (arith, tag_small k)
 module _ (file arities : List ℕ) where
   pub symbol_of_leaf :
       (k : Kind) (n at : ℕ) (rest : List ℕ) → n < number_limit → drop at file ≡ encode (leaf k n) ++ rest
-      → symbol_at file arities at ≡ sy.Leaf (tag_of k) n (at + length (encode (leaf k n)))
+      → symbol_at file arities at ≡ Some (sy.Leaf (tag_of k) n (at + length (encode (leaf k n))))
   symbol_of_leaf k n at rest r e =
       let e' : drop at file ≡ groups (tag_of k) ++ (groups n ++ rest) = e ∙ append_assoc (groups (tag_of k)) (groups n) rest in
       let h = read_back file at (tag_of k) _ (kind_range k) e' in
       let g = read_back file (at + length (groups (tag_of k))) n rest r (behind file at (groups (tag_of k)) (groups n ++ rest) e') in
       let len : at + length (groups (tag_of k)) + length (groups n) ≡ at + length (groups (tag_of k) ++ groups n) =
       omega (arith, length-append (groups (tag_of k)) (groups n)) in
-      symbol_leaf file arities at h (tag_small k) ∙ ap (name_at (tag_of k)) g ∙ ap (sy.Leaf (tag_of k) n) len
+      symbol_leaf file arities at h (tag_small k) ∙ ap (name_at (tag_of k)) g ∙ ap (λ (e : ℕ). Some (sy.Leaf (tag_of k) n e)) len
 
   pub symbol_of_app :
       (f : ℕ) (ts : Terms) (at : ℕ) (rest : List ℕ) → arity arities f ≡ Some (count ts) → f < number_limit
-      → drop at file ≡ encode (app f ts) ++ rest → symbol_at file arities at ≡ sy.Op f (count ts) (at + length (groups f))
+      → drop at file ≡ encode (app f ts) ++ rest → symbol_at file arities at ≡ Some (sy.Op f (count ts) (at + length (groups f)))
   symbol_of_app f ts at rest w r e =
       let e' : drop at file ≡ groups f ++ (encodes ts ++ rest) = e ∙ append_assoc (groups f) (encodes ts) rest in
       symbol_op file arities at (read_back file at f _ r e') (no_leaf arities f (count ts) w)
@@ -131,10 +131,10 @@ module _ (file arities : List ℕ) (bytes : Bytes file) where
   abbrev Form : (ℕ → Read Term) → Type 0
   Form p = (t : Term) (at e : ℕ) → p at ≡ got t e → Good arities t × Stands file at (encode t) e
 
-  build_form : (p : ℕ → Read Term) → Form p → (t : Term) (at e : ℕ) (y : Symbol) → symbol_at file arities at ≡ y → build p y ≡ got t e → Good arities t × Stands
+  build_form : (p : ℕ → Read Term) → Form p → (t : Term) (at e : ℕ) (y : Option Symbol) → symbol_at file arities at ≡ y → build p y ≡ got t e → Good arities t × Stands
       file at
       (encode t) e
-  build_form p form t at e (sy.Leaf u n d) h g =
+  build_form p form t at e (Some (sy.Leaf u n d)) h g =
       let l = leaf_at file arities at u n d h in
       let a = read_form file bytes at u l.middle l.tag in
       let b = read_form file bytes l.middle n d l.number in
@@ -142,7 +142,7 @@ module _ (file arities : List ℕ) (bytes : Bytes file) where
       let r : d ≡ e = cc in
       let tag = subst (λ (v : ℕ). Stands file at (groups v) l.middle) (sym (tag_kind u l.small)) a.1 in
       subst₂ (λ (x : Term) (k : ℕ). Good arities x × Stands file at (encode x) k) q r ((tt, b.0), stands_join tag b.1)
-  build_form p form t at e (sy.Op u k d) h g =
+  build_form p form t at e (Some (sy.Op u k d)) h g =
       cut_got (many p k d) _ g (λ ts f hm g.
       let o = op_at_lem file arities at u k d h in
       let a = read_form file bytes at u d o.tag in
@@ -154,7 +154,7 @@ module _ (file arities : List ℕ) (bytes : Bytes file) where
       let st = subst (λ (l : List ℕ). Stands file d l f) (sym (encodes_terms ts)) m.1 in
       subst₂ (λ (x : Term) (j : ℕ). Good arities x × Stands file at (encode x) j) q r
       (((c, w.0), (a.0, w.1)), stands_join a.1 st))
-  build_form p form t at e sy.Fault h g = clash (cc)
+  build_form p form t at e None h g = clash (cc)
 
   depth_form : (depth : ℕ) → Form (term_in depth file arities)
   unfolding term_in
