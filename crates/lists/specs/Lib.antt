@@ -8,7 +8,7 @@ pub mod Tests
 pub mod Lists
 -- a condition of all elements, and of one of them; their laws
 pub mod All
-pub mod Some
+pub mod Any
 -- a test of the numbers below a bound: whether it holds of all, and the least of which it holds
 pub mod Below
 -- the next place that has a number

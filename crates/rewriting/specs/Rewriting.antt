@@ -2,7 +2,7 @@
 use Rattle.std.specs.Prelude.{◌≡◌, Bool, true, false, not, List, [], ◌∷◌, ◌++◌, ℕ}
 use Rattle.std.specs.Prelude.{Some}
 use Rattle.lists.specs.Lists.{◌∈◌, keep_by}
-use Rattle.lists.specs.Some.{Some}
+use Rattle.lists.specs.Any.{Any}
 use Rattle.rewriting.specs.Graph.{Node, name_of}
 
 -- "Its state is a bag of linear facts, a set of persistent ones and the names made so far": facts as they entered.
@@ -25,7 +25,7 @@ module _ {Fact : Type 0} (Same : Fact → Fact → Type 0) (linear : Fact → Bo
   -- fact leaves the bag exactly as often as it stands among the node's premises", and a rest stays.
   pub data Takes (set : List Fact) : List Fact → List Fact → List Fact → Type 0 where
     nothing : {bag : List Fact} → Takes set [] bag bag
-    finds : {p : Fact} {ps bag rest : List Fact} → linear p ≡ false → Some (Same p) set → Takes set ps bag rest → Takes set (p ∷ ps) bag rest
+    finds : {p : Fact} {ps bag rest : List Fact} → linear p ≡ false → Any (Same p) set → Takes set ps bag rest → Takes set (p ∷ ps) bag rest
     removes :
         {p : Fact} {ps bag less rest : List Fact} → linear p ≡ true → Leaves p bag less → Takes set ps less rest
         → Takes set (p ∷ ps) bag rest

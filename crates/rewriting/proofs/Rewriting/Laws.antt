@@ -10,7 +10,7 @@ use Rattle.lists.specs.Lists.{◌∈◌, bit, count_by}
 use Rattle.lists.specs.Lists.Laws.{count_append, count_pos, count_mem}
 use Rattle.lists.specs.All.{All}
 use Rattle.lists.specs.All.Laws.{all_append, all_keep}
-use Rattle.lists.specs.Some.{Some, here, later}
+use Rattle.lists.specs.Any.{Any, here, later}
 use Rattle.rewriting.specs.Facts.{Facts, count, linears, persistents}
 use Rattle.rewriting.specs.Facts.Laws.{same_left, count_same, count_linears}
 use Rattle.rewriting.specs.Graph.{Node, name_of}
@@ -62,11 +62,11 @@ module _
       (g ∷ rest, rewriting.later h))
 
   -- ── the set ──
-  found_counted : (p : Fact) → Good p → {set : List Fact} → Some (Same p) set → All Good set → 1 ≤ count F p set
+  found_counted : (p : Fact) → Good p → {set : List Fact} → Any (Same p) set → All Good set → 1 ≤ count F p set
   found_counted p a (here {x = g} {xs = set} e) b = let t = (decides p g a b.0).1 e in rw t (omega arith)
   found_counted p a (later {x = g} {xs = set} s) b = let l = found_counted p a s b.1 in omega arith
 
-  counted_found : (p : Fact) → Good p → (set : List Fact) → All Good set → 1 ≤ count F p set → Some (Same p) set
+  counted_found : (p : Fact) → Good p → (set : List Fact) → All Good set → 1 ≤ count F p set → Any (Same p) set
   counted_found p a [] b l = absurd (omega arith)
   counted_found p a (g ∷ set) b l =
       by_bool (same p g)

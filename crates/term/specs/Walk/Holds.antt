@@ -4,7 +4,7 @@ use Rattle.std.proofs.Math.Bool.{and-eq-true_iff}
 use Rattle.std.proofs.Common.{inl, inr, ⊎_elim, ap, ap₂, sym, subst, ltb-true, ltb-false, lt-ltb, le-ltb, eqb-true, eq-eqb}
 use Rattle.lists.specs.Choice.{by_size, clash}
 use Rattle.lists.specs.Tests.{not_split, or_cases, or_right}
-use Rattle.lists.specs.Some.{Ranged, ranged_as}
+use Rattle.lists.specs.Any.{Ranged, ranged_as}
 use Rattle.number.specs.Groups.{number_limit}
 use Rattle.term.specs.Term.{Kind, Term, leaf, app, Terms, nil, ◌&◌, tag_of, InRange, InRanges, Occurs, Occurss}
 use Rattle.term.specs.Term.Laws.{tag_same}

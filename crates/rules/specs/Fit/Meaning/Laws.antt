@@ -13,7 +13,7 @@ use Rattle.protocol.specs.Protocol.Walks.{symbol_in}
 use Rattle.protocol.specs.Protocol.Limits.{RuleWithin}
 use Rattle.protocol.specs.Protocol.Limits.Parts.{TermWithin, FactWithin, FactsWithin}
 use Rattle.rules.specs.Fit.{p1, p2, p3, stands, p45, bound, fits}
-use Rattle.lists.specs.Some.{Some, some_part}
+use Rattle.lists.specs.Any.{Any, some_part}
 use Rattle.rules.specs.Fit.Meaning.{Occurs, OccursIn, Bound, Fit}
 use Rattle.lists.specs.All.Laws.{all_map}
 use Rattle.lists.specs.Below.{below_to, below_from}
@@ -33,7 +33,7 @@ module _ (arities ars : List ℕ) (r : Rule) (w : RuleWithin arities ars r) wher
       by_size v (length r.sorts) (λ l. l)
       (λ l. absurd (not_both (any_by (any_by (leaf_in 0 (length r.sorts) number_limit)) r.lists) w.bound
       (asked_lists variable (length r.sorts) v r.lists ranges l
-      (some_part (λ f. Some (Occurs variable v) f.terms) r.lists list s))))
+      (some_part (λ f. Any (Occurs variable v) f.terms) r.lists list s))))
 
   -- variable v stands in no conclusion and in no action, by the tests
   abbrev nowhere : ℕ → Bool

@@ -8,7 +8,7 @@ use Rattle.lists.specs.Lists.{any_by}
 use Rattle.lists.specs.All.{All}
 use Rattle.term.specs.Term.{Kind, variable, tag_of, InRange, Occurs}
 use Rattle.term.specs.Walk.{holds}
-use Rattle.lists.specs.Some.{Ranged, Some, any_some, some_any, any_ranged, some_with, some_split}
+use Rattle.lists.specs.Any.{Ranged, Any, any_some, some_any, any_ranged, some_with, some_split}
 use Rattle.term.specs.Walk.Holds.{holds_occurs, occurs_holds, occurs_range}
 use Rattle.protocol.specs.Protocol.{Fact, leaf_in}
 use Rattle.protocol.specs.Protocol.Walks.{symbol_in}
@@ -19,25 +19,25 @@ use Rattle.rules.specs.Fit.Meaning.{OccursIn, Among}
 module _ (k : Kind) (lo hi : ℕ) where
   asked_occurs : (fs : List Fact) → any_by (leaf_in (tag_of k) lo hi) fs ≡ true → Ranged lo hi (λ n. OccursIn k n fs)
   asked_occurs =
-      any_ranged (leaf_in (tag_of k) lo hi) (λ n f. Some (Occurs k n) f.terms)
+      any_ranged (leaf_in (tag_of k) lo hi) (λ n f. Any (Occurs k n) f.terms)
       (λ f. any_ranged (λ t. holds t (tag_of k) lo hi) (Occurs k) (holds_occurs k lo hi) f.terms)
 
   occurs_asked : (n : ℕ) → lo ≤ n → n < hi → (fs : List Fact) → OccursIn k n fs → any_by (leaf_in (tag_of k) lo hi) fs ≡ true
   occurs_asked n low high fs s =
-      some_any (leaf_in (tag_of k) lo hi) (λ f. Some (Occurs k n) f.terms)
+      some_any (leaf_in (tag_of k) lo hi) (λ f. Any (Occurs k n) f.terms)
       (λ f s. some_any (λ t. holds t (tag_of k) lo hi) (Occurs k n) (occurs_holds k lo hi n low high) s) s
 
-  pub lists_asked : (xss : List (List Fact)) → any_by (any_by (leaf_in (tag_of k) lo hi)) xss ≡ true → Ranged lo hi (λ n. Some (OccursIn k n) xss)
+  pub lists_asked : (xss : List (List Fact)) → any_by (any_by (leaf_in (tag_of k) lo hi)) xss ≡ true → Ranged lo hi (λ n. Any (OccursIn k n) xss)
   lists_asked = any_ranged (any_by (leaf_in (tag_of k) lo hi)) (OccursIn k) asked_occurs
 
 -- every term in range, so that the limit of the numbers is no limit
 pub asked_lists :
-    (k : Kind) (lo n : ℕ) (xss : List (List Fact)) → All (All (λ f. All InRange f.terms)) xss → lo ≤ n → Some (OccursIn k n) xss
+    (k : Kind) (lo n : ℕ) (xss : List (List Fact)) → All (All (λ f. All InRange f.terms)) xss → lo ≤ n → Any (OccursIn k n) xss
     → any_by (any_by (leaf_in (tag_of k) lo number_limit)) xss ≡ true
 asked_lists k lo n xss ranges low s =
     let high : n < number_limit =
     some_with (OccursIn k n) (All (λ f. All InRange f.terms))
-    (λ fs. some_with (λ f. Some (Occurs k n) f.terms) (λ f. All InRange f.terms)
+    (λ fs. some_with (λ f. Any (Occurs k n) f.terms) (λ f. All InRange f.terms)
     (λ f. some_with (Occurs k n) InRange (λ t o r. occurs_range k n t r o))) s ranges in
     some_any (any_by (leaf_in (tag_of k) lo number_limit)) (OccursIn k n) (occurs_asked k lo number_limit n low high) s
 
