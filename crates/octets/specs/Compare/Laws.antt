@@ -4,12 +4,15 @@ use Rattle.std.proofs.Common.{ap, ap₂, sym, ◌∙◌, arith, drop_of_length-l
 use Rattle.lists.specs.Choice.{cut_lt, by_order, clash}
 use Rattle.lists.specs.Tests.{true_false, eqb_eq, eqb_self}
 use Rattle.octets.specs.Head.{head_of}
-use Rattle.octets.specs.declared.Order.{Order}
-use Rattle.octets.specs.declared.Order.TheVariants.{Less, Equal, Greater}
+use Rattle.std.specs.declared.cmp.Ordering.{Ordering}
+use Rattle.std.specs.declared.cmp.Ordering.TheVariants.{Less, Equal, Greater}
 use Rattle.octets.specs.Compare.{compare_bytes, is_equal, flipped}
+use Rattle.std.specs.Ordering.{nat_cmp, is_eq}
+use Rattle.std.specs.Cmp.{nat_cmp_is, unsigned_ties}
+use Rattle.std.specs.Cmp.Lexicographic.{slice_cmp, pointwise, lists_ties}
 
 module _ (a b : List ℕ) (i : ℕ) where
-  abbrev pub From : Order
+  abbrev pub From : Ordering
   From = compare_bytes (drop i a) (drop i b)
 
   module _ (ia : i < length a) (ib : i < length b) where
@@ -86,7 +89,7 @@ compare_trans (x ∷ a) (y ∷ b) (z ∷ c) p q =
 pub other_lengths : (a b : List ℕ) → length a ≢ length b → false ≡ is_equal (compare_bytes a b)
 other_lengths a b n = go (compare_bytes a b) refl
   where
-    go : (o : Order) → compare_bytes a b ≡ o → false ≡ is_equal o
+    go : (o : Ordering) → compare_bytes a b ≡ o → false ≡ is_equal o
     go Less e = refl
     go Equal e = absurd (n (ap length (compare_same a b e)))
     go Greater e = refl
@@ -120,6 +123,26 @@ module _ (a b : List ℕ) where
   pub so_far_all : (same : Bool) (i : ℕ) → length a ≤ i → length b ≤ i → SameSoFar same i → same ≡ is_equal (compare_bytes a b)
   so_far_all same i l k h = whole same (From a b i) (both_end a b i l k) h
     where
-      whole : (s : Bool) (o : Order) → o ≡ Equal → (s && is_equal o) ≡ is_equal (compare_bytes a b) → s ≡ is_equal (compare_bytes a b)
+      whole : (s : Bool) (o : Ordering) → o ≡ Equal → (s && is_equal o) ≡ is_equal (compare_bytes a b) → s ≡ is_equal (compare_bytes a b)
       whole true o e h = sym (ap is_equal e) ∙ h
       whole false o e h = h
+
+-- it is the library's order of slices, and equality of slices is its test
+pub compare_is_cmp : (a b : List ℕ) → slice_cmp nat_cmp a b ≡ compare_bytes a b
+compare_is_cmp [] [] = refl
+compare_is_cmp [] (y ∷ b) = refl
+compare_is_cmp (x ∷ a) [] = refl
+compare_is_cmp (x ∷ a) (y ∷ b) =
+    by_order x y
+    (λ h. rw (← nat_cmp_is x y Less h) (simp (lt-ltb x y h)))
+    (λ h. rw (← nat_cmp_is x y Equal h) (simp (le-ltb x y (omega arith), le-ltb y x (omega arith)) (compare_is_cmp a b)))
+    (λ h. rw (← nat_cmp_is x y Greater h) (simp (le-ltb x y (omega arith), lt-ltb y x h)))
+
+is_eq_equal : (o : Ordering) → is_eq o ≡ is_equal o
+is_eq_equal Less = refl
+is_eq_equal Equal = refl
+is_eq_equal Greater = refl
+
+pub equal_is_same : (a b : List ℕ) → pointwise eqb a b ≡ is_equal (compare_bytes a b)
+equal_is_same a b =
+    lists_ties nat_cmp unsigned_ties a b ∙ ap is_eq (compare_is_cmp a b) ∙ is_eq_equal (compare_bytes a b)

@@ -6,7 +6,7 @@ use Rattle.std.proofs.Math.Path.{refl, ap₂, sym}
 use Rattle.std.proofs.Common.{ap, ◌∙◌, add-one, add-zero, add_assoc, length-drop, take-append-drop, length-take-le, drop-drop, take-suc, drop-cons, get_or-drop, get_or-take}
 use native.Mathlib.Omega.{arith}
 use Rattle.std.proofs.Math.ListN.{length, drop, length-append}
-use Rattle.std.proofs.Math.Seq.{take_at, drop_at, take-take, sets-eq}
+use Rattle.std.proofs.Math.Seq.{paste, take_at, drop_at, take-take, sets-eq}
 use Rattle.std.proofs.lemmas.List.{take-append-le}
 use Rattle.std.proofs.lemmas.List.Edits.{sets}
 use Rattle.octets.specs.Splice.{splice}
@@ -20,6 +20,11 @@ module _ {A : Type 0} where
   pub splice_nil : (l : List A) (at : ℕ) → splice l at [] ≡ l
   unfolding splice
   splice_nil l at = simp (add-zero, append-nil) (take-append-drop at l)
+
+  -- the library's word for it
+  pub paste_splice : (l : List A) (at : ℕ) (s : List A) (n : ℕ) → n ≤ length s → paste l at s n ≡ splice l at (take n s)
+  unfolding splice
+  paste_splice l at s n h = rw (length-take-le n s h) refl
 
   outer :
       (at : ℕ) (vs ws m : List A)
