@@ -10,8 +10,8 @@ use Rattle.lists.specs.Asks.{Asks₂, Promises₂}
 use Rattle.lists.specs.Choice.{clash}
 use Rattle.octets.specs.Compare.{compare_bytes, is_equal}
 use Rattle.octets.specs.Compare.Laws.{compare_refl, compare_same}
-use Rattle.octets.specs.declared.Order.{Order}
-use Rattle.octets.specs.declared.Order.TheVariants.{Less, Equal, Greater}
+use Rattle.std.specs.declared.cmp.Ordering.{Ordering}
+use Rattle.std.specs.declared.cmp.Ordering.TheVariants.{Less, Equal, Greater}
 use Rattle.octets.specs.Head.{Bytes, stands_within}
 use Rattle.number.specs.Reading.{got}
 use Rattle.term.specs.declared.Part.TheVariants as part
@@ -76,7 +76,7 @@ two_args (x & (y & nil)) e = (x, y, refl)
 two_args (x & (y & (z & us))) e = absurd (omega arith)
 
 -- ── the same bytes ──
-is_equal_lem : (o : Order) → is_equal o ≡ true → o ≡ Equal
+is_equal_lem : (o : Ordering) → is_equal o ≡ true → o ≡ Equal
 is_equal_lem Less e = clash (cc)
 is_equal_lem Equal e = refl
 is_equal_lem Greater e = clash (cc)

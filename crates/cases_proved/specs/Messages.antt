@@ -3,8 +3,8 @@
 use Rattle.std.specs.Prelude.{ℕ, ◌≡◌, refl, ◌≢◌, List, pos, negsuc}
 use Rattle.std.proofs.Common.{◌∙◌, arith}
 use Rattle.lists.specs.Choice.{clash}
-use Rattle.octets.specs.declared.Order.{Order}
-use Rattle.octets.specs.declared.Order.TheVariants.{Less, Equal, Greater}
+use Rattle.std.specs.declared.cmp.Ordering.{Ordering}
+use Rattle.std.specs.declared.cmp.Ordering.TheVariants.{Less, Equal, Greater}
 use Rattle.term.specs.Term.{public, fresh, Kind, Term, leaf, app, nil, ◌&◌, Formed}
 use Rattle.term.specs.Arity.{arity, tag_arities}
 use Rattle.message.specs.Functions.{one, enc, dec, exp, inv, mul}
@@ -62,7 +62,7 @@ two_canonical :
 two_canonical f t u p q r c d s = factor_canonical Settled (node p q r (arg c (arg d no_arg)) s)
 
 -- m over n, two different names
-over_canonical : (m n : ℕ) (o : Order) → order (fn m) (fn n) ≡ o → o ≢ Equal → Canonical (mul (fn m) (inv (fn n)))
+over_canonical : (m n : ℕ) (o : Ordering) → order (fn m) (fn n) ≡ o → o ≢ Equal → Canonical (mul (fn m) (inv (fn n)))
 over_canonical m n Less e h =
     product (part (fn m) (pos 1) (part (fn n) (negsuc 0) empty)) refl (tt, (e, tt), (tt, tt, tt)) (factor name (factor name no_factor))
 over_canonical m n Equal e h = absurd (h refl)

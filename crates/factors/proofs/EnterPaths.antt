@@ -18,8 +18,8 @@ use Rattle.octets.specs.Compare.{compare_bytes, flipped}
 use Rattle.octets.specs.Compare.Laws.{compare_flip, compare_refl, compare_same, compare_trans}
 use Rattle.octets.specs.Limits.{longest}
 use Rattle.octets.specs.Head.{Bytes, Stands, stands_within, stands_part}
-use Rattle.octets.specs.declared.Order.{Order}
-use Rattle.octets.specs.declared.Order.TheVariants.{Less, Equal, Greater}
+use Rattle.std.specs.declared.cmp.Ordering.{Ordering}
+use Rattle.std.specs.declared.cmp.Ordering.TheVariants.{Less, Equal, Greater}
 use Rattle.term.specs.Term.{Term, encode}
 use Rattle.term.specs.Term.Laws.{encode_some}
 use Rattle.term.specs.Reader.{term, symbol_at}
@@ -89,7 +89,7 @@ module _ (key src Q : List ℕ) (n : ℕ) where
       let z : lo ≡ hi = omega (arith, B.low) in
       record { within = omega (arith, B.high); before = B.before; here = rw z B.behind; end = λ e. clash (cc) }
 
-  module _ (R : Rising src Q n) (j : ℕ) (l : j < n) (o : Order) (e : o ≡ order_at key src Q j) where
+  module _ (R : Rising src Q n) (j : ℕ) (l : j < n) (o : Ordering) (e : o ≡ order_at key src Q j) where
     -- the entries below one that comes before these bytes come before them
     below_greater : o ≡ Greater → (k : ℕ) → k < j → order_at key src Q k ≡ Greater
     below_greater g k h =
@@ -144,7 +144,7 @@ same_leaf src Q n a e h B R i l j k p q =
 -- two parts of two bytes each
 module _ (s : List ℕ) (a e x y : ℕ) (k : e - a ≡ 2) (j : y - x ≡ 2) (h : e ≤ length s) (g : y ≤ length s) where
   two_parts :
-      (o : Order) → compare_bytes (get_or s a 0 ∷ get_or s (a + 1) 0 ∷ []) (get_or s x 0 ∷ get_or s (x + 1) 0 ∷ []) ≡ o
+      (o : Ordering) → compare_bytes (get_or s a 0 ∷ get_or s (a + 1) 0 ∷ []) (get_or s x 0 ∷ get_or s (x + 1) 0 ∷ []) ≡ o
       → compare_bytes (take (e - a) (drop a s)) (take (y - x) (drop x s)) ≡ o
   two_parts o z = ap₂ compare_bytes (part_two s a e k (omega arith)) (part_two s x y j (omega arith)) ∙ z
 

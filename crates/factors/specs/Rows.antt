@@ -2,8 +2,8 @@
 use Rattle.std.specs.Prelude.{ℕ, ◌+◌, ◌-◌, ◌*◌, ◌≤◌, ◌<◌, ◌≡◌, Bool, true, false, List, length, take, drop, get_or, ℤ, pos}
 use Rattle.octets.specs.Compare.{compare_bytes}
 use Rattle.octets.specs.Head.{Stands}
-use Rattle.octets.specs.declared.Order.{Order}
-use Rattle.octets.specs.declared.Order.TheVariants.{Less, Equal, Greater}
+use Rattle.std.specs.declared.cmp.Ordering.{Ordering}
+use Rattle.std.specs.declared.cmp.Ordering.TheVariants.{Less, Equal, Greater}
 use Rattle.term.specs.Term.{encode}
 use Rattle.message.specs.Product.{Exps, empty, part}
 use Rattle.factors.specs.declared.Position.{Position}
@@ -43,10 +43,10 @@ abbrev pub Rising : List ℕ → List ℕ → ℕ → Type 0
 Rising src Q n = (i j : ℕ) → i < j → j < n → compare_bytes (bytes_at src Q i) (bytes_at src Q j) ≡ Less
 
 -- the order of these bytes and the entry j
-abbrev pub order_at : List ℕ → List ℕ → List ℕ → ℕ → Order
+abbrev pub order_at : List ℕ → List ℕ → List ℕ → ℕ → Ordering
 order_at key src Q j = compare_bytes key (bytes_at src Q j)
 
-abbrev pub meeting : Bool → Order
+abbrev pub meeting : Bool → Ordering
 meeting true = Equal
 meeting false = Less
 

@@ -14,7 +14,7 @@ ghost use Rattle.factors.specs.Laid.{OneAt};
 ghost use Rattle.factors.specs.Way.{way_of};
 ghost use Rattle.factors.specs.Asked.{Enter, Collect, Collected, OneTerm, Entered, Gone};
 
-use octets::Order;
+use std::cmp::Ordering;
 use term::Symbol;
 
 // The tags that are told by their byte: mul, and those of leaves, which are below.
@@ -69,7 +69,7 @@ pub struct Onward {
 }
 
 // The order of a factor's bytes and a part.
-fn compare_at(key: &[u8], src: &[u8], a: usize, e: usize) -> Order
+fn compare_at(key: &[u8], src: &[u8], a: usize, e: usize) -> Ordering
     requires { (a ≤ e) × (e ≤ length src.now) }
     ensures { result ≡ compare_bytes key.now (take (e - a) (drop a src.now)) }
 {
@@ -101,13 +101,13 @@ fn find_place(key: &[u8], src: &[u8], spans: &[u32], n: usize, hint: usize) -> P
         let a = spans[SPAN * j] as usize;
         let e = spans[SPAN * j + 1] as usize;
         match compare_at(key, src, a, e) {
-            Order::Less => {
+            Ordering::Less => {
                 hi = j;
             }
-            Order::Equal => {
+            Ordering::Equal => {
                 return Position { at: j, same: true };
             }
-            Order::Greater => {
+            Ordering::Greater => {
                 lo = j + 1;
             }
         }

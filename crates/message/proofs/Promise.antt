@@ -5,8 +5,8 @@ use Rattle.std.proofs.Common.{Option}
 use Rattle.lists.specs.Choice.{clash}
 use Rattle.octets.specs.Compare.{compare_bytes, is_equal}
 use Rattle.octets.specs.Compare.Laws.{compare_refl, compare_same}
-use Rattle.octets.specs.declared.Order.{Order}
-use Rattle.octets.specs.declared.Order.TheVariants.{Less, Equal, Greater}
+use Rattle.std.specs.declared.cmp.Ordering.{Ordering}
+use Rattle.std.specs.declared.cmp.Ordering.TheVariants.{Less, Equal, Greater}
 use Rattle.term.specs.Term.{public, fresh, leaf, encode}
 use Rattle.term.specs.Arity.{arity, tag_arities}
 use Rattle.message.specs.Equations.{Twelve, Congruences, reflexive, symmetric, transitive, congruent, same_none, same_more}
@@ -16,7 +16,7 @@ use Rattle.message.proofs.Theorems.{same_canon, same_bytes, declared}
 use Rattle.message.specs.Promise.{Message, SameMessage, SameMessages, public_name, fresh_name, terms, apply, Promise}
 
 -- ── it is kept ──
-same_order : (o : Order) → is_equal o ≡ true → o ≡ Equal
+same_order : (o : Ordering) → is_equal o ≡ true → o ≡ Equal
 same_order Less e = clash (cc)
 same_order Equal e = refl
 same_order Greater e = clash (cc)

@@ -1,8 +1,8 @@
 -- A product gathered from some terms has no more entries, and no exponent further from zero, than they have symbols.
 use Rattle.std.specs.Prelude.{suc, ◌+◌, max, ◌≤◌, ◌≡◌, refl, Bool, true, false, not, nat_abs}
 use Rattle.std.proofs.Common.{arith}
-use Rattle.octets.specs.declared.Order.{Order}
-use Rattle.octets.specs.declared.Order.TheVariants.{Less, Equal, Greater}
+use Rattle.std.specs.declared.cmp.Ordering.{Ordering}
+use Rattle.std.specs.declared.cmp.Ordering.TheVariants.{Less, Equal, Greater}
 use Rattle.term.specs.Term.{Term, leaf, app, Terms, nil, ◌&◌, symbols, symbolss}
 use Rattle.message.specs.Product.{Exps, empty, part, order}
 use Rattle.message.specs.Parts.{role}
@@ -26,7 +26,7 @@ unfolding mass enter
 mass_enter t m empty = omega (arith, sign_abs m)
 mass_enter t m (part u j l) = go (order t u) (mass_enter t m l)
   where
-    go : (o : Order) → mass (enter t (sign m) l) ≤ mass l + 1
+    go : (o : Ordering) → mass (enter t (sign m) l) ≤ mass l + 1
         → mass (enter_at o t (sign m) u j l (enter t (sign m) l)) ≤ max 1 (nat_abs j) + mass l + 1
     go Less h = omega (arith, sign_abs m)
     go Equal h = omega (arith, sign_abs m, add_abs j (sign m))

@@ -8,8 +8,8 @@ use native.Mathlib.Omega.{arith}
 use Rattle.std.proofs.Math.Seq.{get_or-set_other}
 use Rattle.octets.specs.Compare.{compare_bytes}
 use Rattle.octets.specs.Head.{Stands, head_of, stands_part, stands_within}
-use Rattle.octets.specs.declared.Order.{Order}
-use Rattle.octets.specs.declared.Order.TheVariants.{Less, Equal, Greater}
+use Rattle.std.specs.declared.cmp.Ordering.{Ordering}
+use Rattle.std.specs.declared.cmp.Ordering.TheVariants.{Less, Equal, Greater}
 use Rattle.term.specs.Term.{Term, encode}
 use Rattle.term.specs.Term.Laws.{encode_some}
 use Rattle.message.specs.Product.{Exps, empty, part, order, Above}
@@ -26,7 +26,7 @@ part_two s a e q h =
 
 -- the order of these bytes and an entry is that of the terms
 terms_order :
-    (t u : Term) {key src : List ℕ} {c d : ℕ} {o : Order} → key ≡ encode t → Stands src c (encode u) d
+    (t u : Term) {key src : List ℕ} {c d : ℕ} {o : Ordering} → key ≡ encode t → Stands src c (encode u) d
     → compare_bytes key (take (d - c) (drop c src)) ≡ o → order t u ≡ o
 terms_order t u K Q h = sym (ap₂ compare_bytes K (stands_part Q)) ∙ h
 

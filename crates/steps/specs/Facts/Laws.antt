@@ -7,8 +7,8 @@ use Rattle.std.proofs.Common.{ap, ap₂, sym, ◌∙◌}
 use Rattle.lists.specs.Choice.{clash}
 use Rattle.octets.specs.Compare.{compare_bytes, is_equal}
 use Rattle.octets.specs.Compare.Laws.{compare_refl, compare_same}
-use Rattle.octets.specs.declared.Order.{Order}
-use Rattle.octets.specs.declared.Order.TheVariants.{Less, Equal, Greater}
+use Rattle.std.specs.declared.cmp.Ordering.{Ordering}
+use Rattle.std.specs.declared.cmp.Ordering.TheVariants.{Less, Equal, Greater}
 use Rattle.lists.specs.All.{All}
 use Rattle.term.specs.Term.{Term, encode, Formed}
 use Rattle.lists.specs.Tests.{and_split, and_both, eqb_eq, eqb_self}
@@ -20,7 +20,7 @@ use Rattle.protocol.specs.Protocol.{Fact, Protocol, fact_flags}
 use Rattle.steps.specs.Facts.{Sames, SameFact, same_term, same_terms, same_fact, is_linear}
 
 -- ── bytes ──
-equal_order : (o : Order) → is_equal o ≡ true → o ≡ Equal
+equal_order : (o : Ordering) → is_equal o ≡ true → o ≡ Equal
 equal_order Less e = clash (cc)
 equal_order Equal e = refl
 equal_order Greater e = clash (cc)
