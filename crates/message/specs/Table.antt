@@ -14,7 +14,7 @@ pub data Table : Type 0 where
 
 -- the first row of a tag
 abbrev pub lookup : Table → ℕ → Option Rule
-lookup end f = Option.none
+lookup end f = Option.None
 lookup (row g ts u rows) f = pick (eqb f g) (Some (record { args = ts; result = u })) (lookup rows f)
 
 abbrev pub x : Term

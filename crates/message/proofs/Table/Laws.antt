@@ -33,7 +33,7 @@ abbrev Absent : ℕ → Table → Type 0
 Absent f end = Unit {0}
 Absent f (row g ts u rows) = (f ≢ g) × Absent f rows
 
-absent : (f : ℕ) (rows : Table) → Absent f rows → lookup rows f ≡ Option.none
+absent : (f : ℕ) (rows : Table) → Absent f rows → lookup rows f ≡ Option.None
 absent f end a = refl
 absent f (row g ts u rows) a =
     ap (λ (b : Bool). pick b (Some (record { args = ts; result = u })) (lookup rows f)) (ne_eqb f g a.0) ∙ absent f rows a.1
@@ -46,7 +46,7 @@ pub record Ruleless (f : ℕ) : Type 0 where
   pub no_adec : f ≢ adec_tag
   pub no_verify : f ≢ verify_tag
 
-pub no_rule : (f : ℕ) → Ruleless f → rules f ≡ Option.none
+pub no_rule : (f : ℕ) → Ruleless f → rules f ≡ Option.None
 no_rule f r = absent f table (r.no_dec, (r.no_fst, (r.no_snd, (r.no_adec, (r.no_verify, tt)))))
 
 -- ── the rows are fit ──

@@ -110,12 +110,12 @@ mutual
 
 -- ── matching ──
 mutual
-  find_ok : (v : ℕ) (θ : ℕ → Term) (p : Term) → (find v p (sub θ p) ≡ Some (θ v)) ⊎ ((find v p (sub θ p) ≡ Option.none) × (Occurs variable v p → ⊥))
+  find_ok : (v : ℕ) (θ : ℕ → Term) (p : Term) → (find v p (sub θ p) ≡ Some (θ v)) ⊎ ((find v p (sub θ p) ≡ Option.None) × (Occurs variable v p → ⊥))
   find_ok v θ (leaf variable n) = go (eqb n v) refl
     where
       go :
           (b : Bool) → eqb n v ≡ b
-          → (cond b (Some (θ n)) Option.none ≡ Some (θ v)) ⊎ ((cond b (Some (θ n)) Option.none ≡ Option.none) × (leaf variable n ≡ leaf variable v → ⊥))
+          → (cond b (Some (θ n)) Option.None ≡ Some (θ v)) ⊎ ((cond b (Some (θ n)) Option.None ≡ Option.None) × (leaf variable n ≡ leaf variable v → ⊥))
       go true e = inl (ap (λ (i : ℕ). Some (θ i)) (eqb-true n v e))
       go false e = inr (refl, λ o. eqb-false n v e (cc))
   find_ok v θ (leaf public n) = inr (refl, λ o. clash (cc))
@@ -123,14 +123,14 @@ mutual
   find_ok v θ (app f ps) = finds_ok v θ ps
 
   finds_ok :
-      (v : ℕ) (θ : ℕ → Term) (ps : Terms) → (finds v ps (subs θ ps) ≡ Some (θ v)) ⊎ ((finds v ps (subs θ ps) ≡ Option.none) × (Occurss variable v ps → ⊥))
+      (v : ℕ) (θ : ℕ → Term) (ps : Terms) → (finds v ps (subs θ ps) ≡ Some (θ v)) ⊎ ((finds v ps (subs θ ps) ≡ Option.None) × (Occurss variable v ps → ⊥))
   finds_ok v θ nil = inr (refl, λ x. x)
   finds_ok v θ (p & ps) = go (find v p (sub θ p)) (finds v ps (subs θ ps)) (find_ok v θ p) (finds_ok v θ ps)
     where
       go :
-          (a b : Option Term) → (a ≡ Some (θ v)) ⊎ ((a ≡ Option.none) × (Occurs variable v p → ⊥))
-          → (b ≡ Some (θ v)) ⊎ ((b ≡ Option.none) × (Occurss variable v ps → ⊥))
-          → (or_else a b ≡ Some (θ v)) ⊎ ((or_else a b ≡ Option.none) × (Occurs variable v p ⊎ Occurss variable v ps → ⊥))
+          (a b : Option Term) → (a ≡ Some (θ v)) ⊎ ((a ≡ Option.None) × (Occurs variable v p → ⊥))
+          → (b ≡ Some (θ v)) ⊎ ((b ≡ Option.None) × (Occurss variable v ps → ⊥))
+          → (or_else a b ≡ Some (θ v)) ⊎ ((or_else a b ≡ Option.None) × (Occurs variable v p ⊎ Occurss variable v ps → ⊥))
       go a b (inl x) y = inl (ap (λ (o : Option Term). or_else o b) x)
       go a b (inr x) (inl y) = inl (ap (λ (o : Option Term). or_else o b) x.0 ∙ y)
       go a b (inr x) (inr y) = inr (ap (λ (o : Option Term). or_else o b) x.0 ∙ y.0, ⊎_elim x.1 y.1)
@@ -170,5 +170,5 @@ plainly rule f ts = go (rule f) refl
         clash (cc))
 
     go : (o : Option Rule) → rule f ≡ o → Plainly rule f ts (reduce_at o f ts)
-    go Option.none e = stays (λ r e' θ m. let s : Option.none ≡ Some r = sym e ∙ e' in clash (cc))
+    go Option.None e = stays (λ r e' θ m. let s : Option.None ≡ Some r = sym e ∙ e' in clash (cc))
     go (Some r) e = at r e (eq_ts (subs (found r.args ts) r.args) ts) refl
