@@ -43,22 +43,18 @@ pub fn read_number(file: &[u8], at: usize) -> Option<(u32, usize)>
     if b < TOP_BIT {
         return Some((b as u32, at + 1));
     }
-    let mut i = at + 1;
     let mut low = (b - TOP_BIT) as u32;
     let mut weight = BASE;
-    let mut left = MOST_GROUPS - 1;
-    while 0 < left {
+    for i in at + 1..at + MOST_GROUPS {
         if file.len() <= i {
             return None;
         }
         let c = file[i];
-        i += 1;
         if c < TOP_BIT {
-            return joined(low, weight, c as u32, i);
+            return joined(low, weight, c as u32, i + 1);
         }
         low += (c - TOP_BIT) as u32 * weight;
         weight *= BASE;
-        left -= 1;
     }
     None
 }
