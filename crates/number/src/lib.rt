@@ -73,6 +73,7 @@ pub fn number_len(n: u32) -> usize
 {
     let mut rest = n;
     let mut len: usize = 1;
+    // A while, here and in `write_number`: the rest shrinks by shifts, and no range or list is walked.
     while BASE <= rest {
         rest = rest >> BITS;
         len += 1;

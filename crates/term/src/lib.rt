@@ -84,22 +84,12 @@ pub struct Walk {
     pub hit: bool,
 }
 
-// The slot of a tag.
-fn slot(arities: &[u8], tag: usize) -> u8
-    ensures { result ≡ get_or arities.now tag undeclared }
-{
-    if tag < arities.len() {
-        return arities[tag];
-    }
-    UNDECLARED
-}
-
 // The function of a tag, and the place behind the tag.
 fn op_at(arities: &[u8], tag: usize, next: usize) -> Option<Symbol>
     requires { first_function ≤ tag }
     ensures { result ≡ op_at tag (arity arities.now tag) next }
 {
-    let k = slot(arities, tag);
+    let k = arities.get(tag).copied().unwrap_or(UNDECLARED);
     if k == UNDECLARED {
         return None;
     }
@@ -130,10 +120,17 @@ pub fn symbol_at(file: &[u8], arities: &[u8], at: usize) -> Option<Symbol>
 fn hit(kind: usize, lo: usize, hi: usize, t: usize, n: usize) -> bool
     ensures { result ≡ hits kind lo hi t n }
 {
-    (t == kind) & (!(n < lo) & (n < hi))
+    t == kind && (lo..hi).contains(&n)
 }
 
-fn one_symbol(file: &[u8], arities: &[u8], at: usize, kind: usize, lo: usize, hi: usize) -> Option<(u8, bool, usize)>
+fn one_symbol(
+    file: &[u8],
+    arities: &[u8],
+    at: usize,
+    kind: usize,
+    lo: usize,
+    hi: usize,
+) -> Option<(u8, bool, usize)>
     ensures { result ≡ step_of kind lo hi (symbol_at file.now arities.now at) }
 {
     let y = symbol_at(file, arities, at)?;
@@ -160,6 +157,7 @@ pub fn walk_terms(
     let mut pending = k;
     let mut count: usize = 0;
     let mut found = false;
+    // A while: each symbol says how many terms are still to come, and no range or list is walked.
     while 0 < pending {
         let (n, h, e) = one_symbol(file, arities, i, kind, lo, hi)?;
         pending = pending - 1 + n as usize;
@@ -175,7 +173,14 @@ pub fn walk_terms(
 }
 
 // The same for one term.
-pub fn walk_term(file: &[u8], arities: &[u8], at: usize, kind: usize, lo: usize, hi: usize) -> Option<Walk>
+pub fn walk_term(
+    file: &[u8],
+    arities: &[u8],
+    at: usize,
+    kind: usize,
+    lo: usize,
+    hi: usize,
+) -> Option<Walk>
     requires { length file.now ≤ longest }
     ensures { result ≡ walked kind lo hi (term file.now arities.now at) }
 {
