@@ -42,12 +42,12 @@ place_at p n = pair_at p (cell_at n)
 abbrev pub RuleAt : List ℕ → Rule → ℕ → Type 0
 RuleAt p u place = Here (rule p (slots_of p) (arities_of p)) u place
 
-pub record Some (p : List ℕ) (u : Rule) (place : ℕ) : Type 0 where
+pub record RuleThere (p : List ℕ) (u : Rule) (place : ℕ) : Type 0 where
   pub here : RuleAt p u place
   pub there : 0 < place
 
 abbrev pub Entry : List ℕ → ℕ → Option Rule → Type 0
-Entry p n (Some u) = Some p u (place_at p n)
+Entry p n (Some u) = RuleThere p u (place_at p n)
 Entry p n None = place_at p n ≡ 0
 
 -- all but the places of the rules' lists and of their facts

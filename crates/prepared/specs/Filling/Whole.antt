@@ -22,7 +22,7 @@ use Rattle.rules.specs.Numbered.Slots.{slot_of, slot_few}
 use Rattle.rules.specs.Numbered.Limits.{rule_within}
 use Rattle.protocol.specs.Figures.{symbol_count}
 use Rattle.prepared.specs.Sections.{slot_count, rule_count, arities_at, linears_at, places_at, file_at, file_limit, cell_at, written_at, body_length}
-use Rattle.prepared.specs.Prepared.{slots_of, arities_of, linears_of, linears, linear, place_at, RuleAt, Some, Entry, Body}
+use Rattle.prepared.specs.Prepared.{slots_of, arities_of, linears_of, linears, linear, place_at, RuleAt, RuleThere, Entry, Body}
 use Rattle.prepared.specs.Prepared.Laws.{padded_in, arities_length}
 use Rattle.prepared.specs.Filling.{Laid, Lies, Row, written, in_file, missing, Rows, BodyAs}
 use Rattle.prepared.specs.Filling.Lists.{splice_lies, lies_kept, lies_section, lies_there}
@@ -69,7 +69,7 @@ module _ (P : Protocol) (within : Within P) (p : List ℕ) (bytes : Bytes p) (lo
       (rule_of P n)
   entry_some n u is at rest there e some-place =
       subst (Entry p n) (sym is)
-      (subst (Some p u) (sym e) record { here = rule_there n u is at rest there; there = some-place })
+      (subst (RuleThere p u) (sym e) record { here = rule_there n u is at rest there; there = some-place })
 
 -- ── all sections ──
 module _ {file arities ars flags places : List ℕ} {nr : ℕ} (l : Laid file arities ars flags places nr) (p₀ p₁ p₂ p₃ p₄ p₅ : List ℕ)

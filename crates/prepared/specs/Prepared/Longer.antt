@@ -23,7 +23,7 @@ use Rattle.protocol.specs.Places.{Here, place_of, fact_place}
 use Rattle.protocol.specs.Places.Ends.{fact_got}
 use Rattle.rules.specs.Numbered.{rule_of}
 use Rattle.prepared.specs.Sections.{slot_count, rule_count, arities_at, linears_at, cell_at, body_length, place_base}
-use Rattle.prepared.specs.Prepared.{slots_of, arities_of, place_at, RuleAt, Some, Entry, Body, body_of, prepared_facts, ListAt, fact_place_in}
+use Rattle.prepared.specs.Prepared.{slots_of, arities_of, place_at, RuleAt, RuleThere, Entry, Body, body_of, prepared_facts, ListAt, fact_place_in}
 use Rattle.prepared.specs.Prepared.Laws.{arities_length}
 
 -- ── what reads in a list reads in a longer one ──
@@ -127,7 +127,7 @@ module _ (p : List ℕ) (bytes : Bytes p) (long : body_length ≤ length p) (P :
 
   entry_longer : (n : ℕ) → n < rule_count → (o : Option Rule) → Entry (body_of p) n o → Entry p n o
   entry_longer n h (Some u) e =
-      subst (Some p u) (place_same n h) record { here = rule_longer u (place_at (body_of p) n) e.here; there = e.there }
+      subst (RuleThere p u) (place_same n h) record { here = rule_longer u (place_at (body_of p) n) e.here; there = e.there }
   entry_longer n h None e = sym (place_same n h) ∙ e
 
   pub body_longer : Body p P
