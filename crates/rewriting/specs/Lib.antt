@@ -13,6 +13,8 @@ pub mod Rewriting
 pub mod Earliest
 -- the refusal table as data: rows, what they say of an answer, passes
 pub mod Table
+-- what code answers in the table's words
+pub mod Answers
 -- causes 9 to 14, in the table's words, and the rows of a graph and of a drawing
 pub mod Causes
 -- ── the devices ──
