@@ -1,13 +1,10 @@
 -- What the index of a protocol file says of it: an arity a slot for each tag, the arity and the persistence of each fact symbol, a place
 -- for each rule.
-use Rattle.std.specs.Prelude.{ℕ, ◌+◌, ◌≤◌, ◌<◌, List, ◌≡◌, length, get_or, take}
+use Rattle.std.specs.Prelude.{Option, Some, None, ℕ, ◌+◌, ◌≤◌, ◌<◌, List, ◌≡◌, length, get_or, take}
 use Rattle.protocol.specs.Figures.{most_own, first_own, symbol_count, most_rules}
 use Rattle.number.specs.Reading.{Read, got, fault}
-use Rattle.number.specs.declared.Number.{Number}
-use Rattle.number.specs.declared.Number.TheVariants as num
 use Rattle.term.specs.Arity.{tag_arities}
-use Rattle.protocol.specs.declared.index.Index.{Index}
-use Rattle.protocol.specs.declared.index.Index.TheVariants as ix
+use Rattle.protocol.specs.declared.index.Counts.{Counts}
 use Rattle.protocol.specs.Protocol.{Own, Protocol, empty_rule, fact_arities, fact_flags, rule, protocol}
 use Rattle.protocol.specs.Protocol.Limits.{Within}
 use Rattle.protocol.specs.Places.{Here}
@@ -24,9 +21,9 @@ module _ {A : Type 0} (r : Read A) (Says : A → ℕ → Type 0) where
     pub there : r ≡ got item e
     pub says : Says item n
 
-  abbrev pub Told : Number → Type 0
-  Told (num.Value n e) = ToldOf n e
-  Told num.Fault = r ≡ fault
+  abbrev pub Told : Option (ℕ × ℕ) → Type 0
+  Told (Some (n, e)) = ToldOf n e
+  Told None = r ≡ fault
 
 -- the slots are of these functions
 abbrev pub Slotted : List ℕ → List ℕ → ℕ → Type 0
@@ -58,6 +55,6 @@ pub record Entries (file : List ℕ) (ns nr : ℕ) (arities ars flags places : L
   pub placed : Placed (rule file arities (take ns ars)) empty_rule places is.rules nr
 
 -- the counts and the right entries, or a fault, just as the definition says
-abbrev pub Indexed : List ℕ → Index → List ℕ → List ℕ → List ℕ → List ℕ → Type 0
-Indexed file (ix.Counts ns nr) arities ars flags places = Entries file ns nr arities ars flags places
-Indexed file ix.Fault arities ars flags places = protocol file ≡ fault
+abbrev pub Indexed : List ℕ → Option Counts → List ℕ → List ℕ → List ℕ → List ℕ → Type 0
+Indexed file (Some c) arities ars flags places = Entries file c.symbols c.rules arities ars flags places
+Indexed file None arities ars flags places = protocol file ≡ fault

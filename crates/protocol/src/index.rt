@@ -10,47 +10,31 @@ ghost use Rattle.protocol.specs.Index.{Told, Slotted, Tabled, Placed, Indexed};
 ghost use Rattle.protocol.specs.Index.Fill.{as_own};
 
 use crate::{figures, walks};
-use number::{Number, Seen};
 
 // The counts of fact symbols (with the four built-in ones) and of rules.
-#[derive(Drop)]
-pub enum Index {
-    Counts(usize, usize),
-    Fault,
-}
-
-// A fact symbol of the protocol's own: arity, persistence, the place behind.
-#[derive(Drop)]
-pub enum OwnRead {
-    Got(u32, u32, usize),
-    Fault,
+#[derive(Clone, Copy)]
+pub struct Counts {
+    pub symbols: usize,
+    pub rules: usize,
 }
 
 // The arities of n functions, each into the slot of its tag.
-fn functions_from(file: &[u8], at: usize, n: u32, arities: &mut [u8]) -> Number
+fn functions_from(file: &[u8], at: usize, n: u32, arities: &mut [u8]) -> Option<(u32, usize)>
     requires { (n ≤ most_functions) × (length arities.old ≡ tag_count) × (arities.old ≡ tag_arities []) }
     ensures kept { length arities.new ≡ length arities.old }
     ensures told { Told (many (below file.now arity_limit) n at) (Slotted arities.new) result }
 {
     let mut i = at;
-    let mut j: u32 = 0;
-    while j < n {
-        match number::below(file, i, figures::ARITY_LIMIT) {
-            Number::Value(v, e) => {
-                arities[term::FIRST_FREE + j as usize] = v as u8;
-                i = e;
-                j += 1;
-            }
-            Number::Fault => {
-                return Number::Fault;
-            }
-        }
+    for j in 0..n {
+        let (v, e) = number::below(file, i, figures::ARITY_LIMIT)?;
+        arities[term::FIRST_FREE + j as usize] = v as u8;
+        i = e;
     }
-    Number::Value(n, i)
+    Some((n, i))
 }
 
 // The built-in functions' arities, and aenc to true's behind the slots of the free functions; then a count and that many arities.
-fn functions(file: &[u8], at: usize, arities: &mut [u8]) -> Number
+fn functions(file: &[u8], at: usize, arities: &mut [u8]) -> Option<(u32, usize)>
     requires { length arities.old ≡ tag_count }
     ensures kept { length arities.new ≡ length arities.old }
     ensures told { Told (counted file.now most_functions (below file.now arity_limit) at) (Slotted arities.new) result }
@@ -60,27 +44,27 @@ fn functions(file: &[u8], at: usize, arities: &mut [u8]) -> Number
         0,
         b"\xff\xff\xff\x00\x02\x02\x01\x02\x01\x01\x02\x01\x02\xff\xff\xff\xff\xff\xff\xff\xff\xff\xff\xff\xff\xff\xff\xff\xff\x02\x02\x01\x02\x03\x00",
     );
-    match number::below(file, at, figures::FUNCTION_LIMIT) {
-        Number::Value(n, e) => functions_from(file, e, n, arities),
-        Number::Fault => Number::Fault,
-    }
+    let (n, e) = number::below(file, at, figures::FUNCTION_LIMIT)?;
+    functions_from(file, e, n, arities)
 }
 
-// A fact symbol of the protocol's own.
-fn own_at(file: &[u8], at: usize) -> OwnRead
+// A fact symbol of the protocol's own: its arity, its persistence, the place behind it.
+fn own_at(file: &[u8], at: usize) -> Option<(u32, u32, usize)>
     ensures { as_own result ≡ own file.now at }
 {
-    let Number::Value(a, e) = number::below(file, at, figures::FACT_ARITY_LIMIT) else {
-        return OwnRead::Fault;
-    };
-    match number::below(file, e, figures::FLAGS) {
-        Number::Value(l, f) => OwnRead::Got(a, l, f),
-        Number::Fault => OwnRead::Fault,
-    }
+    let (a, e) = number::below(file, at, figures::FACT_ARITY_LIMIT)?;
+    let (l, f) = number::below(file, e, figures::FLAGS)?;
+    Some((a, l, f))
 }
 
 // The built-in fact symbols, then the arities and flags of n own ones.
-fn symbols_from(file: &[u8], at: usize, n: u32, ars: &mut [u8], flags: &mut [u8]) -> Number
+fn symbols_from(
+    file: &[u8],
+    at: usize,
+    n: u32,
+    ars: &mut [u8],
+    flags: &mut [u8],
+) -> Option<(u32, usize)>
     requires { (n ≤ most_own) × (symbol_count ≤ length ars.old) × (symbol_count ≤ length flags.old) }
     ensures kept { (length ars.new ≡ length ars.old) × (length flags.new ≡ length flags.old) }
     ensures told { Told (many (own file.now) n at) (Tabled ars.new flags.new) result }
@@ -88,33 +72,23 @@ fn symbols_from(file: &[u8], at: usize, n: u32, ars: &mut [u8], flags: &mut [u8]
     octets::copy_into(ars, 0, b"\x01\x01\x01\x01");
     octets::copy_into(flags, 0, b"\x00\x00\x00\x01");
     let mut i = at;
-    let mut j: u32 = 0;
-    while j < n {
-        match own_at(file, i) {
-            OwnRead::Got(a, l, e) => {
-                let k = j as usize + figures::FIRST_OWN;
-                ars[k] = a as u8;
-                flags[k] = l as u8;
-                i = e;
-                j += 1;
-            }
-            OwnRead::Fault => {
-                return Number::Fault;
-            }
-        }
+    for j in 0..n {
+        let (a, l, e) = own_at(file, i)?;
+        let k = j as usize + figures::FIRST_OWN;
+        ars[k] = a as u8;
+        flags[k] = l as u8;
+        i = e;
     }
-    Number::Value(n, i)
+    Some((n, i))
 }
 
-fn symbols(file: &[u8], at: usize, ars: &mut [u8], flags: &mut [u8]) -> Number
+fn symbols(file: &[u8], at: usize, ars: &mut [u8], flags: &mut [u8]) -> Option<(u32, usize)>
     requires { (symbol_count ≤ length ars.old) × (symbol_count ≤ length flags.old) }
     ensures kept { (length ars.new ≡ length ars.old) × (length flags.new ≡ length flags.old) }
     ensures told { Told (counted file.now most_own (own file.now) at) (Tabled ars.new flags.new) result }
 {
-    match number::below(file, at, figures::OWN_LIMIT) {
-        Number::Value(n, e) => symbols_from(file, e, n, ars, flags),
-        Number::Fault => Number::Fault,
-    }
+    let (n, e) = number::below(file, at, figures::OWN_LIMIT)?;
+    symbols_from(file, e, n, ars, flags)
 }
 
 // The places of n rules.
@@ -125,37 +99,33 @@ fn rules_from(
     at: usize,
     n: u32,
     places: &mut [usize],
-) -> Number
+) -> Option<(u32, usize)>
     requires { (length file.now ≤ longest) × (n ≤ most_rules) × (most_rules ≤ length places.old) }
     ensures kept { length places.new ≡ length places.old }
     ensures told { Told (many (rule file.now arities.now ars.now) n at) (Placed (rule file.now arities.now ars.now) empty_rule places.new) result }
 {
     let mut i = at;
-    let mut j: u32 = 0;
-    while j < n {
-        match walks::one_rule(file, arities, ars, i) {
-            Seen::End(e, _) => {
-                places[j as usize] = i;
-                i = e;
-                j += 1;
-            }
-            Seen::Fault => {
-                return Number::Fault;
-            }
-        }
+    for j in 0..n {
+        let (e, _) = walks::one_rule(file, arities, ars, i)?;
+        places[j as usize] = i;
+        i = e;
     }
-    Number::Value(n, i)
+    Some((n, i))
 }
 
-fn rules(file: &[u8], arities: &[u8], ars: &[u8], at: usize, places: &mut [usize]) -> Number
+fn rules(
+    file: &[u8],
+    arities: &[u8],
+    ars: &[u8],
+    at: usize,
+    places: &mut [usize],
+) -> Option<(u32, usize)>
     requires { (length file.now ≤ longest) × (most_rules ≤ length places.old) }
     ensures kept { length places.new ≡ length places.old }
     ensures told { Told (counted file.now most_rules (rule file.now arities.now ars.now) at) (Placed (rule file.now arities.now ars.now) empty_rule places.new) result }
 {
-    match number::below(file, at, figures::RULE_LIMIT) {
-        Number::Value(n, e) => rules_from(file, arities, ars, e, n, places),
-        Number::Fault => Number::Fault,
-    }
+    let (n, e) = number::below(file, at, figures::RULE_LIMIT)?;
+    rules_from(file, arities, ars, e, n, places)
 }
 
 // One pass over a protocol file: the counts and the filled index, or a fault.
@@ -165,22 +135,19 @@ pub fn read_protocol(
     ars: &mut [u8],
     flags: &mut [u8],
     places: &mut [usize],
-) -> Index
+) -> Option<Counts>
     requires { (length file.now ≤ longest) × (length arities.old ≡ tag_count) × (symbol_count ≤ length ars.old) × (symbol_count ≤ length flags.old) × (most_rules ≤ length places.old) }
     ensures { Indexed file.now result arities.new ars.new flags.new places.new }
 {
-    let Number::Value(_, e) = functions(file, 0, arities) else {
-        return Index::Fault;
-    };
-    let Number::Value(no, f) = symbols(file, e, ars, flags) else {
-        return Index::Fault;
-    };
+    let (_, e) = functions(file, 0, arities)?;
+    let (no, f) = symbols(file, e, ars, flags)?;
     let m = no as usize + figures::FIRST_OWN;
-    let Number::Value(nr, g) = rules(file, arities, &ars[..m], f, places) else {
-        return Index::Fault;
-    };
+    let (nr, g) = rules(file, arities, &ars[..m], f, places)?;
     if g == file.len() {
-        return Index::Counts(m, nr as usize);
+        return Some(Counts {
+            symbols: m,
+            rules: nr as usize,
+        });
     }
-    Index::Fault
+    None
 }

@@ -8,15 +8,14 @@ ghost use Rattle.protocol.specs.Places.{place_of, value_of, sort_of, list_place,
 ghost use Rattle.protocol.specs.Places.Ends.{end_of, sort_from};
 
 use crate::{figures, walks};
-use number::{Number, Seen};
 
 // The end of a walk; 0 for a fault.
-fn end_of(r: Seen) -> usize
+fn end_of(r: Option<(usize, bool)>) -> usize
     ensures { result ≡ end_of r }
 {
     match r {
-        Seen::End(e, _) => e,
-        Seen::Fault => 0,
+        Some((e, _)) => e,
+        None => 0,
     }
 }
 
@@ -25,8 +24,8 @@ fn value_below(file: &[u8], at: usize, n: usize) -> usize
     ensures { result ≡ value_of (below file.now n at) }
 {
     match number::below(file, at, n) {
-        Number::Value(v, _) => v as usize,
-        Number::Fault => 0,
+        Some((v, _)) => v as usize,
+        None => 0,
     }
 }
 
@@ -41,8 +40,8 @@ fn sort_from(file: &[u8], at: usize, v: u32) -> usize
     ensures { result ≡ value_of (sort_from file.now v at) }
 {
     match walks::sorts_end(file, at, v) {
-        Number::Value(_, e) => value_below(file, e, figures::SORTS),
-        Number::Fault => 0,
+        Some((_, e)) => value_below(file, e, figures::SORTS),
+        None => 0,
     }
 }
 
@@ -51,8 +50,8 @@ pub fn sort_of(file: &[u8], at: usize, v: u32) -> usize
     ensures { result ≡ value_of (sort_of file.now at v) }
 {
     match number::below(file, at, figures::VARIABLE_LIMIT) {
-        Number::Value(_, e) => sort_from(file, e, v),
-        Number::Fault => 0,
+        Some((_, e)) => sort_from(file, e, v),
+        None => 0,
     }
 }
 
@@ -62,7 +61,7 @@ pub fn list_at(file: &[u8], arities: &[u8], ars: &[u8], at: usize, list: usize) 
     ensures { result ≡ list_place file.now arities.now ars.now at list }
 {
     match walks::sorts_at(file, at) {
-        Number::Value(_, e) => end_of(walks::some_lists(
+        Some((_, e)) => end_of(walks::some_lists(
             file,
             arities,
             ars,
@@ -72,7 +71,7 @@ pub fn list_at(file: &[u8], arities: &[u8], ars: &[u8], at: usize, list: usize) 
             0,
             0,
         )),
-        Number::Fault => 0,
+        None => 0,
     }
 }
 
@@ -88,8 +87,8 @@ pub fn first_fact(file: &[u8], at: usize) -> usize
     ensures { result ≡ place_of (below file.now fact_limit at) }
 {
     match number::below(file, at, figures::FACT_LIMIT) {
-        Number::Value(_, e) => e,
-        Number::Fault => 0,
+        Some((_, e)) => e,
+        None => 0,
     }
 }
 
@@ -114,12 +113,12 @@ pub fn term_at(file: &[u8], arities: &[u8], ars: &[u8], at: usize, j: usize) -> 
     ensures { result ≡ term_place file.now arities.now ars.now at j }
 {
     match number::below(file, at, ars.len()) {
-        Number::Value(_, e) => {
+        Some((_, e)) => {
             if j == 0 {
                 return e;
             }
             end_of(walks::rule_terms(file, arities, e, j, term::VARIABLE, 0, 0))
         }
-        Number::Fault => 0,
+        None => 0,
     }
 }

@@ -10,22 +10,24 @@ ghost use Rattle.protocol.specs.Protocol.{rule_term, fact, facts, layout, rule};
 ghost use Rattle.protocol.specs.Protocol.Walks.{leaf_at, asks, rule_asks, fact_from, sorts_from, sorts_at, ended, closed};
 
 use crate::figures;
-use number::{Number, Seen};
-use term::Walk;
 
 // A term of a rule, 64 symbols at most, and whether a leaf of that kind, from lo on and below hi, stands in it.
-fn rule_term(file: &[u8], arities: &[u8], at: usize, kind: usize, lo: usize, hi: usize) -> Seen
+fn rule_term(
+    file: &[u8],
+    arities: &[u8],
+    at: usize,
+    kind: usize,
+    lo: usize,
+    hi: usize,
+) -> Option<(usize, bool)>
     requires { length file.now ≤ longest }
     ensures { result ≡ seen (leaf_at kind lo hi) (rule_term file.now arities.now at) }
 {
-    match term::walk_term(file, arities, at, kind, lo, hi) {
-        Walk::End(e, n, h) => {
-            if n < figures::RULE_SYMBOL_LIMIT {
-                return Seen::End(e, h);
-            }
-            Seen::Fault
-        }
-        Walk::Fault => Seen::Fault,
+    let w = term::walk_term(file, arities, at, kind, lo, hi)?;
+    if w.size < figures::RULE_SYMBOL_LIMIT {
+        Some((w.end, w.hit))
+    } else {
+        None
     }
 }
 
@@ -38,26 +40,18 @@ pub fn rule_terms(
     kind: usize,
     lo: usize,
     hi: usize,
-) -> Seen
+) -> Option<(usize, bool)>
     requires { length file.now ≤ longest }
     ensures { result ≡ seen (any_by (leaf_at kind lo hi)) (many (rule_term file.now arities.now) n at) }
 {
     let mut i = at;
-    let mut j: usize = 0;
     let mut found = false;
-    while j < n {
-        match rule_term(file, arities, i, kind, lo, hi) {
-            Seen::End(e, h) => {
-                i = e;
-                found = found | h;
-                j += 1;
-            }
-            Seen::Fault => {
-                return Seen::Fault;
-            }
-        }
+    for _j in 0..n {
+        let (e, h) = rule_term(file, arities, i, kind, lo, hi)?;
+        i = e;
+        found = found | h;
     }
-    Seen::End(i, found)
+    Some((i, found))
 }
 
 // The terms of a fact of the symbol y; the test is of its terms (kinds 0 to 2) or of its symbol (3).
@@ -70,19 +64,15 @@ fn fact_from(
     kind: usize,
     lo: usize,
     hi: usize,
-) -> Seen
+) -> Option<(usize, bool)>
     requires { (length file.now ≤ longest) × (y < length ars.now) }
     ensures { result ≡ seen (asks kind lo hi) (fact_from file.now arities.now ars.now y at) }
 {
-    match rule_terms(file, arities, at, ars[y] as usize, kind, lo, hi) {
-        Seen::End(e, h) => {
-            if kind < figures::SYMBOL_KIND {
-                return Seen::End(e, h);
-            }
-            Seen::End(e, !(y < lo) & (y < hi))
-        }
-        Seen::Fault => Seen::Fault,
+    let (e, h) = rule_terms(file, arities, at, ars[y] as usize, kind, lo, hi)?;
+    if kind < figures::SYMBOL_KIND {
+        return Some((e, h));
     }
+    Some((e, !(y < lo) & (y < hi)))
 }
 
 // A fact.
@@ -94,14 +84,12 @@ pub fn one_fact(
     kind: usize,
     lo: usize,
     hi: usize,
-) -> Seen
+) -> Option<(usize, bool)>
     requires { length file.now ≤ longest }
     ensures { result ≡ seen (asks kind lo hi) (fact file.now arities.now ars.now at) }
 {
-    match number::below(file, at, ars.len()) {
-        Number::Value(y, e) => fact_from(file, arities, ars, y as usize, e, kind, lo, hi),
-        Number::Fault => Seen::Fault,
-    }
+    let (y, e) = number::below(file, at, ars.len())?;
+    fact_from(file, arities, ars, y as usize, e, kind, lo, hi)
 }
 
 // n facts.
@@ -114,26 +102,18 @@ pub fn some_facts(
     kind: usize,
     lo: usize,
     hi: usize,
-) -> Seen
+) -> Option<(usize, bool)>
     requires { length file.now ≤ longest }
     ensures { result ≡ seen (any_by (asks kind lo hi)) (many (fact file.now arities.now ars.now) n at) }
 {
     let mut i = at;
-    let mut j: usize = 0;
     let mut found = false;
-    while j < n {
-        match one_fact(file, arities, ars, i, kind, lo, hi) {
-            Seen::End(e, h) => {
-                i = e;
-                found = found | h;
-                j += 1;
-            }
-            Seen::Fault => {
-                return Seen::Fault;
-            }
-        }
+    for _j in 0..n {
+        let (e, h) = one_fact(file, arities, ars, i, kind, lo, hi)?;
+        i = e;
+        found = found | h;
     }
-    Seen::End(i, found)
+    Some((i, found))
 }
 
 // A count and that many facts: the premises, the actions or the conclusions of a rule.
@@ -145,14 +125,12 @@ pub fn one_list(
     kind: usize,
     lo: usize,
     hi: usize,
-) -> Seen
+) -> Option<(usize, bool)>
     requires { length file.now ≤ longest }
     ensures { result ≡ seen (any_by (asks kind lo hi)) (facts file.now arities.now ars.now at) }
 {
-    match number::below(file, at, figures::FACT_LIMIT) {
-        Number::Value(n, e) => some_facts(file, arities, ars, e, n as usize, kind, lo, hi),
-        Number::Fault => Seen::Fault,
-    }
+    let (n, e) = number::below(file, at, figures::FACT_LIMIT)?;
+    some_facts(file, arities, ars, e, n as usize, kind, lo, hi)
 }
 
 // n lists of facts.
@@ -165,56 +143,38 @@ pub fn some_lists(
     kind: usize,
     lo: usize,
     hi: usize,
-) -> Seen
+) -> Option<(usize, bool)>
     requires { length file.now ≤ longest }
     ensures { result ≡ seen (any_by (any_by (asks kind lo hi))) (many (facts file.now arities.now ars.now) n at) }
 {
     let mut i = at;
-    let mut j: usize = 0;
     let mut found = false;
-    while j < n {
-        match one_list(file, arities, ars, i, kind, lo, hi) {
-            Seen::End(e, h) => {
-                i = e;
-                found = found | h;
-                j += 1;
-            }
-            Seen::Fault => {
-                return Seen::Fault;
-            }
-        }
+    for _j in 0..n {
+        let (e, h) = one_list(file, arities, ars, i, kind, lo, hi)?;
+        i = e;
+        found = found | h;
     }
-    Seen::End(i, found)
+    Some((i, found))
 }
 
 // The sorts of n variables, which begin at a place.
-pub fn sorts_end(file: &[u8], at: usize, n: u32) -> Number
+pub fn sorts_end(file: &[u8], at: usize, n: u32) -> Option<(u32, usize)>
     ensures { as_read result ≡ sorts_from file.now n at }
 {
     let mut i = at;
-    let mut j: u32 = 0;
-    while j < n {
-        match number::below(file, i, figures::SORTS) {
-            Number::Value(_, e) => {
-                i = e;
-                j += 1;
-            }
-            Number::Fault => {
-                return Number::Fault;
-            }
-        }
+    for _j in 0..n {
+        let (_, e) = number::below(file, i, figures::SORTS)?;
+        i = e;
     }
-    Number::Value(n, i)
+    Some((n, i))
 }
 
 // How many variables the rule at a place has, and the place of its premises.
-pub fn sorts_at(file: &[u8], at: usize) -> Number
+pub fn sorts_at(file: &[u8], at: usize) -> Option<(u32, usize)>
     ensures { as_read result ≡ sorts_at file.now at }
 {
-    match number::below(file, at, figures::VARIABLE_LIMIT) {
-        Number::Value(n, e) => sorts_end(file, e, n),
-        Number::Fault => Number::Fault,
-    }
+    let (n, e) = number::below(file, at, figures::VARIABLE_LIMIT)?;
+    sorts_end(file, e, n)
 }
 
 // The layout of a rule, and whether the test holds of one of its facts.
@@ -226,22 +186,26 @@ pub fn one_layout(
     kind: usize,
     lo: usize,
     hi: usize,
-) -> Seen
+) -> Option<(usize, bool)>
     requires { length file.now ≤ longest }
     ensures { result ≡ seen (rule_asks kind lo hi) (layout file.now arities.now ars.now at) }
 {
-    match sorts_at(file, at) {
-        Number::Value(_, e) => some_lists(file, arities, ars, e, figures::LISTS, kind, lo, hi),
-        Number::Fault => Seen::Fault,
-    }
+    let (_, e) = sorts_at(file, at)?;
+    some_lists(file, arities, ars, e, figures::LISTS, kind, lo, hi)
 }
 
 // The three lists of a rule of n variables: no variable from n on stands in them.
-fn closed_lists(file: &[u8], arities: &[u8], ars: &[u8], at: usize, n: usize) -> Seen
+fn closed_lists(
+    file: &[u8],
+    arities: &[u8],
+    ars: &[u8],
+    at: usize,
+    n: usize,
+) -> Option<(usize, bool)>
     requires { length file.now ≤ longest }
     ensures { result ≡ closed (seen (any_by (any_by (asks variable_tag n number_limit))) (many (facts file.now arities.now ars.now) list_count at)) }
 {
-    match some_lists(
+    let (e, h) = some_lists(
         file,
         arities,
         ars,
@@ -250,24 +214,15 @@ fn closed_lists(file: &[u8], arities: &[u8], ars: &[u8], at: usize, n: usize) ->
         term::VARIABLE,
         n,
         number::NUMBER_LIMIT,
-    ) {
-        Seen::End(e, h) => {
-            if h {
-                return Seen::Fault;
-            }
-            Seen::End(e, false)
-        }
-        Seen::Fault => Seen::Fault,
-    }
+    )?;
+    if h { None } else { Some((e, false)) }
 }
 
 // A rule: its layout, and each variable in it declared.
-pub fn one_rule(file: &[u8], arities: &[u8], ars: &[u8], at: usize) -> Seen
+pub fn one_rule(file: &[u8], arities: &[u8], ars: &[u8], at: usize) -> Option<(usize, bool)>
     requires { length file.now ≤ longest }
     ensures { result ≡ ended (rule file.now arities.now ars.now at) }
 {
-    match sorts_at(file, at) {
-        Number::Value(n, e) => closed_lists(file, arities, ars, e, n as usize),
-        Number::Fault => Seen::Fault,
-    }
+    let (n, e) = sorts_at(file, at)?;
+    closed_lists(file, arities, ars, e, n as usize)
 }

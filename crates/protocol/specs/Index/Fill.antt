@@ -1,5 +1,5 @@
 -- Filling the tables while reading, one thing after another.
-use Rattle.std.specs.Prelude.{ℕ, zero, suc, ◌+◌, ◌≤◌, ◌<◌, List, [], ◌∷◌, ◌++◌, map, ◌≡◌, refl, length, get_or, take, set}
+use Rattle.std.specs.Prelude.{Option, Some, None, ℕ, zero, suc, ◌+◌, ◌≤◌, ◌<◌, List, [], ◌∷◌, ◌++◌, map, ◌≡◌, refl, length, get_or, take, set}
 use Rattle.std.proofs.lemmas.List.{map-append}
 use Rattle.std.proofs.Common.{append_assoc, append-nil, ap₂, sym, ◌∙◌, subst, arith, add-one, below_more, drop_of_length-le, take-suc-set, get_or-set_same, get_or-set_other}
 use Rattle.std.proofs.Math.Path.{ap}
@@ -10,12 +10,8 @@ use Rattle.octets.specs.Splice.Laws.{take_past}
 use Rattle.number.specs.Reading.{Read, got, fault, below, many}
 use Rattle.number.specs.Reading.Laws.{then_got, then_fault}
 use Rattle.number.specs.Reading.Many.{Came, many_snoc, many_length}
-use Rattle.number.specs.declared.Number.{Number}
-use Rattle.number.specs.declared.Number.TheVariants as num
 use Rattle.term.specs.Arity.{builtin, signing, padded, tag_arities}
 use Rattle.term.specs.Arity.Laws.{length_padded}
-use Rattle.protocol.specs.declared.index.OwnRead.{OwnRead}
-use Rattle.protocol.specs.declared.index.OwnRead.TheVariants as ow
 use Rattle.protocol.specs.Protocol.{Own, own_of, fact_arities, fact_flags, own}
 use Rattle.protocol.specs.Protocol.Limits.{OwnWithin}
 use Rattle.protocol.specs.Protocol.Exact.{own_exact}
@@ -24,15 +20,15 @@ use Rattle.protocol.specs.Places.Laws.{nth_here}
 use Rattle.protocol.specs.Index.{ToldOf, Told, Placed}
 
 -- another reading that is the same
-pub told_as : {A : Type 0} (r o : Read A) (Says : A → ℕ → Type 0) (x : Number) → o ≡ r → Told r Says x → Told o Says x
+pub told_as : {A : Type 0} (r o : Read A) (Says : A → ℕ → Type 0) (x : Option (ℕ × ℕ)) → o ≡ r → Told r Says x → Told o Says x
 told_as {A} r o Says x h t = subst (λ (q : Read A). Told q Says x) (sym h) t
 
 -- what the code has in either case
-module _ {A : Type 0} (r : Read A) (Says : A → ℕ → Type 0) {x : Number} where
-  pub told_value : {n e : ℕ} → x ≡ num.Value n e → Told r Says x → ToldOf r Says n e
+module _ {A : Type 0} (r : Read A) (Says : A → ℕ → Type 0) {x : Option (ℕ × ℕ)} where
+  pub told_value : {n e : ℕ} → x ≡ Some (n, e) → Told r Says x → ToldOf r Says n e
   told_value h t = subst (Told r Says) h t
 
-  pub told_fault : x ≡ num.Fault → Told r Says x → r ≡ fault
+  pub told_fault : x ≡ None → Told r Says x → r ≡ fault
   told_fault h t = subst (Told r Says) h t
 
 -- ── the slots ──
@@ -99,9 +95,9 @@ module _ (file : List ℕ) (at : ℕ) where
       }
 
 -- ── the fact symbols ──
-abbrev pub as_own : OwnRead → Read Own
-as_own (ow.Got a l e) = got (own_of a l) e
-as_own ow.Fault = fault
+abbrev pub as_own : Option (ℕ × ℕ × ℕ) → Read Own
+as_own (Some (a, l, e)) = got (own_of a l) e
+as_own None = fault
 
 module _ (file : List ℕ) (at : ℕ) where
   pub own_got : {a e l f : ℕ} → below file fact_arity_limit at ≡ got a e → below file flag_count e ≡ got l f → own file at ≡ got (own_of a l) f

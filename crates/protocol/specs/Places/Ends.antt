@@ -1,26 +1,24 @@
 -- The places as the code goes to them: one reading, and then from behind it.
-use Rattle.std.specs.Prelude.{ℕ, List, Bool, ◌≡◌, refl, length}
+use Rattle.std.specs.Prelude.{ℕ, List, Bool, Option, Some, None, ◌≡◌, refl, length}
 use Rattle.std.proofs.Math.Path.{ap}
 use Rattle.std.proofs.Common.{sym, ◌∙◌}
 use Rattle.protocol.specs.Figures.{sort_count, fact_limit, variable_limit}
 use Rattle.number.specs.Reading.{Read, got, fault, and_then, below, many, seen}
-use Rattle.number.specs.declared.Seen.{Seen}
-use Rattle.number.specs.declared.Seen.TheVariants as sn
 use Rattle.protocol.specs.Protocol.{rule_term, fact, facts}
 use Rattle.protocol.specs.Protocol.Walks.{sorts_at, sorts_from}
 use Rattle.protocol.specs.Places.{place_of, sort_of, list_place, fact_place, term_place}
 
 -- what code has of a reading: its end, or 0; its test, or no
-abbrev pub end_of : Seen → ℕ
-end_of (sn.End e b) = e
-end_of sn.Fault = 0
+abbrev pub end_of : Option (ℕ × Bool) → ℕ
+end_of (Some (e, b)) = e
+end_of None = 0
 
 end_place : {A : Type 0} (q : A → Bool) (r : Read A) → end_of (seen q r) ≡ place_of r
 end_place q (got x e) = refl
 end_place q fault = refl
 
 -- a walk's end, where the walk stands for a reading
-pub end_walk : {A : Type 0} (q : A → Bool) (r : Read A) {w : Seen} {n : ℕ} → n ≡ end_of w → w ≡ seen q r → n ≡ place_of r
+pub end_walk : {A : Type 0} (q : A → Bool) (r : Read A) {w : Option (ℕ × Bool)} {n : ℕ} → n ≡ end_of w → w ≡ seen q r → n ≡ place_of r
 end_walk q r h k = h ∙ ap end_of k ∙ end_place q r
 
 -- the first of several stands at their start

@@ -1,7 +1,8 @@
 -- What code answers of a rule's terms, facts and lists: the place behind them, and whether one test holds of one of them.
-use Rattle.std.specs.Prelude.{ℕ, ◌≤◌, ◌<◌, List, Bool, true, false, ◌&&◌, not, ◌≡◌, refl, length, get_or, ltb}
+use Rattle.std.specs.Prelude.{Option, Some, None, ℕ, ◌≤◌, ◌<◌, List, Bool, true, false, ◌&&◌, not, ◌≡◌, refl, length, get_or, ltb}
 use Rattle.std.proofs.Math.Path.{ap, sym}
 use Rattle.std.proofs.Common.{ap₂, ◌∙◌, lt-ltb, le-ltb}
+use Rattle.std.proofs.lemmas.Option.{some_pair_parts}
 use Rattle.protocol.specs.Figures.{most_variables, sort_count, list_count, symbol_kind, fact_limit, variable_limit, rule_symbol_limit}
 use Rattle.lists.specs.Choice.{pick, clash}
 use Rattle.number.specs.Groups.{number_limit}
@@ -9,13 +10,10 @@ use Rattle.number.specs.Reading.{Read, got, fault, and_then, below, many, counte
 use Rattle.lists.specs.Lists.{any_by}
 use Rattle.number.specs.Reading.Laws.{then_got, then_fault, then_same_at}
 use Rattle.number.specs.Reading.Many.{many_length, counted_got, counted_fault, Came}
-use Rattle.number.specs.declared.Seen.{Seen}
-use Rattle.number.specs.declared.Seen.TheVariants as sn
 use Rattle.term.specs.Term.{Term, symbols}
 use Rattle.term.specs.Reader.{term}
-use Rattle.term.specs.Walk.{holds, walked}
+use Rattle.term.specs.Walk.{holds, walk, walked}
 use Rattle.term.specs.declared.Walk.{Walk}
-use Rattle.term.specs.declared.Walk.TheVariants as wk
 use Rattle.protocol.specs.Protocol.{Fact, Rule, fact_of, rule_of_lem, leaf_in, declared, rule_term, fact, facts, layout, rule}
 
 -- ── one test by three numbers ──
@@ -36,11 +34,11 @@ abbrev pub rule_asks : ℕ → ℕ → ℕ → Rule → Bool
 rule_asks kind lo hi r = any_by (any_by (asks kind lo hi)) r.lists
 
 -- ── a term of a rule ──
-abbrev cut_walk : Walk → Seen
-cut_walk (wk.End e n b) = pick (ltb n rule_symbol_limit) (sn.End e b) sn.Fault
-cut_walk wk.Fault = sn.Fault
+abbrev cut_walk : Option Walk → Option (ℕ × Bool)
+cut_walk (Some w) = pick (ltb w.size rule_symbol_limit) (Some (w.end, w.hit)) None
+cut_walk None = None
 
-pick_seen : {A : Type 0} (q : A → Bool) (b : Bool) (x : A) (e : ℕ) → seen q (pick b (got x e) fault) ≡ pick b (sn.End e (q x)) sn.Fault
+pick_seen : {A : Type 0} (q : A → Bool) (b : Bool) (x : A) (e : ℕ) → seen q (pick b (got x e) fault) ≡ pick b (Some (e, q x)) None
 pick_seen q true x e = refl
 pick_seen q false x e = refl
 
@@ -52,17 +50,17 @@ module _ (kind lo hi : ℕ) where
   sized_seen fault = refl
 
   module _ (file arities : List ℕ) (at : ℕ) where
-    abbrev Term-seen : Seen → Type 0
+    abbrev Term-seen : Option (ℕ × Bool) → Type 0
     Term-seen r = r ≡ seen (leaf_at kind lo hi) (rule_term file arities at)
 
-    pub rule_term_seen : {w : Walk} → w ≡ walked kind lo hi (term file arities at) → Term-seen (cut_walk w)
+    pub rule_term_seen : {w : Option Walk} → w ≡ walked kind lo hi (term file arities at) → Term-seen (cut_walk w)
     unfolding rule_term
     rule_term_seen h = ap cut_walk h ∙ sym (sized_seen (term file arities at))
 
-    pub rule_term_end : {e n : ℕ} {b : Bool} → wk.End e n b ≡ walked kind lo hi (term file arities at) → n < rule_symbol_limit → Term-seen (sn.End e b)
+    pub rule_term_end : {e n : ℕ} {b : Bool} → Some (walk e n b) ≡ walked kind lo hi (term file arities at) → n < rule_symbol_limit → Term-seen (Some (e, b))
     rule_term_end {e} {n} {b} h l = simp (lt-ltb n rule_symbol_limit l) at (rule_term_seen h)
 
-    pub rule_term_long : {e n : ℕ} {b : Bool} → wk.End e n b ≡ walked kind lo hi (term file arities at) → rule_symbol_limit ≤ n → Term-seen sn.Fault
+    pub rule_term_long : {e n : ℕ} {b : Bool} → Some (walk e n b) ≡ walked kind lo hi (term file arities at) → rule_symbol_limit ≤ n → Term-seen None
     rule_term_long {e} {n} {b} h l = simp (le-ltb n rule_symbol_limit l) at (rule_term_seen h)
 
 -- ── a fact, from behind its symbol ──
@@ -70,7 +68,7 @@ unfoldable pub fact_from : List ℕ → List ℕ → List ℕ → ℕ → ℕ �
 fact_from file arities ars y at = and_then (many (rule_term file arities) (get_or ars y 0) at) (λ ts f. got (fact_of y ts) f)
 
 module _ (kind lo hi y : ℕ) where
-  abbrev as_fact : Read (List Term) → Seen
+  abbrev as_fact : Read (List Term) → Option (ℕ × Bool)
   as_fact r = seen (asks kind lo hi) (and_then r (λ ts f. got (fact_of y ts) f))
 
   fact_leaves : kind < symbol_kind → (r : Read (List Term)) → as_fact r ≡ seen (any_by (leaf_at kind lo hi)) r
@@ -78,12 +76,12 @@ module _ (kind lo hi y : ℕ) where
   fact_leaves l fault = refl
 
   fact_symbol :
-      symbol_kind ≤ kind → (r : Read (List Term)) {e : ℕ} {b : Bool} → sn.End e b ≡ seen (any_by (leaf_at kind lo hi)) r
-      → as_fact r ≡ sn.End e (not (ltb y lo) && ltb y hi)
-  fact_symbol l (got ts f) {e} {b} h = let a : f ≡ e = cc in simp (le-ltb kind symbol_kind l, a)
+      symbol_kind ≤ kind → (r : Read (List Term)) {e : ℕ} {b : Bool} → Some (e, b) ≡ seen (any_by (leaf_at kind lo hi)) r
+      → as_fact r ≡ Some (e, not (ltb y lo) && ltb y hi)
+  fact_symbol l (got ts f) {e} {b} h = let a : e ≡ f = (some_pair_parts e f b (any_by (leaf_at kind lo hi) ts) h).0 in simp (le-ltb kind symbol_kind l, a)
   fact_symbol l fault h = clash (cc)
 
-  fact_none : (r : Read (List Term)) → sn.Fault ≡ seen (any_by (leaf_at kind lo hi)) r → as_fact r ≡ sn.Fault
+  fact_none : (r : Read (List Term)) → None ≡ seen (any_by (leaf_at kind lo hi)) r → as_fact r ≡ None
   fact_none (got ts f) h = clash (cc)
   fact_none fault h = refl
 
@@ -92,17 +90,17 @@ module _ (kind lo hi y : ℕ) where
     its_terms = many (rule_term file arities) (get_or ars y 0) at
 
     pub from_leaves :
-        kind < symbol_kind → {r : Seen} → r ≡ seen (any_by (leaf_at kind lo hi)) its_terms → r ≡ seen (asks kind lo hi) (fact_from file arities ars y at)
+        kind < symbol_kind → {r : Option (ℕ × Bool)} → r ≡ seen (any_by (leaf_at kind lo hi)) its_terms → r ≡ seen (asks kind lo hi) (fact_from file arities ars y at)
     unfolding fact_from
     from_leaves l h = h ∙ sym (fact_leaves l its_terms)
 
     pub from_symbol :
-        symbol_kind ≤ kind → {e : ℕ} {b : Bool} → sn.End e b ≡ seen (any_by (leaf_at kind lo hi)) its_terms
-        → sn.End e (not (ltb y lo) && ltb y hi) ≡ seen (asks kind lo hi) (fact_from file arities ars y at)
+        symbol_kind ≤ kind → {e : ℕ} {b : Bool} → Some (e, b) ≡ seen (any_by (leaf_at kind lo hi)) its_terms
+        → Some (e, not (ltb y lo) && ltb y hi) ≡ seen (asks kind lo hi) (fact_from file arities ars y at)
     unfolding fact_from
     from_symbol l h = sym (fact_symbol l its_terms h)
 
-    pub from_none : sn.Fault ≡ seen (any_by (leaf_at kind lo hi)) its_terms → sn.Fault ≡ seen (asks kind lo hi) (fact_from file arities ars y at)
+    pub from_none : None ≡ seen (any_by (leaf_at kind lo hi)) its_terms → None ≡ seen (asks kind lo hi) (fact_from file arities ars y at)
     unfolding fact_from
     from_none h = sym (fact_none its_terms h)
 
@@ -155,20 +153,20 @@ module _ (file : List ℕ) (at : ℕ) where
 
 -- ── a rule ──
 -- only the place behind it
-abbrev pub ended : {A : Type 0} → Read A → Seen
+abbrev pub ended : {A : Type 0} → Read A → Option (ℕ × Bool)
 ended {A} r = seen (λ (x : A). false) r
 
 -- a fault where the test holds
-abbrev pub closed : Seen → Seen
-closed (sn.End e b) = pick b sn.Fault (sn.End e false)
-closed sn.Fault = sn.Fault
+abbrev pub closed : Option (ℕ × Bool) → Option (ℕ × Bool)
+closed (Some (e, b)) = pick b None (Some (e, false))
+closed None = None
 
 -- as the code has it
-module _ (n : ℕ) (o : Read (List (List Fact))) {w : Seen} (asked : w ≡ seen (any_by (any_by (asks 0 n number_limit))) o) where
+module _ (n : ℕ) (o : Read (List (List Fact))) {w : Option (ℕ × Bool)} (asked : w ≡ seen (any_by (any_by (asks 0 n number_limit))) o) where
   pub parts_closed : closed w ≡ closed (seen (any_by (any_by (asks 0 n number_limit))) o)
   parts_closed = ap closed asked
 
-  pub parts_by : (e : ℕ) (b : Bool) → w ≡ sn.End e b → pick b sn.Fault (sn.End e false) ≡ closed (seen (any_by (any_by (asks 0 n number_limit))) o)
+  pub parts_by : (e : ℕ) (b : Bool) → w ≡ Some (e, b) → pick b None (Some (e, false)) ≡ closed (seen (any_by (any_by (asks 0 n number_limit))) o)
   parts_by e b h = ap closed (sym h) ∙ parts_closed
 
 module _ (file arities ars : List ℕ) (at : ℕ) where
@@ -206,7 +204,7 @@ module _ (file arities ars : List ℕ) (at : ℕ) where
   layout_fault h = then_fault (counted file most_variables (below file sort_count) at) _ (no_sorts (counted file most_variables (below file sort_count) at) h)
 
   -- ── its variables are declared: no leaf of kind 0 from their count on ──
-  by_hit : (t : Bool) (x : Rule) (d : ℕ) → ended (pick (not t) (got x d) fault) ≡ pick t sn.Fault (sn.End d false)
+  by_hit : (t : Bool) (x : Rule) (d : ℕ) → ended (pick (not t) (got x d) fault) ≡ pick t None (Some (d, false))
   by_hit true x d = refl
   by_hit false x d = refl
 

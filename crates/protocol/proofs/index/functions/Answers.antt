@@ -13,26 +13,26 @@ pub functions_from-requires : goal.functions_from-requires
 functions_from-requires c = (
   omega (
     arith,
-    (below_inside _ _ _ (λ i. (c.type_inv.file i).fits) _ _ (sym c.below.ensures ∙ ap as_read c.in-Value.is)
+    (below_inside _ _ _ (λ i. (c.type_inv.file i).fits) _ _ (sym c.below.ensures ∙ ap as_read c.in_ok-n.was)
         ).small,
   ),
   omega (arith, c.copy_into.auto),
   c.copy_into.ensures.wrote ∙ splice_all _ _ (omega arith) ∙ sym slots_none,
 )
 
-pub returns-in-Value : goal.returns-in-Value
-returns-in-Value c =
+pub returns : goal.returns
+returns c =
     record {
       kept = omega (arith, c.copy_into.auto, c.functions_from.auto);
       told = told_as _ _ (Slotted c.functions_from.new.arities)
           c.functions_from.result (counted_got _ (below c.args.file.now arity_limit) 16 _ _ _
-          (sym c.below.ensures ∙ ap as_read c.in-Value.is)) c.functions_from.ensures.told;
+          (sym c.below.ensures ∙ ap as_read c.in_ok-n.was)) c.functions_from.ensures.told;
     }
 
-pub returns-in-Fault : goal.returns-in-Fault
-returns-in-Fault c =
+pub returns-in_err-n : goal.returns-in_err-n
+returns-in_err-n c =
     record {
       kept = omega (arith, c.copy_into.auto);
-      told = counted_fault _ (below c.args.file.now arity_limit) 16 _
-          (sym c.below.ensures ∙ ap as_read c.in-Fault.is);
+      told = rw c.from_residual.ensures (counted_fault _ (below c.args.file.now arity_limit) 16 _
+          (sym c.below.ensures ∙ ap as_read c.in_err-n.was));
     }

@@ -1,14 +1,9 @@
 -- The invariant is that the first j arities are read and that the table is `tag_arities` of them; each turn sets one slot.
 use Rattle.protocol.specs.Index.Fill.{Slotting}
 use mathlib.Core.Path.{◌≡◌}
-use Prim.Native.Nat.{◌-◌, ◌≤◌}
 use lib.ListN.{length}
 use Rattle.protocol.proofs.index.functions_from.Given as goal
 
 abbrev pub invariant-loop-j : goal.invariant-loop-j
 invariant-loop-j l =
-    (l.j ≤ l.n) × (length l.arities ≡ length l.initial.arities) × Slotting l.file l.at l.j l.i l.arities
-
-abbrev pub decreases-loop-j : goal.decreases-loop-j
-decreases-loop-j l =
-    l.n - l.j
+    (length l.arities ≡ length l.initial.arities) × Slotting l.file l.at l.j l.i l.arities

@@ -4,15 +4,15 @@ use Rattle.number.specs.Reading.{as_read}
 use mathlib.Core.Path.{ap, sym, ◌∙◌}
 use Rattle.protocol.proofs.index.own_at.Goals as goal
 
-pub returns-in_default : goal.returns-in_default
-returns-in_default c =
-    sym (own_first _ _ (sym c.below.ensures ∙ ap as_read c.in_default.is))
+pub returns-in_err-a : goal.returns-in_err-a
+returns-in_err-a c =
+    rw c.from_residual.ensures (sym (own_first _ _ (sym c.below.ensures ∙ ap as_read c.in_err-a.was)))
 
-pub returns-in-Value-below : goal.returns-in-Value-below
-returns-in-Value-below c =
-    sym (own_got _ _ (sym c.below.ensures ∙ ap as_read c.in-Value.is) (sym c.below-2.ensures ∙ ap as_read c.in-Value-below.is))
+pub returns : goal.returns
+returns c =
+    sym (own_got _ _ (sym c.below.ensures ∙ ap as_read c.in_ok-a.was) (sym c.below-2.ensures ∙ ap as_read c.in_ok-l.was))
 
-pub returns-in-Fault : goal.returns-in-Fault
-returns-in-Fault c =
-    sym (own_second _ _ (sym c.below.ensures ∙ ap as_read c.in-Value.is) (sym c.below-2.ensures ∙ ap as_read
-    c.in-Fault.is))
+pub returns-in_err-l : goal.returns-in_err-l
+returns-in_err-l c =
+    rw c.from_residual-in_err-l.ensures
+    (sym (own_second _ _ (sym c.below.ensures ∙ ap as_read c.in_ok-a.was) (sym c.below-2.ensures ∙ ap as_read c.in_err-l.was)))

@@ -10,59 +10,59 @@ use lib.ListN.{take, length-take}
 use native.Mathlib.Omega.{arith}
 use Rattle.protocol.proofs.index.read_protocol.Goals as goal
 
-pub returns-in_default : goal.returns-in_default
-returns-in_default c =
-    no_functions _ (told_fault (counted c.args.file.now 16 (below c.args.file.now arity_limit) 0) (Slotted c.functions.new.arities)
-    c.in_default.is c.functions.ensures.told)
+pub returns-in_err-e : goal.returns-in_err-e
+returns-in_err-e c =
+    rw c.from_residual.ensures (no_functions _ (told_fault (counted c.args.file.now 16 (below c.args.file.now arity_limit) 0) (Slotted c.functions.new.arities)
+    c.in_err-e.was c.functions.ensures.told))
 
-pub returns-in_default-symbols : goal.returns-in_default-symbols
-returns-in_default-symbols c =
-    no_symbols _ _ _ _ (told_value (counted c.args.file.now 16 (below c.args.file.now arity_limit) 0) (Slotted c.functions.new.arities)
-    c.in-Value.is c.functions.ensures.told) (told_fault (counted c.args.file.now most_own (own c.args.file.now)
-    c.in-Value.e)
-    (Tabled c.symbols.new.ars c.symbols.new.flags) c.in_default-symbols.is c.symbols.ensures.told)
+pub returns-in_err-no : goal.returns-in_err-no
+returns-in_err-no c =
+    rw c.from_residual-in_err-no.ensures (no_symbols _ _ _ _ (told_value (counted c.args.file.now 16 (below c.args.file.now arity_limit) 0) (Slotted c.functions.new.arities)
+    c.in_ok-e.was c.functions.ensures.told) (told_fault (counted c.args.file.now most_own (own c.args.file.now)
+    c.in_ok-e.e)
+    (Tabled c.symbols.new.ars c.symbols.new.flags) c.in_err-no.was c.symbols.ensures.told))
 
 pub slice_bounds-rules-end : goal.slice_bounds-rules-end
 slice_bounds-rules-end c =
-    let b : c.in-Value-symbols.no ≤ 32 = (told_value (counted c.args.file.now most_own (own c.args.file.now)
-    c.in-Value.e)
-    (Tabled c.symbols.new.ars c.symbols.new.flags) c.in-Value-symbols.is c.symbols.ensures.told).says.few in
+    let b : c.in_ok-no.no ≤ 32 = (told_value (counted c.args.file.now most_own (own c.args.file.now)
+    c.in_ok-e.e)
+    (Tabled c.symbols.new.ars c.symbols.new.flags) c.in_ok-no.was c.symbols.ensures.told).says.few in
     omega (arith, c.symbols.auto)
 
 pub slice_bounds-rules-end-2 : goal.slice_bounds-rules-end-2
 slice_bounds-rules-end-2 c =
-    let b : c.in-Value-symbols.no ≤ 32 = (told_value (counted c.args.file.now most_own (own c.args.file.now) c.in-Value.e)
-    (Tabled c.symbols.new.ars c.symbols.new.flags) c.in-Value-symbols.is c.symbols.ensures.told).says.few in
+    let b : c.in_ok-no.no ≤ 32 = (told_value (counted c.args.file.now most_own (own c.args.file.now) c.in_ok-e.e)
+    (Tabled c.symbols.new.ars c.symbols.new.flags) c.in_ok-no.was c.symbols.ensures.told).says.few in
     simp length-take (omega (arith, c.symbols.auto))
 
-pub returns-in_default-rules : goal.returns-in_default-rules
-returns-in_default-rules c =
-    no_rules _ _ _ _ (told_value (counted c.args.file.now 16 (below c.args.file.now arity_limit) 0) (Slotted c.functions.new.arities)
-    c.in-Value.is c.functions.ensures.told) _ _ _ _ (told_value (counted c.args.file.now most_own (own c.args.file.now)
-    c.in-Value.e) (Tabled c.symbols.new.ars c.symbols.new.flags) c.in-Value-symbols.is c.symbols.ensures.told)
+pub returns-in_err-nr : goal.returns-in_err-nr
+returns-in_err-nr c =
+    rw c.from_residual-in_err-nr.ensures (no_rules _ _ _ _ (told_value (counted c.args.file.now 16 (below c.args.file.now arity_limit) 0) (Slotted c.functions.new.arities)
+    c.in_ok-e.was c.functions.ensures.told) _ _ _ _ (told_value (counted c.args.file.now most_own (own c.args.file.now)
+    c.in_ok-e.e) (Tabled c.symbols.new.ars c.symbols.new.flags) c.in_ok-no.was c.symbols.ensures.told)
     (told_fault (counted c.args.file.now most_rules (rule c.args.file.now c.functions.new.arities
-    (take (c.in-Value-symbols.no + 4) c.symbols.new.ars)) c.in-Value-symbols.f)
-    (Placed (rule c.args.file.now c.functions.new.arities (take (c.in-Value-symbols.no + 4) c.symbols.new.ars)) empty_rule
-    c.rules.new.places) c.in_default-rules.is c.rules.ensures.told)
+    (take (c.in_ok-no.no + 4) c.symbols.new.ars)) c.in_ok-no.f)
+    (Placed (rule c.args.file.now c.functions.new.arities (take (c.in_ok-no.no + 4) c.symbols.new.ars)) empty_rule
+    c.rules.new.places) c.in_err-nr.was c.rules.ensures.told))
 
 pub returns-then-g-file : goal.returns-then-g-file
 returns-then-g-file c =
     entries _ _ _ _ (told_value (counted c.args.file.now 16 (below c.args.file.now arity_limit) 0) (Slotted c.functions.new.arities)
-    c.in-Value.is
-    c.functions.ensures.told) _ _ _ _ (told_value (counted c.args.file.now most_own (own c.args.file.now) c.in-Value.e)
-    (Tabled c.symbols.new.ars c.symbols.new.flags) c.in-Value-symbols.is c.symbols.ensures.told) _ _ _
+    c.in_ok-e.was
+    c.functions.ensures.told) _ _ _ _ (told_value (counted c.args.file.now most_own (own c.args.file.now) c.in_ok-e.e)
+    (Tabled c.symbols.new.ars c.symbols.new.flags) c.in_ok-no.was c.symbols.ensures.told) _ _ _
     (told_value (counted c.args.file.now most_rules (rule c.args.file.now c.functions.new.arities
-    (take (c.in-Value-symbols.no + 4) c.symbols.new.ars)) c.in-Value-symbols.f)
-    (Placed (rule c.args.file.now c.functions.new.arities (take (c.in-Value-symbols.no + 4) c.symbols.new.ars)) empty_rule
-    c.rules.new.places) c.in-Value-rules.is c.rules.ensures.told) (λ i. (c.type_inv.file i).fits)
+    (take (c.in_ok-no.no + 4) c.symbols.new.ars)) c.in_ok-no.f)
+    (Placed (rule c.args.file.now c.functions.new.arities (take (c.in_ok-no.no + 4) c.symbols.new.ars)) empty_rule
+    c.rules.new.places) c.in_ok-nr.was c.rules.ensures.told) (λ i. (c.type_inv.file i).fits)
     c.if-g-file.true
 
 pub returns : goal.returns
 returns c =
     leftover _ _ _ _ (told_value (counted c.args.file.now 16 (below c.args.file.now arity_limit) 0) (Slotted c.functions.new.arities)
-    c.in-Value.is c.functions.ensures.told) _ _ _ _ (told_value (counted c.args.file.now most_own (own c.args.file.now)
-    c.in-Value.e) (Tabled c.symbols.new.ars c.symbols.new.flags) c.in-Value-symbols.is c.symbols.ensures.told) _ _ _
+    c.in_ok-e.was c.functions.ensures.told) _ _ _ _ (told_value (counted c.args.file.now most_own (own c.args.file.now)
+    c.in_ok-e.e) (Tabled c.symbols.new.ars c.symbols.new.flags) c.in_ok-no.was c.symbols.ensures.told) _ _ _
     (told_value (counted c.args.file.now most_rules (rule c.args.file.now c.functions.new.arities
-    (take (c.in-Value-symbols.no + 4) c.symbols.new.ars)) c.in-Value-symbols.f)
-    (Placed (rule c.args.file.now c.functions.new.arities (take (c.in-Value-symbols.no + 4) c.symbols.new.ars)) empty_rule
-    c.rules.new.places) c.in-Value-rules.is c.rules.ensures.told) c.if-g-file.false
+    (take (c.in_ok-no.no + 4) c.symbols.new.ars)) c.in_ok-no.f)
+    (Placed (rule c.args.file.now c.functions.new.arities (take (c.in_ok-no.no + 4) c.symbols.new.ars)) empty_rule
+    c.rules.new.places) c.in_ok-nr.was c.rules.ensures.told) c.if-g-file.false

@@ -16,25 +16,25 @@ rules_from-requires c = (
   omega (
     arith,
     (below_inside _ _ _ (λ i. (c.type_inv.file i).fits) _ _
-        (sym c.below.ensures ∙ ap as_read c.in-Value.is)).small,
+        (sym c.below.ensures ∙ ap as_read c.in_ok-n.was)).small,
   ),
   search rules,
 )
 
-pub returns-in-Value : goal.returns-in-Value
-returns-in-Value c =
+pub returns : goal.returns
+returns c =
     record {
       kept = search rules;
       told = told_as _ _ (Placed (rule c.args.file.now c.args.arities.now c.args.ars.now) empty_rule
           c.rules_from.new.places) c.rules_from.result
           (counted_got _ (rule c.args.file.now c.args.arities.now c.args.ars.now) 64 _ _ _
-          (sym c.below.ensures ∙ ap as_read c.in-Value.is)) c.rules_from.ensures.told;
+          (sym c.below.ensures ∙ ap as_read c.in_ok-n.was)) c.rules_from.ensures.told;
     }
 
-pub returns-in-Fault : goal.returns-in-Fault
-returns-in-Fault c =
+pub returns-in_err-n : goal.returns-in_err-n
+returns-in_err-n c =
     record {
       kept = search rules;
-      told = counted_fault _ (rule c.args.file.now c.args.arities.now c.args.ars.now) 64 _
-          (sym c.below.ensures ∙ ap as_read c.in-Fault.is);
+      told = rw c.from_residual.ensures (counted_fault _ (rule c.args.file.now c.args.arities.now c.args.ars.now) 64 _
+          (sym c.below.ensures ∙ ap as_read c.in_err-n.was));
     }

@@ -13,27 +13,26 @@ use Rattle.protocol.proofs.index.rules_from.Goals as goal
 
 pub loop-j-init : goal.loop-j-init
 loop-j-init c =
-    (search rules, search rules, (λ k l. absurd (omega arith)), came_none _ _)
+    (search rules, (λ k l. absurd (omega arith)), came_none _ _)
 
 pub loop-j-preserved : goal.loop-j-preserved
 loop-j-preserved c =
     let b : c.loop-j.j < length c.loop-j.places = omega arith in (
-      search rules,
       simp length-set (omega arith),
       places_more (rule c.args.file.now c.args.arities.now c.args.ars.now) c.args.at
-          c.loop-j.j c.loop-j.i c.loop-j.places c.loop-j.invariant.2 c.loop-j.invariant.3 b,
+          c.loop-j.j c.loop-j.i c.loop-j.places c.loop-j.invariant.1 c.loop-j.invariant.2 b,
       cut_seen (λ (x : Rule). false)
-          (rule c.args.file.now c.args.arities.now c.args.ars.now c.loop-j.i) (sym c.one_rule.ensures ∙ c.in-End.is)
-          (λ x g h. came_more _ _ _ _ _ x c.loop-j.invariant.3 g),
+          (rule c.args.file.now c.args.arities.now c.args.ars.now c.loop-j.i) (sym c.one_rule.ensures ∙ c.in_ok-e.was)
+          (λ x g h. came_more _ _ _ _ _ x c.loop-j.invariant.2 g),
     )
 
-pub returns-in-Fault : goal.returns-in-Fault
-returns-in-Fault c =
+pub returns-in_err-e : goal.returns-in_err-e
+returns-in_err-e c =
     record {
       kept = search rules;
-      told = came_stop _ _ _ _ _ c.loop-j.invariant.3 (cut_fault (λ (x : Rule). false)
+      told = rw c.from_residual.ensures (came_stop _ _ _ _ _ c.loop-j.invariant.2 (cut_fault (λ (x : Rule). false)
           (rule c.args.file.now c.args.arities.now c.args.ars.now c.loop-j.i)
-          (sym c.one_rule.ensures ∙ c.in-Fault.is)) c.loop-j-test.true;
+          (sym c.one_rule.ensures ∙ c.in_err-e.was)) c.loop-j-test.true);
     }
 
 pub returns : goal.returns
@@ -41,13 +40,13 @@ returns c =
     let m : c.loop-j.j ≡ c.args.n = omega arith in
     let o : Came (rule c.args.file.now c.args.arities.now c.args.ars.now) c.args.at c.args.n c.loop-j.i = subst
     (λ (k : ℕ). Came (rule c.args.file.now c.args.arities.now c.args.ars.now) c.args.at k c.loop-j.i) m
-    c.loop-j.invariant.3 in record {
+    c.loop-j.invariant.2 in record {
       kept = search rules;
       told = record {
         item = o.items;
         there = o.there;
         says = places_end (rule c.args.file.now c.args.arities.now c.args.ars.now)
             c.args.at empty_rule c.args.n c.loop-j.i o.items c.loop-j.places o.there
-            (λ k l. c.loop-j.invariant.2 k (omega arith));
+            (λ k l. c.loop-j.invariant.1 k (omega arith));
       };
     }

@@ -2,14 +2,10 @@
 use Rattle.protocol.specs.Protocol.{rule}
 use Rattle.number.specs.Reading.Many.{Came}
 use mathlib.Core.Path.{◌≡◌}
-use Prim.Native.Nat.{ℕ, ◌-◌, ◌≤◌, ◌<◌}
+use Prim.Native.Nat.{ℕ, ◌<◌}
 use lib.ListN.{length, get_or}
 use Rattle.protocol.proofs.index.rules_from.Given as goal
 
 abbrev pub invariant-loop-j : goal.invariant-loop-j
 invariant-loop-j l =
-    (l.j ≤ l.n) × (length l.places ≡ length l.initial.places) × ((k : ℕ) → k < l.j → Came (rule l.file l.arities l.ars) l.at k (get_or l.places k 0)) × Came (rule l.file l.arities l.ars) l.at l.j l.i
-
-abbrev pub decreases-loop-j : goal.decreases-loop-j
-decreases-loop-j l =
-    l.n - l.j
+    (length l.places ≡ length l.initial.places) × ((k : ℕ) → k < l.j → Came (rule l.file l.arities l.ars) l.at k (get_or l.places k 0)) × Came (rule l.file l.arities l.ars) l.at l.j l.i

@@ -12,23 +12,23 @@ use Rattle.protocol.proofs.index.symbols.Goals as goal
 
 pub symbols_from-requires : goal.symbols_from-requires
 symbols_from-requires c = (
-  omega (arith, (below_inside _ _ _ (λ i. (c.type_inv.file i).fits) _ _ (sym c.below.ensures ∙ ap as_read c.in-Value.is)).small),
+  omega (arith, (below_inside _ _ _ (λ i. (c.type_inv.file i).fits) _ _ (sym c.below.ensures ∙ ap as_read c.in_ok-n.was)).small),
   search
       rules,
   search rules,
 )
 
-pub returns-in-Value : goal.returns-in-Value
-returns-in-Value c =
+pub returns : goal.returns
+returns c =
     record {
       kept = search rules;
       told = told_as _ _ (Tabled c.symbols_from.new.ars c.symbols_from.new.flags) c.symbols_from.result
-          (counted_got _ (own c.args.file.now) 32 _ _ _ (sym c.below.ensures ∙ ap as_read c.in-Value.is)) c.symbols_from.ensures.told;
+          (counted_got _ (own c.args.file.now) 32 _ _ _ (sym c.below.ensures ∙ ap as_read c.in_ok-n.was)) c.symbols_from.ensures.told;
     }
 
-pub returns-in-Fault : goal.returns-in-Fault
-returns-in-Fault c = record {
+pub returns-in_err-n : goal.returns-in_err-n
+returns-in_err-n c = record {
   kept = search rules;
-  told = counted_fault _ (own c.args.file.now) 32 _
-      (sym c.below.ensures ∙ ap as_read c.in-Fault.is);
+  told = rw c.from_residual.ensures (counted_fault _ (own c.args.file.now) 32 _
+      (sym c.below.ensures ∙ ap as_read c.in_err-n.was));
 }

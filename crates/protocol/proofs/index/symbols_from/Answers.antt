@@ -12,14 +12,13 @@ pub loop-j-init : goal.loop-j-init
 loop-j-init c = (
   search rules,
   search rules,
-  search rules,
   own_begins _ _ _ _ c.args.ars.now c.args.flags.now c.copy_into.ensures.wrote
       c.copy_into-2.ensures.wrote (omega arith) (omega arith),
 )
 
 pub overflow_cast-ars : goal.overflow_cast-ars
 overflow_cast-ars c =
-    omega (arith, own_small _ _ (λ i. (c.type_inv.file i).fits) (sym c.own_at.ensures ∙ ap as_own c.in-Got.is))
+    omega (arith, own_small _ _ (λ i. (c.type_inv.file i).fits) (sym c.own_at.ensures ∙ ap as_own c.in_ok-a.was))
 
 pub bounds-ars-k : goal.bounds-ars-k
 bounds-ars-k c =
@@ -27,7 +26,7 @@ bounds-ars-k c =
 
 pub overflow_cast-flags : goal.overflow_cast-flags
 overflow_cast-flags c =
-    omega (arith, own_small _ _ (λ i. (c.type_inv.file i).fits) (sym c.own_at.ensures ∙ ap as_own c.in-Got.is))
+    omega (arith, own_small _ _ (λ i. (c.type_inv.file i).fits) (sym c.own_at.ensures ∙ ap as_own c.in_ok-a.was))
 
 pub bounds-flags-k : goal.bounds-flags-k
 bounds-flags-k c =
@@ -37,19 +36,18 @@ pub loop-j-preserved : goal.loop-j-preserved
 loop-j-preserved c =
     let x : c.loop-j.j + 4 < length c.loop-j.ars = omega (arith, c.copy_into.auto) in
     let y : c.loop-j.j + 4 < length c.loop-j.flags = omega (arith, c.copy_into-2.auto) in (
-      search rules,
       simp length-set (omega arith),
       simp length-set (omega arith),
-      own_more _ _ _ _ _ _ _ _ _ c.loop-j.invariant.3
-          (sym c.own_at.ensures ∙ ap as_own c.in-Got.is) x y,
+      own_more _ _ _ _ _ _ _ _ _ c.loop-j.invariant.2
+          (sym c.own_at.ensures ∙ ap as_own c.in_ok-a.was) x y,
     )
 
-pub returns-in-Fault : goal.returns-in-Fault
-returns-in-Fault c =
+pub returns-in_err-a : goal.returns-in_err-a
+returns-in_err-a c =
     record {
       kept = (omega (arith, c.copy_into.auto), omega (arith, c.copy_into-2.auto));
-      told = many_stop _ _ _ _ _ _ c.loop-j.invariant.3.there
-          (sym c.own_at.ensures ∙ ap as_own c.in-Fault.is) c.loop-j-test.true;
+      told = rw c.from_residual.ensures (many_stop _ _ _ _ _ _ c.loop-j.invariant.2.there
+          (sym c.own_at.ensures ∙ ap as_own c.in_err-a.was) c.loop-j-test.true);
     }
 
 pub returns : goal.returns
@@ -57,7 +55,7 @@ returns c =
     let m : c.loop-j.j ≡ c.args.n = omega arith in
     let o : Owned c.args.file.now c.args.at c.args.n c.loop-j.i c.loop-j.ars c.loop-j.flags = subst
     (λ (k : ℕ). Owned c.args.file.now c.args.at k c.loop-j.i c.loop-j.ars c.loop-j.flags) m
-    c.loop-j.invariant.3 in record {
+    c.loop-j.invariant.2 in record {
       kept = (omega (arith, c.copy_into.auto), omega (arith, c.copy_into-2.auto));
       told = record {
         item = o.items;

@@ -1,14 +1,9 @@
 -- The invariant is that j own symbols are read and stand in both tables behind the four built-in ones; each turn adds one.
 use Rattle.protocol.specs.Index.Fill.{Owned}
 use mathlib.Core.Path.{◌≡◌}
-use Prim.Native.Nat.{◌-◌, ◌≤◌}
 use lib.ListN.{length}
 use Rattle.protocol.proofs.index.symbols_from.Given as goal
 
 abbrev pub invariant-loop-j : goal.invariant-loop-j
 invariant-loop-j l =
-    (l.j ≤ l.n) × (length l.ars ≡ length l.initial.ars) × (length l.flags ≡ length l.initial.flags) × Owned l.file l.at l.j l.i l.ars l.flags
-
-abbrev pub decreases-loop-j : goal.decreases-loop-j
-decreases-loop-j l =
-    l.n - l.j
+    (length l.ars ≡ length l.initial.ars) × (length l.flags ≡ length l.initial.flags) × Owned l.file l.at l.j l.i l.ars l.flags

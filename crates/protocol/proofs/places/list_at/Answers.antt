@@ -7,14 +7,14 @@ use Rattle.lists.specs.Lists.{any_by}
 use mathlib.Core.Path.{ap, sym, ◌∙◌}
 use Rattle.protocol.proofs.places.list_at.Goals as goal
 
-pub returns-in-Value : goal.returns-in-Value
-returns-in-Value c =
+pub returns-in-Some : goal.returns-in-Some
+returns-in-Some c =
     end_walk (any_by (any_by (asks 0 0 0))) (many (facts c.args.file.now c.args.arities.now c.args.ars.now) c.args.list
-    c.in-Value.e)
+    c.in-Some.e)
     c.end_of.ensures c.some_lists.ensures ∙ sym (list_got _ c.args.arities.now c.args.ars.now _ c.args.list
-    (sym c.sorts_at.ensures ∙ ap as_read c.in-Value.is))
+    (sym c.sorts_at.ensures ∙ ap as_read c.in-Some.is))
 
-pub returns-in-Fault : goal.returns-in-Fault
-returns-in-Fault c =
+pub returns-in-None : goal.returns-in-None
+returns-in-None c =
     sym (list_none _ c.args.arities.now c.args.ars.now _ c.args.list
-    (sym c.sorts_at.ensures ∙ ap as_read c.in-Fault.is))
+    (sym c.sorts_at.ensures ∙ ap as_read c.in-None.is))

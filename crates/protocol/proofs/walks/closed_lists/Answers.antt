@@ -3,7 +3,7 @@ use Rattle.number.specs.Groups.{number_limit}
 use Rattle.protocol.specs.Protocol.Walks.{closed, parts_closed, parts_by}
 use Rattle.protocol.specs.Protocol.{facts}
 use Rattle.number.specs.Reading.{many}
-use Rattle.number.specs.declared.Seen.TheVariants as sn
+use Rattle.std.proofs.Common.{Some, None}
 use Rattle.lists.specs.Choice.{pick}
 use mathlib.Core.Path.{ap, sym, ◌∙◌}
 use mathlib.Core.Bool.{Bool, false}
@@ -12,19 +12,19 @@ use Rattle.protocol.proofs.walks.closed_lists.Goals as goal
 pub returns-then-h : goal.returns-then-h
 unfolding number_limit
 returns-then-h c =
-    ap (λ (b : Bool). pick b sn.Fault (sn.End c.in-End.e false)) (sym c.if-h.true) ∙ parts_by c.args.n
+    ap (λ (b : Bool). pick b None (Some (c.in_ok-e.e, false))) (sym c.if-h.true) ∙ parts_by c.args.n
     (many (facts c.args.file.now c.args.arities.now c.args.ars.now) 3 c.args.at) c.some_lists.ensures _ _
-    c.in-End.is
+    c.in_ok-e.was
 
 pub returns-else-h : goal.returns-else-h
 unfolding number_limit
 returns-else-h c =
-    ap (λ (b : Bool). pick b sn.Fault (sn.End c.in-End.e false)) (sym c.if-h.false) ∙ parts_by c.args.n
+    ap (λ (b : Bool). pick b None (Some (c.in_ok-e.e, false))) (sym c.if-h.false) ∙ parts_by c.args.n
     (many (facts c.args.file.now c.args.arities.now c.args.ars.now) 3 c.args.at) c.some_lists.ensures _ _
-    c.in-End.is
+    c.in_ok-e.was
 
-pub returns-in-Fault : goal.returns-in-Fault
+pub returns-in_err-e : goal.returns-in_err-e
 unfolding number_limit
-returns-in-Fault c =
-    ap closed (sym c.in-Fault.is) ∙ parts_closed c.args.n (many (facts c.args.file.now c.args.arities.now c.args.ars.now) 3
-    c.args.at) c.some_lists.ensures
+returns-in_err-e c =
+    rw c.from_residual.ensures (ap closed (sym c.in_err-e.was) ∙ parts_closed c.args.n (many (facts c.args.file.now c.args.arities.now c.args.ars.now) 3
+    c.args.at) c.some_lists.ensures)

@@ -10,12 +10,12 @@ overflow_cast-ars c =
 
 pub returns-then-kind-lt-SYMBOL_KIND : goal.returns-then-kind-lt-SYMBOL_KIND
 returns-then-kind-lt-SYMBOL_KIND c =
-    from_leaves _ _ _ _ _ _ _ _ c.if-kind-lt-SYMBOL_KIND.true (sym c.in-End.is ∙ c.rule_terms.ensures)
+    from_leaves _ _ _ _ _ _ _ _ c.if-kind-lt-SYMBOL_KIND.true (sym c.in_ok-e.was ∙ c.rule_terms.ensures)
 
-pub returns-else-kind-lt-SYMBOL_KIND : goal.returns-else-kind-lt-SYMBOL_KIND
-returns-else-kind-lt-SYMBOL_KIND c =
-    from_symbol _ _ _ _ _ _ _ _ c.if-kind-lt-SYMBOL_KIND.false (sym c.in-End.is ∙ c.rule_terms.ensures)
+pub returns : goal.returns
+returns c =
+    from_symbol _ _ _ _ _ _ _ _ c.if-kind-lt-SYMBOL_KIND.false (sym c.in_ok-e.was ∙ c.rule_terms.ensures)
 
-pub returns-in-Fault : goal.returns-in-Fault
-returns-in-Fault c =
-    from_none _ _ _ _ _ _ _ _ (sym c.in-Fault.is ∙ c.rule_terms.ensures)
+pub returns-in_err-e : goal.returns-in_err-e
+returns-in_err-e c =
+    rw c.from_residual.ensures (from_none _ _ _ _ _ _ _ _ (sym c.in_err-e.was ∙ c.rule_terms.ensures))

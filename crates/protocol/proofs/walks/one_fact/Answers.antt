@@ -13,16 +13,16 @@ fact_from-requires c = (
   omega (
     arith,
     (below_inside _ _ _ (λ i. (c.type_inv.file i).fits) _ _
-        (sym c.below.ensures ∙ ap as_read c.in-Value.is)).small,
+        (sym c.below.ensures ∙ ap as_read c.in_ok-y.was)).small,
   ),
 )
 
-pub returns-in-Value : goal.returns-in-Value
-returns-in-Value c =
+pub returns : goal.returns
+returns c =
     c.fact_from.ensures ∙ sym (ap (seen (asks c.args.kind c.args.lo c.args.hi))
-    (fact_got _ _ c.args.ars.now _ (sym c.below.ensures ∙ ap as_read c.in-Value.is)))
+    (fact_got _ _ c.args.ars.now _ (sym c.below.ensures ∙ ap as_read c.in_ok-y.was)))
 
-pub returns-in-Fault : goal.returns-in-Fault
-returns-in-Fault c =
-    sym (ap (seen (asks c.args.kind c.args.lo c.args.hi)) (fact_fault _ _ c.args.ars.now _
-    (sym c.below.ensures ∙ ap as_read c.in-Fault.is)))
+pub returns-in_err-y : goal.returns-in_err-y
+returns-in_err-y c =
+    rw c.from_residual.ensures (sym (ap (seen (asks c.args.kind c.args.lo c.args.hi)) (fact_fault _ _ c.args.ars.now _
+    (sym c.below.ensures ∙ ap as_read c.in_err-y.was))))

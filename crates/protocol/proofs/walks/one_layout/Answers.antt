@@ -4,12 +4,12 @@ use Rattle.number.specs.Reading.{seen, as_read}
 use mathlib.Core.Path.{ap, sym, ◌∙◌}
 use Rattle.protocol.proofs.walks.one_layout.Goals as goal
 
-pub returns-in-Value : goal.returns-in-Value
-returns-in-Value c =
+pub returns : goal.returns
+returns c =
     c.some_lists.ensures ∙ sym (layout_got _ c.args.arities.now c.args.ars.now _ c.args.kind c.args.lo c.args.hi
-    (sym c.sorts_at.ensures ∙ ap as_read c.in-Value.is))
+    (sym c.sorts_at.ensures ∙ ap as_read c.in_ok-e.was))
 
-pub returns-in-Fault : goal.returns-in-Fault
-returns-in-Fault c =
-    sym (ap (seen (rule_asks c.args.kind c.args.lo c.args.hi)) (layout_fault _ c.args.arities.now c.args.ars.now _
-    (sym c.sorts_at.ensures ∙ ap as_read c.in-Fault.is)))
+pub returns-in_err-e : goal.returns-in_err-e
+returns-in_err-e c =
+    rw c.from_residual.ensures (sym (ap (seen (rule_asks c.args.kind c.args.lo c.args.hi)) (layout_fault _ c.args.arities.now c.args.ars.now _
+    (sym c.sorts_at.ensures ∙ ap as_read c.in_err-e.was))))

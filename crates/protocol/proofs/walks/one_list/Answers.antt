@@ -5,12 +5,12 @@ use Rattle.lists.specs.Lists.{any_by}
 use mathlib.Core.Path.{ap, sym, ◌∙◌}
 use Rattle.protocol.proofs.walks.one_list.Goals as goal
 
-pub returns-in-Value : goal.returns-in-Value
-returns-in-Value c =
+pub returns : goal.returns
+returns c =
     c.some_facts.ensures ∙ sym (ap (seen (any_by (asks c.args.kind c.args.lo c.args.hi)))
-    (facts_got _ c.args.arities.now c.args.ars.now _ (sym c.below.ensures ∙ ap as_read c.in-Value.is)))
+    (facts_got _ c.args.arities.now c.args.ars.now _ (sym c.below.ensures ∙ ap as_read c.in_ok-n.was)))
 
-pub returns-in-Fault : goal.returns-in-Fault
-returns-in-Fault c =
-    sym (ap (seen (any_by (asks c.args.kind c.args.lo c.args.hi))) (facts_fault _ c.args.arities.now c.args.ars.now _
-    (sym c.below.ensures ∙ ap as_read c.in-Fault.is)))
+pub returns-in_err-n : goal.returns-in_err-n
+returns-in_err-n c =
+    rw c.from_residual.ensures (sym (ap (seen (any_by (asks c.args.kind c.args.lo c.args.hi))) (facts_fault _ c.args.arities.now c.args.ars.now _
+    (sym c.below.ensures ∙ ap as_read c.in_err-n.was))))

@@ -4,12 +4,12 @@ use Rattle.number.specs.Reading.{as_read}
 use mathlib.Core.Path.{ap, sym, ◌∙◌}
 use Rattle.protocol.proofs.walks.one_rule.Goals as goal
 
-pub returns-in-Value : goal.returns-in-Value
-returns-in-Value c =
+pub returns : goal.returns
+returns c =
     c.closed_lists.ensures ∙ sym (rule_got _ c.args.arities.now c.args.ars.now _
-    (sym c.sorts_at.ensures ∙ ap as_read c.in-Value.is))
+    (sym c.sorts_at.ensures ∙ ap as_read c.in_ok-n.was))
 
-pub returns-in-Fault : goal.returns-in-Fault
-returns-in-Fault c =
-    sym (ap ended (rule_fault _ c.args.arities.now c.args.ars.now _
-    (layout_fault _ c.args.arities.now c.args.ars.now _ (sym c.sorts_at.ensures ∙ ap as_read c.in-Fault.is))))
+pub returns-in_err-n : goal.returns-in_err-n
+returns-in_err-n c =
+    rw c.from_residual.ensures (sym (ap ended (rule_fault _ c.args.arities.now c.args.ars.now _
+    (layout_fault _ c.args.arities.now c.args.ars.now _ (sym c.sorts_at.ensures ∙ ap as_read c.in_err-n.was)))))

@@ -4,10 +4,10 @@ use Rattle.number.specs.Reading.{as_read}
 use mathlib.Core.Path.{ap, sym, ◌∙◌}
 use Rattle.protocol.proofs.walks.sorts_at.Goals as goal
 
-pub returns-in-Value : goal.returns-in-Value
-returns-in-Value c =
-    c.sorts_end.ensures ∙ sym (sorts_got _ _ (sym c.below.ensures ∙ ap as_read c.in-Value.is))
+pub returns : goal.returns
+returns c =
+    c.sorts_end.ensures ∙ sym (sorts_got _ _ (sym c.below.ensures ∙ ap as_read c.in_ok-n.was))
 
-pub returns-in-Fault : goal.returns-in-Fault
-returns-in-Fault c =
-    sym (sorts_fault _ _ (sym c.below.ensures ∙ ap as_read c.in-Fault.is))
+pub returns-in_err-n : goal.returns-in_err-n
+returns-in_err-n c =
+    rw c.from_residual.ensures (sym (sorts_fault _ _ (sym c.below.ensures ∙ ap as_read c.in_err-n.was)))

@@ -2,13 +2,8 @@
 use Rattle.protocol.specs.Figures.{sort_count}
 use Rattle.number.specs.Reading.Many.{Came}
 use Rattle.number.specs.Reading.{below}
-use Prim.Native.Nat.{◌-◌, ◌≤◌}
 use Rattle.protocol.proofs.walks.sorts_end.Given as goal
 
 abbrev pub invariant-loop-j : goal.invariant-loop-j
 invariant-loop-j l =
-    (l.j ≤ l.n) × Came (below l.file sort_count) l.at l.j l.i
-
-abbrev pub decreases-loop-j : goal.decreases-loop-j
-decreases-loop-j l =
-    l.n - l.j
+    Came (below l.file sort_count) l.at l._j l.i
