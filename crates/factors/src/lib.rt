@@ -307,20 +307,13 @@ pub fn way_at(src: &[u8], arities: &[u8], at: usize) -> Way
     ensures { result ≡ way_of (symbol_at src.now arities.now at) }
 {
     match term::symbol_at(src, arities, at) {
-        Symbol::Leaf(_, _, e) => Way::Leaf(e),
-        Symbol::Op(t, k, e) => {
-            if t == term::ONE {
-                return Way::On(k as usize, e);
-            }
-            if t == term::MUL {
-                return Way::On(k as usize, e);
-            }
-            if t == term::INV {
-                return Way::Turn(k as usize, e);
-            }
-            Way::Factor
-        }
-        Symbol::Fault => Way::Factor,
+        Some(Symbol::Leaf(_, _, e)) => Way::Leaf(e),
+        Some(Symbol::Op(t, k, e)) => match t {
+            term::ONE | term::MUL => Way::On(k as usize, e),
+            term::INV => Way::Turn(k as usize, e),
+            _ => Way::Factor,
+        },
+        None => Way::Factor,
     }
 }
 

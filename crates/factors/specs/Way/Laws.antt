@@ -2,7 +2,7 @@
 use Rattle.std.specs.Prelude.{ℕ, ◌+◌, ◌≤◌, ◌<◌, ◌≡◌, Bool, not, List, length, drop, get_or}
 use Rattle.std.proofs.Math.Path.{refl}
 use Rattle.std.proofs.Common.{ap, sym, ◌∙◌, subst, arith, length-append, eq-eqb, ne_eqb}
-use Rattle.std.specs.Prelude.{Option}
+use Rattle.std.specs.Prelude.{Option, Some, None}
 use Rattle.std.proofs.Math.Decide.{dec_lt}
 use Rattle.term.specs.Tags.{one_tag, inv_tag, mul_tag}
 use Rattle.lists.specs.Asks.{Asks₂}
@@ -150,12 +150,12 @@ module _ (arities src : List ℕ) where
 
   module _ (at : ℕ) where
     -- where a term stands is a symbol
-    no_fault : {e : ℕ} (t : Term) → OneAt arities src at e t → symbol_at src arities at ≡ sy.Fault → ⊥
+    no_fault : {e : ℕ} (t : Term) → OneAt arities src at e t → symbol_at src arities at ≡ None → ⊥
     no_fault {e} (leaf k n) O h =
-        let z : sy.Leaf (tag_of k) n (at + length (encode (leaf k n))) ≡ sy.Fault =
+        let z : Some (sy.Leaf (tag_of k) n (at + length (encode (leaf k n)))) ≡ None =
         sym (symbol_of_leaf src arities k n at (drop e src) O.range O.there.there) ∙ h in clash (cc)
     no_fault {e} (app f ts) O h =
-        let z : sy.Op f (count ts) (at + length (groups f)) ≡ sy.Fault =
+        let z : Some (sy.Op f (count ts) (at + length (groups f))) ≡ None =
         sym (symbol_of_app src arities f ts at (drop e src) O.formed.0 O.range.0 O.there.there) ∙ h in clash (cc)
 
     module _ (J : Asks₂ (OneAt arities src at)) where
@@ -175,7 +175,7 @@ module _ (arities src : List ℕ) where
 
         pub there_mul : way.On (get_or arities 12 0) (at + 1) ≡ way_of (symbol_at src arities at)
         there_mul =
-            let k : op_at 12 (arity arities 12) (at + 1) ≡ sy.Op 12 (get_or arities 12 undeclared) (at + 1) =
+            let k : op_at 12 (arity arities 12) (at + 1) ≡ Some (sy.Op 12 (get_or arities 12 undeclared) (at + 1)) =
             ap (λ (o : Option ℕ). op_at 12 o (at + 1)) (arity_some arities 12 (omega arith) mul_declared) in
             ap (λ (n : ℕ). way.On n (at + 1)) (slot_inside arities 12 mul_slot) ∙ sym (ap way_of (mul_symbol ∙ k))
 
@@ -192,7 +192,7 @@ module _ (arities src : List ℕ) where
         ]
 
         -- and is one byte, or more
-        pub name_there : get_or src (at + 1) 0 < 128 → symbol_at src arities at ≡ sy.Leaf (get_or src at 0) (get_or src (at + 1) 0) (at + 1 + 1)
+        pub name_there : get_or src (at + 1) 0 < 128 → symbol_at src arities at ≡ Some (sy.Leaf (get_or src at 0) (get_or src (at + 1) 0) (at + 1 + 1))
         name_there h = name_symbol ∙ ap (name_at (get_or src at 0)) (number_one (at + 1) name_inside h)
 
         pub there_name : get_or src (at + 1) 0 < 128 → way.Leaf (at + 2) ≡ way_of (symbol_at src arities at)
