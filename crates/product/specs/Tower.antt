@@ -1,5 +1,5 @@
 -- Towers of exps: of exp(exp(b, x), y), where b is no exp, the base is b and the exponents are x and y.
-use Rattle.std.specs.Prelude.{Bool, true, false, cond, eqb}
+use Rattle.std.specs.Prelude.{Bool, true, false, cond, eqb, Option, Some, None}
 use Rattle.term.specs.Tags.{exp_tag}
 use Rattle.term.specs.declared.Symbol.{Symbol}
 use Rattle.term.specs.declared.Symbol.TheVariants as sy
@@ -11,10 +11,10 @@ use Rattle.factors.specs.Laid.{also}
 -- what they are at an exp and at any other term, and how large
 pub mod Laws
 
-abbrev pub is_exp : Symbol → Bool
-is_exp (sy.Leaf t n e) = false
-is_exp (sy.Op f k e) = eqb f exp_tag
-is_exp sy.Fault = false
+abbrev pub is_exp : Option Symbol → Bool
+is_exp (Some (sy.Leaf t n e)) = false
+is_exp (Some (sy.Op f k e)) = eqb f exp_tag
+is_exp None = false
 
 -- "A factor is no mul, inv or one."
 abbrev pub is_factor : Way → Bool

@@ -223,11 +223,7 @@ fn power_at(
 fn is_exp(src: &[u8], arities: &[u8], at: usize) -> bool
     ensures { result ≡ is_exp (symbol_at src.now arities.now at) }
 {
-    match term::symbol_at(src, arities, at) {
-        Symbol::Leaf(_, _, _) => false,
-        Symbol::Op(t, _, _) => t == term::EXP,
-        Symbol::Fault => false,
-    }
+    matches!(term::symbol_at(src, arities, at), Some(Symbol::Op(term::EXP, _, _)))
 }
 
 // Where the base of the tower of exps at a place begins: behind their tags.
@@ -254,12 +250,7 @@ fn behind(src: &[u8], arities: &[u8], at: usize) -> usize
 fn is_factor(src: &[u8], arities: &[u8], at: usize) -> bool
     ensures { result ≡ is_factor (way_of (symbol_at src.now arities.now at)) }
 {
-    match factors::way_at(src, arities, at) {
-        Way::On(_, _) => false,
-        Way::Turn(_, _) => false,
-        Way::Leaf(_) => true,
-        Way::Factor => true,
-    }
+    matches!(factors::way_at(src, arities, at), Way::Leaf(_) | Way::Factor)
 }
 
 // The tower of exps from o up to e becomes the power of its base, the exponents multiplied out once: returns where that ends.
