@@ -3,9 +3,10 @@ use Prim.Native.Nat.{ℕ, ◌+◌, ◌-◌, ◌<◌, ◌≤◌}
 use mathlib.Core.List.{List}
 use mathlib.Core.Path.{◌≡◌, ap, subst}
 use mathlib.Core.Logic.{◌≢◌, inl}
-use mathlib.Core.Bool.{Bool, false}
 use native.Mathlib.Omega.{arith}
 use lib.ListN.{length, length-append}
+use Rattle.term.specs.declared.Symbol.{Symbol}
+use Rattle.term.specs.declared.Symbol.TheVariants as sy
 use Rattle.canonical.specs.First.{FirstAt}
 use Rattle.lists.specs.Asks.{Asks, Asks₂, Promises, Promises₂}
 use Rattle.octets.specs.Splice.Prefix.{Wrote, widen, wrote_then, wrote_there}
@@ -25,14 +26,14 @@ use Rattle.canonical.specs.Contract.{Job, Out}
 use Rattle.canonical.specs.Inner.{Built, Here}
 use Rattle.canonical.proofs.Making.{room_one, next_job, args_job, op_case}
 
-module _ (arities vals starts src : List ℕ) (at k : ℕ) (out : List ℕ) (o : ℕ) (is_leaf : Bool) (tag number next : ℕ)
-    (F : Promises₂ (Here arities src at) (λ (e : ℕ) (t : Term). FirstAt t at is_leaf tag number next)) (more : k ≢ 0) (b : is_leaf ≡ false) where
+module _ (arities vals starts src : List ℕ) (at k : ℕ) (out : List ℕ) (o : ℕ) (y : Symbol) (tag number next : ℕ)
+    (F : Promises₂ (Here arities src at) (λ (e : ℕ) (t : Term). FirstAt t at y)) (more : k ≢ 0) (b : y ≡ sy.Op tag number next) where
   by_op :
       (P : Type 0) → Asks₂ (Job arities vals starts src at k (length out) o)
       → ((θ : ℕ → Term) (args us : Terms) → count args ≡ number → next ≡ at + length (groups tag)
       → Job arities vals starts src at k (length out) o θ (app tag args & us) → P)
       → P
-  by_op P (θ, ts, J) c = op_case arities vals starts src at k (length out) o is_leaf tag number next F more (λ ts. P) θ ts b J (c θ)
+  by_op P (θ, ts, J) c = op_case arities vals starts src at k (length out) o y tag number next F more (λ ts. P) θ ts b J (c θ)
 
   pub tag_asks : Asks₂ (Job arities vals starts src at k (length out) o) → (tag < number_limit) × (o + length (groups tag) ≤ length out)
   tag_asks R = by_op _ R (λ θ args us c e J.
@@ -124,7 +125,7 @@ module _ (arities vals starts src : List ℕ) (at k : ℕ) (out : List ℕ) (o :
             out o out'
             at' o' (encodes ts) (encodes (mades around θ ts)))
         op_done rest q out' at' o' N θ ts J =
-            op_case arities vals starts src at k (length out) o is_leaf tag number next F more
+            op_case arities vals starts src at k (length out) o y tag number next F more
             (λ ts. Out (o + length (encodes (subs θ ts)) + term_room) at out o out' at' o' (encodes ts) (encodes (mades around θ ts))) θ ts b J
             (λ args us c d J.
             let i = inner θ args us c d J in

@@ -3,11 +3,12 @@ use Prim.Native.Nat.{ℕ, ◌+◌, ◌-◌, ◌<◌, ◌≤◌}
 use mathlib.Core.List.{List, ◌++◌, append_assoc}
 use mathlib.Core.Path.{◌≡◌, refl, ap, sym, ◌∙◌, subst}
 use mathlib.Core.Logic.{◌≢◌, inl, inr}
-use mathlib.Core.Bool.{Bool, true, false}
 use native.Mathlib.Omega.{arith}
 use lib.ListN.{length, drop, length-append}
 use Rattle.term.specs.Sizes.{most_symbols, term_room}
-use Rattle.canonical.specs.First.{FirstAt}
+use Rattle.term.specs.declared.Symbol.{Symbol}
+use Rattle.term.specs.declared.Symbol.TheVariants as sy
+use Rattle.canonical.specs.First.{FirstAt, place_behind}
 use Rattle.lists.specs.Asks.{Asks₂, Promises₂}
 use Rattle.lists.specs.Choice.{clash}
 use Rattle.octets.specs.Head.{stands_at, stands_within, behind}
@@ -86,53 +87,59 @@ none_done arities vals starts src at k around out o z θ nil J = record { read =
 none_done arities vals starts src at k around out o z θ (t & us) J = absurd (omega (arith, J.many))
 
 -- ── by the first symbol ──
-module _ (arities vals starts src : List ℕ) (at k n o : ℕ) (is_leaf : Bool) (tag number next : ℕ)
-    (F : Promises₂ (Here arities src at) (λ (e : ℕ) (t : Term). FirstAt t at is_leaf tag number next)) (more : k ≢ 0) where
+module _ (arities vals starts src : List ℕ) (at k n o : ℕ) (y : Symbol) (tag number next : ℕ)
+    (F : Promises₂ (Here arities src at) (λ (e : ℕ) (t : Term). FirstAt t at y)) (more : k ≢ 0) where
   pub leaf_case :
-      (P : Terms → Type 0) (θ : ℕ → Term) (ts : Terms) → is_leaf ≡ true → Job arities vals starts src at k n o θ ts
+      (P : Terms → Type 0) (θ : ℕ → Term) (ts : Terms) → y ≡ sy.Leaf tag number next → Job arities vals starts src at k n o θ ts
       → ((kd : Kind) (us : Terms) → tag ≡ tag_of kd → next ≡ at + length (encode (leaf kd number))
       → Job arities vals starts src at k n o θ (leaf kd number & us) → P (leaf kd number & us))
       → P ts
   leaf_case P θ nil b J c = absurd (more (sym J.many))
   leaf_case P θ (leaf kd m & us) b J c =
-      let f = F _ (leaf kd m) (here_one arities vals starts src at k n o θ (leaf kd m) us J) in
-      let q : m ≡ number = sym f.number_is in
+      let f : sy.Leaf tag number next ≡ sy.Leaf (tag_of kd) m (at + length (encode (leaf kd m))) =
+      sym b ∙ F _ (leaf kd m) (here_one arities vals starts src at k n o θ (leaf kd m) us J) in
+      let q : m ≡ number = cc in
+      let d : next ≡ at + length (encode (leaf kd m)) = cc in
       subst (λ (i : ℕ). P (leaf kd i & us)) (sym q)
-      (c kd us f.tag_is (f.next_is ∙ ap (λ (i : ℕ). at + length (encode (leaf kd i))) q)
+      (c kd us (cc) (d ∙ ap (λ (i : ℕ). at + length (encode (leaf kd i))) q)
       (subst (λ (i : ℕ). Job arities vals starts src at k n o θ (leaf kd i & us)) q J))
   leaf_case P θ (app g args & us) b J c =
-      let f = F _ (app g args) (here_one arities vals starts src at k n o θ (app g args) us J) in
-      let q : true ≡ false = sym b ∙ f.leaf_is in
+      let f : sy.Leaf tag number next ≡ sy.Op g (count args) (at + length (groups g)) =
+      sym b ∙ F _ (app g args) (here_one arities vals starts src at k n o θ (app g args) us J) in
       clash (cc)
 
   pub op_case :
-      (P : Terms → Type 0) (θ : ℕ → Term) (ts : Terms) → is_leaf ≡ false → Job arities vals starts src at k n o θ ts
+      (P : Terms → Type 0) (θ : ℕ → Term) (ts : Terms) → y ≡ sy.Op tag number next → Job arities vals starts src at k n o θ ts
       → ((args us : Terms) → count args ≡ number → next ≡ at + length (groups tag)
       → Job arities vals starts src at k n o θ (app tag args & us) → P (app tag args & us))
       → P ts
   op_case P θ nil b J c = absurd (more (sym J.many))
   op_case P θ (leaf kd m & us) b J c =
-      let f = F _ (leaf kd m) (here_one arities vals starts src at k n o θ (leaf kd m) us J) in
-      let q : false ≡ true = sym b ∙ f.leaf_is in
+      let f : sy.Op tag number next ≡ sy.Leaf (tag_of kd) m (at + length (encode (leaf kd m))) =
+      sym b ∙ F _ (leaf kd m) (here_one arities vals starts src at k n o θ (leaf kd m) us J) in
       clash (cc)
   op_case P θ (app g args & us) b J c =
-      let f = F _ (app g args) (here_one arities vals starts src at k n o θ (app g args) us J) in
-      let q : g ≡ tag = sym f.tag_is in
+      let f : sy.Op tag number next ≡ sy.Op g (count args) (at + length (groups g)) =
+      sym b ∙ F _ (app g args) (here_one arities vals starts src at k n o θ (app g args) us J) in
+      let q : g ≡ tag = cc in
+      let d : next ≡ at + length (groups g) = cc in
       subst (λ (i : ℕ). P (app i args & us)) (sym q)
-      (c args us (sym f.number_is) (f.next_is ∙ ap (λ (i : ℕ). at + length (groups i)) q)
+      (c args us (cc) (d ∙ ap (λ (i : ℕ). at + length (groups i)) q)
       (subst (λ (i : ℕ). Job arities vals starts src at k n o θ (app i args & us)) q J))
 
+module _ (arities vals starts src : List ℕ) (at k n o : ℕ) (y : Symbol) (next : ℕ)
+    (F : Promises₂ (Here arities src at) (λ (e : ℕ) (t : Term). FirstAt t at y)) (more : k ≢ 0) where
   -- the place moves on, within the source
-  pub ahead : Asks₂ (Job arities vals starts src at k n o) → (at < next) × (at < length src)
-  ahead (θ, nil, J) = absurd (more (sym J.many))
-  ahead (θ, (leaf kd m & us), J) =
-      let f = F _ (leaf kd m) (here_one arities vals starts src at k n o θ (leaf kd m) us J) in
+  pub ahead : place_behind y ≡ next → Asks₂ (Job arities vals starts src at k n o) → (at < next) × (at < length src)
+  ahead d (θ, nil, J) = absurd (more (sym J.many))
+  ahead d (θ, (leaf kd m & us), J) =
+      let f = ap place_behind (F _ (leaf kd m) (here_one arities vals starts src at k n o θ (leaf kd m) us J)) in
       let l = encode_some (leaf kd m) in
-      (omega (arith, f.next_is, l), omega (arith, l, inside_source arities vals starts src at k n o θ (leaf kd m) us J))
-  ahead (θ, (app g args & us), J) =
-      let f = F _ (app g args) (here_one arities vals starts src at k n o θ (app g args) us J) in
+      (omega (arith, f, d, l), omega (arith, l, inside_source arities vals starts src at k n o θ (leaf kd m) us J))
+  ahead d (θ, (app g args & us), J) =
+      let f = ap place_behind (F _ (app g args) (here_one arities vals starts src at k n o θ (app g args) us J)) in
       let l = encode_some (app g args) in
-      (omega (arith, f.next_is, groups_some g), omega (arith, l, inside_source arities vals starts src at k n o θ (app g args) us J))
+      (omega (arith, f, d, groups_some g), omega (arith, l, inside_source arities vals starts src at k n o θ (app g args) us J))
 
 -- ── a leaf ──
 leaf_made : (around : ℕ) (θ : ℕ → Term) (kd : Kind) (m : ℕ) → made around θ (leaf kd m) ≡ sub θ (leaf kd m)
@@ -151,11 +158,11 @@ leaf_job arities vals starts src at k n o tag number θ kd us t J = record {
   room = let r = room_one arities vals starts src at k n o θ (leaf kd number) us J in omega arith;
 }
 
-module _ (arities vals starts src : List ℕ) (at k : ℕ) (out : List ℕ) (o : ℕ) (is_leaf : Bool) (tag number next : ℕ)
-    (F : Promises₂ (Here arities src at) (λ (e : ℕ) (t : Term). FirstAt t at is_leaf tag number next)) (more : k ≢ 0) (b : is_leaf ≡ true) where
+module _ (arities vals starts src : List ℕ) (at k : ℕ) (out : List ℕ) (o : ℕ) (y : Symbol) (tag number next : ℕ)
+    (F : Promises₂ (Here arities src at) (λ (e : ℕ) (t : Term). FirstAt t at y)) (more : k ≢ 0) (b : y ≡ sy.Leaf tag number next) where
   pub leaf_asks : Asks₂ (Job arities vals starts src at k (length out) o) → Asks₂ (LeafJob vals starts (length out) o tag number)
   leaf_asks (θ, ts, J) =
-      leaf_case arities vals starts src at k (length out) o is_leaf tag number next F more
+      leaf_case arities vals starts src at k (length out) o y tag number next F more
       (λ ts. (Asks₂ (LeafJob vals starts (length out) o tag number))) θ ts b J
       (λ kd us t p J. (θ, kd, leaf_job arities vals starts src at k (length out) o tag number θ kd us t J))
 
@@ -171,7 +178,7 @@ module _ (arities vals starts src : List ℕ) (at k : ℕ) (out : List ℕ) (o :
 
     pub leaf_next : Asks₂ (Job arities vals starts src at k (length out) o) → Asks₂ (Job arities vals starts src next (k - 1) (length out₁) p)
     leaf_next (θ, ts, J) =
-        leaf_case arities vals starts src at k (length out) o is_leaf tag number next F more
+        leaf_case arities vals starts src at k (length out) o y tag number next F more
         (λ ts. (Asks₂ (Job arities vals starts src next (k - 1) (length out₁) p))) θ ts b J
         (λ kd us t e J. (θ, us, rest_job θ kd us t e J))
 
@@ -183,7 +190,7 @@ module _ (arities vals starts src : List ℕ) (at k : ℕ) (out : List ℕ) (o :
         o'
         (encodes ts) (encodes (mades around θ ts)))
     leaf_done around rest q out' at' o' M θ ts J =
-        leaf_case arities vals starts src at k (length out) o is_leaf tag number next F more
+        leaf_case arities vals starts src at k (length out) o y tag number next F more
         (λ ts. Out (o + length (encodes (subs θ ts)) + term_room) at out o out' at' o' (encodes ts) (encodes (mades around θ ts))) θ ts b J
         (λ kd us t e J.
         let d = D θ kd (leaf_job arities vals starts src at k (length out) o tag number θ kd us t J) in

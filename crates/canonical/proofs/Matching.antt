@@ -4,7 +4,7 @@ use mathlib.Core.List.{List, [], ◌++◌, append_assoc}
 use mathlib.Core.Path.{◌≡◌, refl, ap, ap₂, sym, ◌∙◌, subst}
 use mathlib.Core.Logic.{◌≢◌, ◌⊎◌, inl, inr, ⊎_elim}
 use mathlib.Core.Bool.{Bool, true, false, cond}
-use Rattle.std.proofs.Common.{Some}
+use Rattle.std.proofs.Common.{Option, Some, None}
 use native.Mathlib.Omega.{arith}
 use lib.Dec.{eqb}
 use lib.ListN.{length, drop, get_or, set, length-set, length-append}
@@ -22,8 +22,6 @@ use Rattle.message.specs.Substitution.{sub, subs}
 use Rattle.message.specs.Substitution.Laws.{subs_count}
 use Rattle.factors.specs.Laid.{Laid, OneAt, also}
 use Rattle.factors.specs.Laid.Laws.{first_of, others_of, args_of, laid_also, also_count, also_bytes}
-use Rattle.canonical.specs.declared.Match.{Match}
-use Rattle.canonical.specs.declared.Match.TheVariants as match
 use Rattle.canonical.specs.Inner.{Here}
 use Rattle.canonical.specs.Matching.{Patterns, Left, Solves, Further, Stepped, Solution, Fits}
 use Rattle.canonical.proofs.Parts.{same_term, other_term, here_within}
@@ -148,7 +146,7 @@ module _ (arities out : List ℕ) (e : ℕ) (patterns : List ℕ) (i at : ℕ) (
         go _ _ L (a_function f qs ps t ts) = let w = here_within t (argument_inside t (app f qs & ps) ts θ L) in omega (arith, w.0, w.1)
 
     pub function_other : get_or out at 0 ≢ get_or patterns i 0 → Promises₃ (Left arities out e patterns i at from to)
-        (Stepped arities out e patterns i at from to from to match.Nothing)
+        (Stepped arities out e patterns i at from to from to None)
     function_other d ps ts θ L η s = go ps ts L (next ps ts θ L) s
       where
         go : (ps ts : Terms) → Left arities out e patterns i at from to ps ts θ → Next ps ts → Solves to ps ts θ η → ⊥
@@ -196,7 +194,7 @@ module _ (arities out : List ℕ) (e : ℕ) (patterns : List ℕ) (i at : ℕ) (
         }
 
     pub function_same : get_or out at 0 ≡ get_or patterns i 0 → Promises₃ (Left arities out e patterns i at from to)
-        (Stepped arities out e patterns i at from to from to (match.On (i + 1) (at + 1)))
+        (Stepped arities out e patterns i at from to from to (Some (i + 1, at + 1)))
     function_same d ps ts θ L = (omega arith, go ps ts L (next ps ts θ L))
       where
         go : (ps ts : Terms) → Left arities out e patterns i at from to ps ts θ → Next ps ts
@@ -336,7 +334,7 @@ module _ (arities out : List ℕ) (e : ℕ) (patterns : List ℕ) (i at : ℕ) (
             go (p & ps) ts c z q = absurd (omega (arith, encode_some p, length-append (encode p) (encodes ps)))
 
         pub variable_first : Promises₃ (Left arities out e patterns i at from to)
-            (Stepped arities out e patterns i at from to (set from v at) (set to v behind) (match.On (i + 2) behind))
+            (Stepped arities out e patterns i at from to (set from v at) (set to v behind) (Some (i + 2, behind)))
         variable_first ps ts θ L = (omega arith, go (a_variable_lem ps ts θ L))
           where
             go : Variable ps ts θ → Further arities out e patterns at from to (i + 2) behind (set from v at) (set to v behind) ps ts θ
@@ -362,7 +360,7 @@ module _ (arities out : List ℕ) (e : ℕ) (patterns : List ℕ) (i at : ℕ) (
               S (θ v) (value_here (leaf variable v & ps) (t & ts) θ L) (at + length (encode t)) t (argument_inside t (leaf variable v & ps) ts θ L)
 
           pub variable_other : same ≡ false → Promises₃ (Left arities out e patterns i at from to)
-              (Stepped arities out e patterns i at from to from to match.Nothing)
+              (Stepped arities out e patterns i at from to from to None)
           variable_other d ps ts θ L η s =
               let W = a_variable_lem ps ts θ L in
               let q = number_is W.n W.ps₁ (W.t & W.ts₁) θ W.left in
@@ -397,7 +395,7 @@ module _ (arities out : List ℕ) (e : ℕ) (patterns : List ℕ) (i at : ℕ) (
               }
 
           pub variable_again : same ≡ true → Promises₃ (Left arities out e patterns i at from to)
-              (Stepped arities out e patterns i at from to from to (match.On (i + 2) (at + (get_or to v 0 - get_or from v 0))))
+              (Stepped arities out e patterns i at from to from to (Some (i + 2, at + (get_or to v 0 - get_or from v 0))))
           variable_again d ps ts θ L = (omega arith, go (a_variable_lem ps ts θ L))
             where
               go : Variable ps ts θ → Further arities out e patterns at from to (i + 2) (at + (get_or to v 0 - get_or from v 0)) from to ps ts θ
@@ -442,16 +440,16 @@ module _ (arities out : List ℕ) (e : ℕ) (patterns : List ℕ) (at₀ : ℕ) 
     pub walked_asks : Asks₃ (Left arities out e patterns 0 at₀ from₀ to₀) → Asks₃ (Left arities out e patterns i at from to)
     walked_asks (ps, ts, θ, L) = let w = W ps ts θ L in (w.ps', w.ts', w.θ', w.left)
 
-    module _ (from' to' : List ℕ) (r : Match) (S : Promises₃ (Left arities out e patterns i at from to)
+    module _ (from' to' : List ℕ) (r : Option (ℕ × ℕ)) (S : Promises₃ (Left arities out e patterns i at from to)
         (Stepped arities out e patterns i at from to from' to' r)) where
       -- nearer to the end
-      pub walked_ahead : (i' at' : ℕ) → r ≡ match.On i' at' → Asks₃ (Left arities out e patterns 0 at₀ from₀ to₀) → i < i'
+      pub walked_ahead : (i' at' : ℕ) → r ≡ Some (i', at') → Asks₃ (Left arities out e patterns 0 at₀ from₀ to₀) → i < i'
       walked_ahead i' at' q (ps, ts, θ, L) = let w = W ps ts θ L in (rw q at (S w.ps' w.ts' w.θ' w.left)).0
 
-      pub walked_next : (i' at' : ℕ) → r ≡ match.On i' at' → Walked i' at' from' to'
+      pub walked_next : (i' at' : ℕ) → r ≡ Some (i', at') → Walked i' at' from' to'
       walked_next i' at' q ps ts θ L =
           let w = W ps ts θ L in
-          let s : Stepped arities out e patterns i at from to from' to' (match.On i' at') w.ps' w.ts' w.θ' = rw q at
+          let s : Stepped arities out e patterns i at from to from' to' (Some (i', at')) w.ps' w.ts' w.θ' = rw q at
           (S w.ps' w.ts' w.θ' w.left) in
           let x = s.1 in
           let a = w.onward in
@@ -470,24 +468,24 @@ module _ (arities out : List ℕ) (e : ℕ) (patterns : List ℕ) (at₀ : ℕ) 
                 (x.lies v h);
           }
 
-      pub walked_none : r ≡ match.Nothing → Promises₃ (Left arities out e patterns 0 at₀ from₀ to₀) (Fits arities out at₀ to₀ from' to' false)
+      pub walked_none : r ≡ None → Promises₃ (Left arities out e patterns 0 at₀ from₀ to₀) (Fits arities out at₀ to₀ from' to' false)
       walked_none q ps ts θ L η y =
           let w = W ps ts θ L in
-          let s : Stepped arities out e patterns i at from to from' to' match.Nothing w.ps' w.ts' w.θ' = rw q at
+          let s : Stepped arities out e patterns i at from to from' to' None w.ps' w.ts' w.θ' = rw q at
           (S w.ps' w.ts' w.θ' w.left) in
           s η (w.forth η y)
 
     pub walked_done : length patterns ≤ i → Promises₃ (Left arities out e patterns 0 at₀ from₀ to₀) (Fits arities out at₀ to₀ from to true)
     walked_done z ps ts θ L = go (W ps ts θ L)
       where
-        None : (ps' ts' : Terms) (θ' : ℕ → Term) → Left arities out e patterns i at from to ps' ts' θ' → (ps' ≡ nil) × (ts' ≡ nil)
-        None nil nil θ' M = (refl, refl)
-        None nil (t & ts) θ' M = absurd (omega (arith, M.many))
-        None (p & ps) ts θ' M = absurd (omega (arith, M.pattern_ends, encode_some p, length-append (encode p) (encodes ps)))
+        over : (ps' ts' : Terms) (θ' : ℕ → Term) → Left arities out e patterns i at from to ps' ts' θ' → (ps' ≡ nil) × (ts' ≡ nil)
+        over nil nil θ' M = (refl, refl)
+        over nil (t & ts) θ' M = absurd (omega (arith, M.many))
+        over (p & ps) ts θ' M = absurd (omega (arith, M.pattern_ends, encode_some p, length-append (encode p) (encodes ps)))
 
         go : Further arities out e patterns at₀ from₀ to₀ i at from to ps ts θ → Solution arities out at₀ to₀ from to ps ts θ
         go w =
-            let n = None w.ps' w.ts' w.θ' w.left in
+            let n = over w.ps' w.ts' w.θ' w.left in
             let met : (v : ℕ) → Occurss variable v ps → 0 < get_or to v 0 =
             λ v o. ⊎_elim (λ p. absurd (rw n.0 at p)) (λ p. p) (w.seen v (inl o)) in
             record {

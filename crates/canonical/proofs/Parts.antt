@@ -14,7 +14,9 @@ use Rattle.std.specs.declared.cmp.Ordering.{Ordering}
 use Rattle.std.specs.declared.cmp.Ordering.TheVariants.{Less, Equal, Greater}
 use Rattle.octets.specs.Head.{Bytes, stands_within}
 use Rattle.number.specs.Reading.{got}
-use Rattle.term.specs.declared.Part.TheVariants as part
+use Rattle.std.proofs.Common.{Some, None}
+use Rattle.std.proofs.lemmas.Option.{some_pair_parts}
+use Rattle.lists.specs.Tests.{some_none}
 use Rattle.number.specs.Groups.{groups}
 use Rattle.term.specs.declared.Symbol.TheVariants as sy
 use Rattle.term.specs.Term.{Term, leaf, app, Terms, nil, ◌&◌, tag_of, count, encode, symbols, Formed}
@@ -34,11 +36,11 @@ module _ (arities src : List ℕ) (bytes : Bytes src) (at : ℕ) where
   reads t e h =
       term_back src arities bytes t at _ h.formed h.range h.stands.there ∙ ap (got t) (sym h.stands.ends)
 
-  pub end_is : (r n : ℕ) → ended (term src arities at) ≡ part.End r n → Promises₂ (Here arities src at) (λ (e : ℕ) (t : Term). r ≡ e)
-  end_is r n g e t h = let q : part.End r n ≡ part.End e (symbols t) = sym g ∙ ap ended (reads t e h) in cc
+  pub end_is : (r n : ℕ) → ended (term src arities at) ≡ Some (r, n) → Promises₂ (Here arities src at) (λ (e : ℕ) (t : Term). r ≡ e)
+  end_is r n g e t h = (some_pair_parts r e n (symbols t) (sym g ∙ ap ended (reads t e h))).0
 
-  pub end_none : ended (term src arities at) ≡ part.Fault → (r : ℕ) → Promises₂ (Here arities src at) (λ (e : ℕ) (t : Term). r ≡ e)
-  end_none g r e t h = let q : part.Fault ≡ part.End e (symbols t) = sym g ∙ ap ended (reads t e h) in clash (cc)
+  pub end_none : ended (term src arities at) ≡ None → (r : ℕ) → Promises₂ (Here arities src at) (λ (e : ℕ) (t : Term). r ≡ e)
+  end_none g r e t h = absurd (some_none (e, symbols t) (sym (ap ended (reads t e h)) ∙ g))
 
   pub bytes_are : (t : Term) (e : ℕ) → Here arities src at e t → bytes_of (term src arities at) ≡ encode t
   bytes_are t e h = ap bytes_of (reads t e h)
@@ -57,14 +59,14 @@ module _ (arities src : List ℕ) (at : ℕ) where
 
     pub leaf_ends : get_or src (at + 1) 0 < 128 → Promises₂ (Here arities src at) (λ (e : ℕ) (t : Term). at + 2 ≡ e)
     leaf_ends s e (leaf k n) h =
-        let b : symbol_at src arities at ≡ sy.Leaf _ _ (at + 1 + 1) = name_there arities src at (as_one (e, leaf k n, h)) l s in
-        let q : sy.Leaf (tag_of k) n (at + length (encode (leaf k n))) ≡ sy.Leaf _ _ (at + 1 + 1) =
+        let b : symbol_at src arities at ≡ Some (sy.Leaf _ _ (at + 1 + 1)) = name_there arities src at (as_one (e, leaf k n, h)) l s in
+        let q : Some (sy.Leaf (tag_of k) n (at + length (encode (leaf k n)))) ≡ Some (sy.Leaf _ _ (at + 1 + 1)) =
         sym (symbol_of_leaf src arities k n at (drop e src) h.range h.stands.there) ∙ b in
         let z : at + length (encode (leaf k n)) ≡ at + 1 + 1 = cc in
         omega (arith, z, h.stands.ends)
     leaf_ends s e (app f ts) h =
-        let b : symbol_at src arities at ≡ sy.Leaf _ _ (at + 1 + 1) = name_there arities src at (as_one (e, app f ts, h)) l s in
-        let q : sy.Op f (count ts) (at + length (groups f)) ≡ sy.Leaf _ _ (at + 1 + 1) =
+        let b : symbol_at src arities at ≡ Some (sy.Leaf _ _ (at + 1 + 1)) = name_there arities src at (as_one (e, app f ts, h)) l s in
+        let q : Some (sy.Op f (count ts) (at + length (groups f))) ≡ Some (sy.Leaf _ _ (at + 1 + 1)) =
         sym (symbol_of_app src arities f ts at (drop e src) h.formed.0 h.range.0 h.stands.there) ∙ b in
         clash (cc)
 

@@ -3,7 +3,6 @@ use Prim.Native.Nat.{ℕ, ◌+◌, ◌-◌, ◌≤◌}
 use mathlib.Core.List.{List, [], ◌++◌, append_assoc, append-nil}
 use mathlib.Core.Path.{◌≡◌, refl, ap, sym, ◌∙◌, subst}
 use mathlib.Core.Logic.{◌≢◌, inl, inr, ◌⊎◌, ⊎_elim}
-use mathlib.Core.Bool.{Bool, true, false}
 use native.Mathlib.Omega.{arith}
 use lib.ListN.{length, drop, length-append}
 use Rattle.lists.specs.Asks.{Asks₂, Promises₂}
@@ -18,6 +17,8 @@ use Rattle.message.specs.Substitution.{sub, subs}
 use Rattle.message.specs.Parts.Entries.{Each}
 use Rattle.factors.specs.Laid.{Laid, also}
 use Rattle.factors.specs.Laid.Laws.{first_of, others_of, args_of, laid_also, also_count, also_bytes}
+use Rattle.term.specs.declared.Symbol.{Symbol}
+use Rattle.term.specs.declared.Symbol.TheVariants as sy
 use Rattle.canonical.specs.First.{FirstAt}
 use Rattle.canonical.specs.Contract.{Job, Out}
 use Rattle.canonical.specs.Inner.{LeafJob, Here, Going}
@@ -74,28 +75,28 @@ also_job arities vals starts src at k n o θ f args us J at' number n' o' p c e 
     }
 
 -- ── one symbol ──
-module _ (arities vals starts src : List ℕ) (at k : ℕ) (out : List ℕ) (o : ℕ) (is_leaf : Bool) (tag number next : ℕ)
-    (F : Promises₂ (Here arities src at) (λ (e : ℕ) (t : Term). FirstAt t at is_leaf tag number next)) (more : k ≢ 0) where
+module _ (arities vals starts src : List ℕ) (at k : ℕ) (out : List ℕ) (o : ℕ) (y : Symbol) (tag number next : ℕ)
+    (F : Promises₂ (Here arities src at) (λ (e : ℕ) (t : Term). FirstAt t at y)) (more : k ≢ 0) where
   pub leaf_goes :
-      (b : is_leaf ≡ true) (out₁ : List ℕ) (p : ℕ) → length out₁ ≡ length out → Promises₂ (LeafJob vals starts (length out) o tag number)
+      (b : y ≡ sy.Leaf tag number next) (out₁ : List ℕ) (p : ℕ) → length out₁ ≡ length out → Promises₂ (LeafJob vals starts (length out) o tag number)
       (λ (θ : ℕ → Term) (kd : Kind). Wrote p out o out₁ p (encode (sub θ (leaf kd number))))
       → Promises₂ (Job arities vals starts src at k (length out) o) (Going arities vals starts src at out o next (k - 1) out₁ p)
   leaf_goes b out₁ p same D θ ts J =
-      leaf_case arities vals starts src at k (length out) o is_leaf tag number next F more (Going arities vals starts src at out o next (k - 1) out₁ p θ) θ ts b
+      leaf_case arities vals starts src at k (length out) o y tag number next F more (Going arities vals starts src at out o next (k - 1) out₁ p θ) θ ts b
       J
       (λ kd us t e J. record {
         us = us;
-        job = rest_job arities vals starts src at k out o is_leaf tag number next F more b out₁ p same D θ kd us t e J;
+        job = rest_job arities vals starts src at k out o y tag number next F more b out₁ p same D θ kd us t e J;
         read = omega (arith, e, length-append (encode (leaf kd number)) (encodes us));
         q = encode (sub θ (leaf kd number));
         wrote = D θ kd (leaf_job arities vals starts src at k (length out) o tag number θ kd us t J);
         same = refl;
       })
 
-  module _ (b : is_leaf ≡ false) (out₁ : List ℕ) (a : ℕ) (same : length out₁ ≡ length out) (A : Wrote a out o out₁ a (groups tag)) where
+  module _ (b : y ≡ sy.Op tag number next) (out₁ : List ℕ) (a : ℕ) (same : length out₁ ≡ length out) (A : Wrote a out o out₁ a (groups tag)) where
     pub op_goes : Promises₂ (Job arities vals starts src at k (length out) o) (Going arities vals starts src at out o next (k - 1 + number) out₁ a)
     op_goes θ ts J =
-        op_case arities vals starts src at k (length out) o is_leaf tag number next F more
+        op_case arities vals starts src at k (length out) o y tag number next F more
         (Going arities vals starts src at out o next (k - 1 + number) out₁ a θ) θ ts b J
         (λ args us c e J.
         let h = ap length (also_bytes args us) ∙ length-append (encodes args) (encodes us) in

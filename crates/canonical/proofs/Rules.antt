@@ -214,7 +214,7 @@ module _ (arities out : List ℕ) (o e : ℕ) (patterns result : List ℕ) where
             let w = here_within (S.η n) H in
             let low : o ≤ get_or from' n 0 = ⊎_elim (λ l. omega (arith, l)) (λ l. absurd (omega (arith, zeros 2 n, l))) (S.lies n i) in
             a_value n g (patterns_occurs n R.row.rule.args R.row.shaped i) low (omega (arith, w.0)) w.1 H.stands
-        go _ g (message.a_constant {f = f} s ord None ar) b =
+        go _ g (message.a_constant {f = f} s ord no_rule ar) b =
             let l = (group arities R.built.table).no_leaf f 0 ar in
             a_constant f g (omega (arith, l)) (omega arith) (sym g) (place_fits arities out o e _ (us, R.built)).0
 

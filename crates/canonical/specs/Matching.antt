@@ -1,6 +1,6 @@
 -- A rule's patterns against the arguments of a function, symbol by symbol: what is left of both, and where the values of the variables stand.
 use Rattle.std.specs.Prelude.{ℕ, ◌+◌, ◌≤◌, ◌<◌, List, ◌≡◌, ◌⊎◌, Bool, true, false, length, get_or}
-use Rattle.std.specs.Prelude.{Some}
+use Rattle.std.specs.Prelude.{Option, Some, None}
 use Rattle.octets.specs.Limits.{longest}
 use Rattle.octets.specs.Head.{Stands}
 use Rattle.term.specs.Tags.{first_function}
@@ -11,8 +11,6 @@ use Rattle.message.specs.Substitution.{subs}
 use Rattle.message.specs.Rules.{Rule}
 use Rattle.message.specs.Table.{rules}
 use Rattle.factors.specs.Laid.{Laid}
-use Rattle.canonical.specs.declared.Match.{Match}
-use Rattle.canonical.specs.declared.Match.TheVariants as match
 use Rattle.canonical.specs.Inner.{Here, Built}
 
 -- as many variables as a rule has at most
@@ -63,10 +61,10 @@ pub record Further (arities out : List ℕ) (e : ℕ) (patterns : List ℕ) (at 
   pub onward : at ≤ at'
   pub lies : (v : ℕ) → 0 < get_or to' v 0 → (at ≤ get_or from' v 0) ⊎ ((0 < get_or to v 0) × (get_or from' v 0 ≡ get_or from v 0))
 
-abbrev pub Stepped : List ℕ → List ℕ → ℕ → List ℕ → ℕ → ℕ → List ℕ → List ℕ → List ℕ → List ℕ → Match → Terms → Terms → (ℕ → Term) → Type 0
-Stepped arities out e patterns i at from to from' to' (match.On i' at') ps ts θ =
+abbrev pub Stepped : List ℕ → List ℕ → ℕ → List ℕ → ℕ → ℕ → List ℕ → List ℕ → List ℕ → List ℕ → Option (ℕ × ℕ) → Terms → Terms → (ℕ → Term) → Type 0
+Stepped arities out e patterns i at from to from' to' (Some (i', at')) ps ts θ =
     (i < i') × Further arities out e patterns at from to i' at' from' to' ps ts θ
-Stepped arities out e patterns i at from to from' to' match.Nothing ps ts θ = (η : ℕ → Term) → Solves to ps ts θ η → ⊥
+Stepped arities out e patterns i at from to from' to' None ps ts θ = (η : ℕ → Term) → Solves to ps ts θ η → ⊥
 
 -- at the end: a solution, its values at their places; or there is none
 pub record Solution (arities out : List ℕ) (at : ℕ) (to from' to' : List ℕ) (ps ts : Terms) (θ : ℕ → Term) : Type 0 where

@@ -21,7 +21,7 @@ ghost use Rattle.canonical.specs.Contract.{Job, Out, MessageAt, MessageIs, form_
 ghost use Rattle.canonical.specs.Inner.{LeafJob, Here, Built, Going};
 ghost use Rattle.canonical.specs.Matching.{Left, Stepped, Fits, Given, Ruled};
 
-use term::{Part, Symbol};
+use term::Symbol;
 
 // The room in which a message's form is made: for the term, and behind it for a product.
 pub const FORM_ROOM: usize = term::TERM_ROOM + term::TERM_ROOM;
@@ -30,27 +30,10 @@ pub const FORM_ROOM: usize = term::TERM_ROOM + term::TERM_ROOM;
 const OUTSIDE: usize = term::VARIABLE;
 
 // The places of the terms to be read next and of what is to be written next.
-#[derive(Drop)]
+#[derive(Clone, Copy)]
 pub struct Next {
     pub at: usize,
     pub o: usize,
-}
-
-// The same behind one symbol, and how many terms are left there.
-#[derive(Drop)]
-struct Onward {
-    at: usize,
-    o: usize,
-    left: usize,
-}
-
-// The first symbol of a term: a leaf with its tag and number, or a function with its tag and arity; and the place behind it.
-#[derive(Drop)]
-struct Head {
-    leaf: bool,
-    tag: usize,
-    number: usize,
-    next: usize,
 }
 
 // As many variables as a rule has at most, and the tag of one.
@@ -58,43 +41,11 @@ const VARIABLES: usize = 2;
 
 const A_VARIABLE: u8 = term::VARIABLE as u8;
 
-// Where patterns and arguments go on behind a symbol; or the arguments are no instance.
-#[derive(Drop)]
-enum Match {
-    On(usize, usize),
-    Nothing,
-}
-
-fn wide(x: u8) -> usize
-    ensures { result ≡ x }
+// The first symbol of the term at a place; where no term stands nothing is said of it.
+fn first(src: &[u8], arities: &[u8], at: usize) -> Symbol
+    ensures { Promises₂ (Here arities.now src.now at) (λ (e : ℕ) (t : Term). FirstAt t at result) }
 {
-    x as usize
-}
-
-// The first symbol of the term at a place.
-fn first(src: &[u8], arities: &[u8], at: usize) -> Head
-    ensures { Promises₂ (Here arities.now src.now at) (λ (e : ℕ) (t : Term). FirstAt t at result.leaf result.tag result.number result.next) }
-{
-    match term::symbol_at(src, arities, at) {
-        Symbol::Leaf(t, n, e) => Head {
-            leaf: true,
-            tag: t,
-            number: n as usize,
-            next: e,
-        },
-        Symbol::Op(t, k, e) => Head {
-            leaf: false,
-            tag: t,
-            number: k as usize,
-            next: e,
-        },
-        Symbol::Fault => Head {
-            leaf: true,
-            tag: term::VARIABLE,
-            number: 0,
-            next: at,
-        },
-    }
+    term::symbol_at(src, arities, at).unwrap_or(Symbol::Leaf(term::VARIABLE, 0, at))
 }
 
 // The place behind the term at a place.
@@ -103,8 +54,8 @@ fn end_of(src: &[u8], arities: &[u8], at: usize) -> usize
     ensures { Promises₂ (Here arities.now src.now at) (λ (e : ℕ) (t : Term). result ≡ e) }
 {
     match term::term_end(src, arities, at) {
-        Part::End(e, _) => e,
-        Part::Fault => at,
+        Some((e, _)) => e,
+        None => at,
     }
 }
 
@@ -129,7 +80,7 @@ fn move_to(out: &mut [u8], o: usize, from: usize, to: usize) -> usize
 fn is_product(tag: usize) -> bool
     ensures { result ≡ is_product tag }
 {
-    (tag == term::ONE) | ((tag == term::INV) | (tag == term::MUL))
+    matches!(tag, term::ONE | term::INV | term::MUL)
 }
 
 // What counts as the function around the arguments behind the first: an exponent is made as a factor.
@@ -144,11 +95,11 @@ fn beside(around: usize) -> usize
 }
 
 // Writes a number.
-fn put_number(out: &mut [u8], o: usize, n: usize) -> usize
-    requires { (n < number_limit) × (o + length (groups n) ≤ length out.old) }
+fn put_number(out: &mut [u8], o: usize, n: u32) -> usize
+    requires { o + length (groups n) ≤ length out.old }
     ensures { Wrote result out.old o out.new result (groups n) }
 {
-    number::write_number(out, o, n as u32)
+    number::write_number(out, o, n)
 }
 
 // Writes a leaf: the value of a variable, or a name as it stands.
@@ -156,7 +107,7 @@ fn put_leaf(
     out: &mut [u8],
     o: usize,
     tag: usize,
-    number: usize,
+    number: u32,
     vals: &[u8],
     starts: &[usize],
 ) -> usize
@@ -164,11 +115,10 @@ fn put_leaf(
     ensures { Promises₂ (LeafJob vals.now starts.now (length out.old) o tag number) (λ (θ : ℕ → Term) (k : Kind). Wrote result out.old o out.new result (encode (sub θ (leaf k number)))) }
 {
     if tag == term::VARIABLE {
-        let from = starts[number];
-        let to = starts[number + 1];
-        return octets::copy_into(out, o, &vals[from..to]);
+        let v = number as usize;
+        return octets::copy_into(out, o, &vals[starts[v]..starts[v + 1]]);
     }
-    let a = put_number(out, o, tag);
+    let a = put_number(out, o, tag as u32);
     put_number(out, a, number)
 }
 
@@ -202,31 +152,31 @@ fn step(
     i: usize,
     from: &mut [usize; VARIABLES],
     to: &mut [usize; VARIABLES],
-) -> Match
+) -> Option<(usize, usize)>
     requires { (i < length patterns.now) × Asks₃ (Left arities.now out.now e patterns.now i at from.old to.old) }
     ensures { Promises₃ (Left arities.now out.now e patterns.now i at from.old to.old) (Stepped arities.now out.now e patterns.now i at from.old to.old from.new to.new result) }
 {
     let tag = patterns[i];
     if tag != A_VARIABLE {
         if out[at] != tag {
-            return Match::Nothing;
+            return None;
         }
-        return Match::On(i + 1, at + 1);
+        return Some((i + 1, at + 1));
     }
-    let v = wide(patterns[i + 1]);
+    let v = patterns[i + 1] as usize;
     let next = i + 2;
     let end = to[v];
     if end == 0 {
         let behind = argument_end(out, arities, at, e, patterns.len() - next);
         from[v] = at;
         to[v] = behind;
-        return Match::On(next, behind);
+        return Some((next, behind));
     }
     let start = from[v];
     if again(out, arities, start, end, at) {
-        return Match::On(next, at + (end - start));
+        return Some((next, at + (end - start)));
     }
-    Match::Nothing
+    None
 }
 
 // Whether the arguments at a place, up to e, are an instance of the patterns; and where the values of the variables stand.
@@ -246,11 +196,11 @@ fn fits(
     let mut a = at;
     while i < patterns.len() {
         match step(out, arities, a, e, patterns, i, from, to) {
-            Match::On(j, b) => {
+            Some((j, b)) => {
                 i = j;
                 a = b;
             }
-            Match::Nothing => {
+            None => {
                 return false;
             }
         }
@@ -270,7 +220,7 @@ fn put_result(
     ensures { Promises (Given out.old o res.now from.now to.now) (λ (q : List ℕ). Wrote result out.old o out.new result q) }
 {
     if res[0] == A_VARIABLE {
-        let v = wide(res[1]);
+        let v = res[1] as usize;
         return move_to(out, o, from[v], to[v]);
     }
     octets::copy_into(out, o, res)
@@ -418,30 +368,30 @@ fn make(
     requires { Asks₂ (Job arities.now vals.now starts.now src.now p.at k (length out.old) p.o) }
     ensures { Promises₂ (Job arities.now vals.now starts.now src.now p.at k (length out.old) p.o) (λ (θ : ℕ → Term) (ts : Terms). Out (p.o + length (encodes (subs θ ts)) + term_room) p.at out.old p.o out.new result.at result.o (encodes ts) (encodes (mades around θ ts))) }
 {
-    let at = p.at;
-    let o = p.o;
     if k == 0 {
-        return Next { at: at, o: o };
+        return p;
     }
-    let h = first(src, arities, at);
-    let leaf = h.leaf;
-    if leaf {
-        let r = put_leaf(out, o, h.tag, h.number, vals, starts);
-        let next = Next { at: h.next, o: r };
-        if k == 1 {
-            return next;
+    match first(src, arities, p.at) {
+        Symbol::Leaf(tag, number, at) => {
+            let r = put_leaf(out, p.o, tag, number, vals, starts);
+            let next = Next { at: at, o: r };
+            if k == 1 {
+                return next;
+            }
+            make(out, src, next, k - 1, beside(around), arities, vals, starts)
         }
-        return make(out, src, next, k - 1, beside(around), arities, vals, starts);
+        Symbol::Op(tag, arity, at) => {
+            let a = put_number(out, p.o, tag as u32);
+            let first = Next { at: at, o: a };
+            let args = make(out, src, first, arity as usize, tag, arities, vals, starts);
+            let r = close(out, p.o, args.o, tag, around, arities);
+            let next = Next { at: args.at, o: r };
+            if k == 1 {
+                return next;
+            }
+            make(out, src, next, k - 1, beside(around), arities, vals, starts)
+        }
     }
-    let a = put_number(out, o, h.tag);
-    let first = Next { at: h.next, o: a };
-    let args = make(out, src, first, h.number, h.tag, arities, vals, starts);
-    let r = close(out, o, args.o, h.tag, around, arities);
-    let next = Next { at: args.at, o: r };
-    if k == 1 {
-        return next;
-    }
-    make(out, src, next, k - 1, beside(around), arities, vals, starts)
 }
 
 // Reads k terms at a place of src and writes their canonical forms, filled in with the canonical values of their variables, into the part
@@ -467,7 +417,8 @@ pub fn canonical_into(
     }
 }
 
-// Writes the first symbol of the k terms at a place: a leaf filled in, or the tag of a function, whose arguments are left.
+// Writes the first symbol of the k terms at a place: a leaf filled in, or the tag of a function, whose arguments are left. Gives the places behind it,
+// and how many terms are left there.
 fn put_symbol(
     out: &mut [u8],
     o: usize,
@@ -477,26 +428,19 @@ fn put_symbol(
     arities: &[u8],
     vals: &[u8],
     starts: &[usize],
-) -> Onward
+) -> (Next, usize)
     requires { (0 < k) × Asks₂ (Job arities.now vals.now starts.now src.now at k (length out.old) o) }
-    ensures { (at < result.at) × (at < length src.now) × Promises₂ (Job arities.now vals.now starts.now src.now at k (length out.old) o) (Going arities.now vals.now starts.now src.now at out.old o result.at result.left out.new result.o) }
+    ensures { (at < result.0.at) × (at < length src.now) × Promises₂ (Job arities.now vals.now starts.now src.now at k (length out.old) o) (Going arities.now vals.now starts.now src.now at out.old o result.0.at result.1 out.new result.0.o) }
 {
-    let h = first(src, arities, at);
-    let leaf = h.leaf;
-    if leaf {
-        let r = put_leaf(out, o, h.tag, h.number, vals, starts);
-        return Onward {
-            at: h.next,
-            o: r,
-            left: k - 1,
-        };
-    }
-    let r = put_number(out, o, h.tag);
-    let left = k - 1 + h.number;
-    Onward {
-        at: h.next,
-        o: r,
-        left: left,
+    match first(src, arities, at) {
+        Symbol::Leaf(tag, number, next) => {
+            let r = put_leaf(out, o, tag, number, vals, starts);
+            (Next { at: next, o: r }, k - 1)
+        }
+        Symbol::Op(tag, arity, next) => {
+            let r = put_number(out, o, tag as u32);
+            (Next { at: next, o: r }, k - 1 + arity as usize)
+        }
     }
 }
 
@@ -514,16 +458,14 @@ pub fn filled_into(
     requires { Asks₂ (Job arities.now vals.now starts.now src.now at k (length out.old) o) }
     ensures { Promises₂ (Job arities.now vals.now starts.now src.now at k (length out.old) o) (λ (θ : ℕ → Term) (ts : Terms). Out result.o at out.old o out.new result.at result.o (encodes ts) (encodes (subs θ ts))) }
 {
-    let mut i = at;
-    let mut e = o;
+    let mut p = Next { at: at, o: o };
     let mut left = k;
     while 0 < left {
-        let p = put_symbol(out, e, src, i, left, arities, vals, starts);
-        i = p.at;
-        e = p.o;
-        left = p.left;
+        let (next, more) = put_symbol(out, p.o, src, p.at, left, arities, vals, starts);
+        p = next;
+        left = more;
     }
-    Next { at: i, o: e }
+    p
 }
 
 // Writes the canonical form of the message at a place to the start of an output.

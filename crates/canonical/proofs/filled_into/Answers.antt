@@ -7,8 +7,8 @@ pub loop-left-init : goal.loop-left-init
 loop-left-init c =
     walk_first _ _ _ _ _ _ _ _
 
-pub put_symbol-p-requires : goal.put_symbol-p-requires
-put_symbol-p-requires c = (
+pub put_symbol-more-requires : goal.put_symbol-more-requires
+put_symbol-more-requires c = (
   c.loop-left-test.true,
   walk_asks _ _ _ _ _ _ _ _ _ _ _ _ c.loop-left.invariant
       c.requires,
@@ -16,12 +16,12 @@ put_symbol-p-requires c = (
 
 pub loop-left-smaller : goal.loop-left-smaller
 loop-left-smaller c =
-    omega (arith, c.put_symbol-p.ensures.0, c.put_symbol-p.ensures.1)
+    omega (arith, c.put_symbol-more.ensures.0, c.put_symbol-more.ensures.1)
 
 pub loop-left-preserved : goal.loop-left-preserved
 loop-left-preserved c =
-    walk_next _ _ _ _ _ _ _ _ _ _ _ _ c.loop-left.invariant _ _ _ _ c.put_symbol-p.auto.out
-    c.put_symbol-p.ensures.2
+    walk_next _ _ _ _ _ _ _ _ _ _ _ _ c.loop-left.invariant _ _ _ _ c.put_symbol-more.auto.out
+    c.put_symbol-more.ensures.2
 
 pub shape_of-out : goal.shape_of-out
 shape_of-out c =

@@ -6,8 +6,8 @@ use Rattle.canonical.proofs.filled_into.Given as goal
 
 abbrev pub invariant-loop-left : goal.invariant-loop-left
 invariant-loop-left l =
-    Walk l.arities l.vals l.starts l.src l.at l.k l.initial.out l.o l.i l.left l.out l.e
+    Walk l.arities l.vals l.starts l.src l.at l.k l.initial.out l.o l.p.at l.left l.out l.p.o
 
 abbrev pub decreases-loop-left : goal.decreases-loop-left
 decreases-loop-left l =
-    length l.src - l.i
+    length l.src - l.p.at

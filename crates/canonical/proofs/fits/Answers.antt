@@ -13,17 +13,17 @@ step-requires c =
 
 pub loop-i-smaller : goal.loop-i-smaller
 loop-i-smaller c =
-    let a = walked_ahead _ _ _ _ _ _ _ _ _ _ _ c.loop-i.invariant _ _ _ c.step.ensures _ _ c.in-On.is c.requires in
+    let a = walked_ahead _ _ _ _ _ _ _ _ _ _ _ c.loop-i.invariant _ _ _ c.step.ensures _ _ c.in-Some.is c.requires in
     omega (arith, a, c.loop-i-test.true)
 
 pub loop-i-preserved : goal.loop-i-preserved
 loop-i-preserved c =
-    walked_next _ _ _ _ _ _ _ _ _ _ _ c.loop-i.invariant _ _ _ c.step.ensures _ _ c.in-On.is
+    walked_next _ _ _ _ _ _ _ _ _ _ _ c.loop-i.invariant _ _ _ c.step.ensures _ _ c.in-Some.is
 
-pub returns-in-Nothing : goal.returns-in-Nothing
-returns-in-Nothing c =
+pub returns-in-None : goal.returns-in-None
+returns-in-None c =
     walked_none _ _ _ _ _ _ _ _ _ _ _ c.loop-i.invariant _ _ _ c.step.ensures
-    c.in-Nothing.is
+    c.in-None.is
 
 pub returns : goal.returns
 returns c =

@@ -5,24 +5,12 @@ use Rattle.canonical.proofs.Writes.{number_small, part_length}
 use Rattle.canonical.proofs.Leaves.{value_of, value_fits, value_done, name_of, name_done}
 use Rattle.canonical.proofs.put_leaf.Goals as goal
 
-pub offset_bounds-starts-number : goal.offset_bounds-starts-number
-offset_bounds-starts-number c =
-    omega (arith, number_small c.args.number c.requires.2.range)
-
-pub bounds-starts-number : goal.bounds-starts-number
-bounds-starts-number c =
+pub bounds-starts-v : goal.bounds-starts-v
+bounds-starts-v c =
     let l = (value_of _ _ _ _ _ _ _ _ c.if-tag-eq-VARIABLE.true c.requires.2).listed in omega arith
 
-pub overflow_add-to : goal.overflow_add-to
-overflow_add-to c =
-    omega (arith, number_small c.args.number c.requires.2.range)
-
-pub offset_bounds-starts-number-then-tag-eq-VARIABLE : goal.offset_bounds-starts-number-then-tag-eq-VARIABLE
-offset_bounds-starts-number-then-tag-eq-VARIABLE c =
-    omega (arith, number_small c.args.number c.requires.2.range)
-
-pub bounds-starts-number-then-tag-eq-VARIABLE : goal.bounds-starts-number-then-tag-eq-VARIABLE
-bounds-starts-number-then-tag-eq-VARIABLE c =
+pub bounds-starts-v-then-tag-eq-VARIABLE : goal.bounds-starts-v-then-tag-eq-VARIABLE
+bounds-starts-v-then-tag-eq-VARIABLE c =
     (value_of _ _ _ _ _ _ _ _ c.if-tag-eq-VARIABLE.true c.requires.2).listed
 
 pub slice_bounds-copy_into-count : goal.slice_bounds-copy_into-count
@@ -47,15 +35,19 @@ returns-then-tag-eq-VARIABLE c =
     value_done _ _ _ _ _ _ c.if-tag-eq-VARIABLE.true _ _ _ _ _ refl refl refl
     c.copy_into.ensures.next c.copy_into.ensures.wrote
 
+pub overflow_cast-tag : goal.overflow_cast-tag
+overflow_cast-tag c =
+    omega (arith, number_small _ (name_of _ _ _ _ _ _ _ _ c.if-tag-eq-VARIABLE.false c.requires.2).tag_range)
+
 pub put_number-a-requires : goal.put_number-a-requires
 put_number-a-requires c =
     let q = name_of _ _ _ _ _ _ _ _ c.if-tag-eq-VARIABLE.false c.requires.2 in
-    (q.tag_range, omega (arith, q.fits))
+    omega (arith, q.fits)
 
 pub put_number-requires : goal.put_number-requires
 put_number-requires c =
     let q = name_of _ _ _ _ _ _ _ _ c.if-tag-eq-VARIABLE.false c.requires.2 in
-    (q.number_range, omega (arith, q.fits, c.put_number-a.ensures.ends, c.put_number-a.auto))
+    omega (arith, q.fits, c.put_number-a.ensures.ends, c.put_number-a.auto)
 
 pub returns : goal.returns
 returns c =

@@ -1,5 +1,6 @@
 -- By the pattern's first byte: the same function or not; a variable's first place, its value again, or another term there.
 use native.Mathlib.Omega.{arith}
+use mathlib.Core.Path.{refl}
 use Rattle.canonical.proofs.Matching.{function_inside, function_other, function_same, number_inside, number_small, argument_here}
 use Rattle.canonical.proofs.Matching.{variable_first, value_inside, again_inside, variable_other, variable_again}
 use Rattle.canonical.proofs.step.Goals as goal
@@ -27,11 +28,11 @@ bounds-patterns-i-2 c =
 
 pub offset_bounds-to-v : goal.offset_bounds-to-v
 offset_bounds-to-v c =
-    let p = number_small _ _ _ _ _ _ _ _ c.requires.0 c.if-tag-ne-A_VARIABLE.false _ c.wide-v.ensures c.requires.1 in omega (arith, p)
+    let p = number_small _ _ _ _ _ _ _ _ c.requires.0 c.if-tag-ne-A_VARIABLE.false _ refl c.requires.1 in omega (arith, p)
 
 pub bounds-to-v : goal.bounds-to-v
 bounds-to-v c =
-    number_small _ _ _ _ _ _ _ _ c.requires.0 c.if-tag-ne-A_VARIABLE.false _ c.wide-v.ensures c.requires.1
+    number_small _ _ _ _ _ _ _ _ c.requires.0 c.if-tag-ne-A_VARIABLE.false _ refl c.requires.1
 
 pub overflow_sub-patterns : goal.overflow_sub-patterns
 overflow_sub-patterns c =
@@ -43,50 +44,50 @@ argument_end-behind-requires c =
 
 pub offset_bounds-from-v : goal.offset_bounds-from-v
 offset_bounds-from-v c =
-    let p = number_small _ _ _ _ _ _ _ _ c.requires.0 c.if-tag-ne-A_VARIABLE.false _ c.wide-v.ensures c.requires.1 in omega (arith, p)
+    let p = number_small _ _ _ _ _ _ _ _ c.requires.0 c.if-tag-ne-A_VARIABLE.false _ refl c.requires.1 in omega (arith, p)
 
 pub bounds-from-v : goal.bounds-from-v
 bounds-from-v c =
-    number_small _ _ _ _ _ _ _ _ c.requires.0 c.if-tag-ne-A_VARIABLE.false _ c.wide-v.ensures c.requires.1
+    number_small _ _ _ _ _ _ _ _ c.requires.0 c.if-tag-ne-A_VARIABLE.false _ refl c.requires.1
 
 pub offset_bounds-to-v-then-end-eq0 : goal.offset_bounds-to-v-then-end-eq0
 offset_bounds-to-v-then-end-eq0 c =
-    let p = number_small _ _ _ _ _ _ _ _ c.requires.0 c.if-tag-ne-A_VARIABLE.false _ c.wide-v.ensures c.requires.1 in omega (arith, p)
+    let p = number_small _ _ _ _ _ _ _ _ c.requires.0 c.if-tag-ne-A_VARIABLE.false _ refl c.requires.1 in omega (arith, p)
 
 pub bounds-to-v-then-end-eq0 : goal.bounds-to-v-then-end-eq0
 bounds-to-v-then-end-eq0 c =
-    number_small _ _ _ _ _ _ _ _ c.requires.0 c.if-tag-ne-A_VARIABLE.false _ c.wide-v.ensures c.requires.1
+    number_small _ _ _ _ _ _ _ _ c.requires.0 c.if-tag-ne-A_VARIABLE.false _ refl c.requires.1
 
 pub returns-then-end-eq0 : goal.returns-then-end-eq0
 returns-then-end-eq0 c =
-    variable_first _ _ _ _ _ _ _ _ c.requires.0 c.if-tag-ne-A_VARIABLE.false _ c.wide-v.ensures c.if-end-eq0.true _ c.argument_end-behind.ensures
+    variable_first _ _ _ _ _ _ _ _ c.requires.0 c.if-tag-ne-A_VARIABLE.false _ refl c.if-end-eq0.true _ c.argument_end-behind.ensures
 
 pub offset_bounds-from-v-2 : goal.offset_bounds-from-v-2
 offset_bounds-from-v-2 c =
-    let p = number_small _ _ _ _ _ _ _ _ c.requires.0 c.if-tag-ne-A_VARIABLE.false _ c.wide-v.ensures c.requires.1 in omega (arith, p)
+    let p = number_small _ _ _ _ _ _ _ _ c.requires.0 c.if-tag-ne-A_VARIABLE.false _ refl c.requires.1 in omega (arith, p)
 
 pub bounds-from-v-2 : goal.bounds-from-v-2
 bounds-from-v-2 c =
-    number_small _ _ _ _ _ _ _ _ c.requires.0 c.if-tag-ne-A_VARIABLE.false _ c.wide-v.ensures c.requires.1
+    number_small _ _ _ _ _ _ _ _ c.requires.0 c.if-tag-ne-A_VARIABLE.false _ refl c.requires.1
 
 pub again-requires : goal.again-requires
 again-requires c =
-    let p = value_inside _ _ _ _ _ _ _ _ c.requires.0 c.if-tag-ne-A_VARIABLE.false _ c.wide-v.ensures c.if-end-eq0.false c.requires.1 in
+    let p = value_inside _ _ _ _ _ _ _ _ c.requires.0 c.if-tag-ne-A_VARIABLE.false _ refl c.if-end-eq0.false c.requires.1 in
     (c.requires.1.3.short, p.0, p.1)
 
 pub overflow_sub-result : goal.overflow_sub-result
 overflow_sub-result c =
-    let p = value_inside _ _ _ _ _ _ _ _ c.requires.0 c.if-tag-ne-A_VARIABLE.false _ c.wide-v.ensures c.if-end-eq0.false c.requires.1 in omega (arith, p.0)
+    let p = value_inside _ _ _ _ _ _ _ _ c.requires.0 c.if-tag-ne-A_VARIABLE.false _ refl c.if-end-eq0.false c.requires.1 in omega (arith, p.0)
 
 pub overflow_add-result-then-again : goal.overflow_add-result-then-again
 overflow_add-result-then-again c =
-    let p = again_inside _ _ _ _ _ _ _ _ c.requires.0 c.if-tag-ne-A_VARIABLE.false _ c.wide-v.ensures c.if-end-eq0.false _ c.again.ensures c.if-again.true
+    let p = again_inside _ _ _ _ _ _ _ _ c.requires.0 c.if-tag-ne-A_VARIABLE.false _ refl c.if-end-eq0.false _ c.again.ensures c.if-again.true
     c.requires.1 in omega (arith, p, c.requires.1.3.short)
 
 pub returns-then-again : goal.returns-then-again
 returns-then-again c =
-    variable_again _ _ _ _ _ _ _ _ c.requires.0 c.if-tag-ne-A_VARIABLE.false _ c.wide-v.ensures c.if-end-eq0.false _ c.again.ensures c.if-again.true
+    variable_again _ _ _ _ _ _ _ _ c.requires.0 c.if-tag-ne-A_VARIABLE.false _ refl c.if-end-eq0.false _ c.again.ensures c.if-again.true
 
 pub returns : goal.returns
 returns c =
-    variable_other _ _ _ _ _ _ _ _ c.requires.0 c.if-tag-ne-A_VARIABLE.false _ c.wide-v.ensures c.if-end-eq0.false _ c.again.ensures c.if-again.false
+    variable_other _ _ _ _ _ _ _ _ c.requires.0 c.if-tag-ne-A_VARIABLE.false _ refl c.if-end-eq0.false _ c.again.ensures c.if-again.false
