@@ -11,28 +11,26 @@ ghost use Rattle.protocol.specs.Protocol.Walks.{asks, rule_asks};
 ghost use Rattle.protocol.specs.Index.{Placed};
 ghost use Rattle.rules.specs.Fit.{bound, p45, fits, judged};
 ghost use Rattle.lists.specs.Below.{least, all_below};
-ghost use Rattle.rules.specs.Fit.Laws.{hit_of, OfRule, Located, unfit, verdict_of, Indexes};
+ghost use Rattle.rules.specs.Fit.Laws.{hit_of, OfRule, Located, unfit, found, verdict_of, Indexes};
 
-use number::{Number, Seen};
 use protocol::figures::{ACTIONS, CONCLUSIONS, PREMISES, SYMBOL_KIND};
-use protocol::index::Index;
+use protocol::index::Counts;
 use protocol::{figures, index, places, walks};
 use term::VARIABLE;
 
-// A protocol file: fit, with the counts of fact symbols and of rules; the least rule that breaks a condition, from 1; a layout fault.
-#[derive(Drop)]
-pub enum FitVerdict {
-    Sound(usize, usize),
+// What makes a protocol file unfit: the least rule that breaks a condition, from 1; a layout fault.
+#[derive(Clone, Copy)]
+pub enum Unfit {
     Broken(usize),
     Fault,
 }
 
-fn hit_of(r: Seen) -> bool
+fn hit_of(r: Option<(usize, bool)>) -> bool
     ensures { result ≡ hit_of r }
 {
     match r {
-        Seen::End(_, h) => h,
-        Seen::Fault => false,
+        Some((_, h)) => h,
+        None => false,
     }
 }
 
@@ -99,12 +97,10 @@ fn all_bound(file: &[u8], arities: &[u8], ars: &[u8], x: RulePlaces, n: u32) -> 
     requires { (length file.now ≤ longest) × Located file.now arities.now ars.now x }
     ensures { OfRule file.now arities.now ars.now x.at (λ (r : Rule). n ≤ length r.sorts → result ≡ all_below (bound r) n) }
 {
-    let mut j: u32 = 0;
-    while j < n {
+    for j in 0..n {
         if !is_bound(file, arities, ars, x, j) {
             return false;
         }
-        j += 1;
     }
     true
 }
@@ -115,8 +111,8 @@ fn variables_bound(file: &[u8], arities: &[u8], ars: &[u8], x: RulePlaces) -> bo
     ensures { OfRule file.now arities.now ars.now x.at (λ (r : Rule). result ≡ p45 r) }
 {
     match walks::sorts_at(file, x.at) {
-        Number::Value(n, _) => all_bound(file, arities, ars, x, n),
-        Number::Fault => false,
+        Some((n, _)) => all_bound(file, arities, ars, x, n),
+        None => false,
     }
 }
 
@@ -166,19 +162,17 @@ fn rule_fits(file: &[u8], arities: &[u8], ars: &[u8], at: usize) -> bool
     !fresh & (!known & ((!made & !learnt) & held))
 }
 
-// The least of n rules that breaks a condition, counted from 1; 0 if there is none.
-fn least_unfit(file: &[u8], arities: &[u8], ars: &[u8], places: &[usize], n: usize) -> usize
+// The least of n rules that breaks a condition, counted from 1.
+fn least_unfit(file: &[u8], arities: &[u8], ars: &[u8], places: &[usize], n: usize) -> Option<usize>
     requires { (length file.now ≤ longest) × (n ≤ length places.now) }
-    ensures { (rs : List Rule) → Placed (rule file.now arities.now ars.now) empty_rule places.now rs n → result ≡ least (unfit rs) n }
+    ensures { (rs : List Rule) → Placed (rule file.now arities.now ars.now) empty_rule places.now rs n → result ≡ found (least (unfit rs) n) }
 {
-    let mut j: usize = 0;
-    while j < n {
+    for j in 0..n {
         if !rule_fits(file, arities, ars, places[j]) {
-            return j + 1;
+            return Some(j + 1);
         }
-        j += 1;
     }
-    0
+    None
 }
 
 // Reads a protocol file into its index, and judges it.
@@ -188,17 +182,14 @@ pub fn judge(
     ars: &mut [u8],
     flags: &mut [u8],
     places: &mut [usize],
-) -> FitVerdict
+) -> Result<Counts, Unfit>
     requires { (length file.now ≤ longest) × (length arities.old ≡ tag_count) × (symbol_count ≤ length ars.old) × (symbol_count ≤ length flags.old) × (most_rules ≤ length places.old) }
     ensures told { verdict_of result ≡ judged (protocol file.now) }
     ensures index { Indexes file.now result arities.new ars.new flags.new places.new }
 {
-    let Index::Counts(ns, nr) = index::read_protocol(file, arities, ars, flags, places) else {
-        return FitVerdict::Fault;
-    };
-    let k = least_unfit(file, arities, &ars[..ns], places, nr);
-    if k == 0 {
-        return FitVerdict::Sound(ns, nr);
+    let counts = index::read_protocol(file, arities, ars, flags, places).ok_or(Unfit::Fault)?;
+    match least_unfit(file, arities, &ars[..counts.symbols], places, counts.rules) {
+        Some(k) => Err(Unfit::Broken(k)),
+        None => Ok(counts),
     }
-    FitVerdict::Broken(k)
 }

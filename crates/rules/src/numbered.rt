@@ -58,12 +58,11 @@ const MOST_ARITY: u8 = figures::MOST_ARITY as u8;
 // The bytes of the longest built-in rule, which applies a function of the most arguments.
 pub const RULE_ROOM: usize = 6 + 6 * figures::MOST_ARITY;
 
-// So many bytes of the lent array; a place in the protocol file; no rule.
-#[derive(Drop)]
+// A rule that was found: so many bytes of the lent array; a place in the protocol file.
+#[derive(Clone, Copy)]
 pub enum FoundRule {
     Written(usize),
     At(usize),
-    Nothing,
 }
 
 // Rules 0 to 4.
@@ -124,26 +123,27 @@ fn put_apply(out: &mut [u8], t: u8, k: u8) -> usize
 }
 
 // The rule that applies the function of a tag, if there is one. No arity is above the most, so a slot above it is an undeclared tag's.
-fn apply_rule(arities: &[u8], t: usize, out: &mut [u8]) -> FoundRule
+fn apply_rule(arities: &[u8], t: usize, out: &mut [u8]) -> Option<FoundRule>
     requires { (first_function ≤ t) × (t < tag_count) × (length arities.now ≡ tag_count) × (rule_room ≤ length out.old) }
     ensures { (fs : List ℕ) → All (λ (a : ℕ). a < arity_limit) fs → arities.now ≡ tag_arities fs → Applies (tag_arities fs) t result out.new }
 {
     let k = arities[t];
     if MOST_ARITY < k {
-        return FoundRule::Nothing;
+        return None;
     }
-    FoundRule::Written(put_apply(out, t as u8, k))
+    Some(FoundRule::Written(put_apply(out, t as u8, k)))
 }
 
 // The place of a protocol rule.
-fn own_rule(places: &[usize], n: usize, k: usize) -> FoundRule
+fn own_rule(places: &[usize], n: usize, k: usize) -> Option<FoundRule>
     requires { n ≤ length places.now }
     ensures { result ≡ place_found places.now n k }
 {
     if k < n {
-        return FoundRule::At(places[k]);
+        Some(FoundRule::At(places[k]))
+    } else {
+        None
     }
-    FoundRule::Nothing
 }
 
 // The slot of a rule that is written out: they stand in the order of their numbers.
@@ -164,16 +164,16 @@ pub fn find_rule(
     nr: usize,
     number: usize,
     out: &mut [u8],
-) -> FoundRule
+) -> Option<FoundRule>
     requires { (length arities.now ≡ tag_count) × (nr ≤ length places.now) × (rule_room ≤ length out.old) }
     ensures { (file : List ℕ) (ns : ℕ) (ars flags : List ℕ) (i : Entries file ns nr arities.now ars flags places.now) → Finds i.is file arities.now (take ns ars) number result out.new }
 {
     match number {
-        0..=LAST_FIXED => FoundRule::Written(put_fixed(out, number)),
+        0..=LAST_FIXED => Some(FoundRule::Written(put_fixed(out, number))),
         FIRST_APPLY..=LAST_BUILTIN => apply_rule(arities, number - TAG_SHIFT, out),
         FIRST_FREE..=LAST_FREE => apply_rule(arities, number - TAG_SHIFT, out),
         FIRST_OWN..=LAST_OWN => own_rule(places, nr, number - FIRST_OWN),
         FIRST_SIGNING..=LAST_SIGNING => apply_rule(arities, number - SIGNING_SHIFT, out),
-        _ => FoundRule::Nothing,
+        _ => None,
     }
 }

@@ -1,33 +1,30 @@
 -- The tests of a rule as the code makes them, the least of several, and the judgement of a file.
-use Rattle.std.specs.Prelude.{ℕ, ◌≤◌, ◌<◌, List, Bool, true, false, ◌||◌, ◌&&◌, not, ◌≡◌, length, get_or, take, eqb}
+use Rattle.std.specs.Prelude.{Option, Some, None, Result, Ok, Err, ℕ, ◌+◌, ◌≤◌, ◌<◌, List, Bool, true, false, ◌||◌, ◌&&◌, not, ◌≡◌, refl, length, get_or, take, eqb}
 use Rattle.std.proofs.Common.{ap, ap₂, sym, ◌∙◌, subst, arith, eq-eqb, ne_eqb}
 use Rattle.number.specs.Groups.{number_limit}
 use Rattle.protocol.specs.Figures.{list_count}
-use Rattle.lists.specs.Choice.{clash}
+use Rattle.lists.specs.Choice.{pick, clash}
 use Rattle.lists.specs.Tests.{or_right}
 use Rattle.number.specs.Reading.{Read, got, fault, seen}
 use Rattle.lists.specs.Lists.{any_by}
-use Rattle.number.specs.declared.Seen.{Seen}
-use Rattle.number.specs.declared.Seen.TheVariants as sn
 use Rattle.protocol.specs.Protocol.{Fact, Rule, list_of, empty_rule, premises, actions, conclusions, facts, layout, rule, protocol}
 use Rattle.protocol.specs.Protocol.Walks.{asks, rule_asks, sorts_at, layout_fault}
 use Rattle.protocol.specs.Places.{Here, value_of, list_place, sort_of}
 use Rattle.protocol.specs.Places.Laws.{vars_law, list_law, sort_law, rule_layout}
 use Rattle.protocol.specs.Index.{Entries, Indexed, Placed}
-use Rattle.protocol.specs.declared.index.Index.{Index}
-use Rattle.protocol.specs.declared.index.Index.TheVariants as ix
+use Rattle.protocol.specs.declared.index.Counts.{Counts}
 use Rattle.rules.specs.declared.fit.RulePlaces.{RulePlaces}
-use Rattle.rules.specs.declared.fit.FitVerdict.{FitVerdict}
-use Rattle.rules.specs.declared.fit.FitVerdict.TheVariants as jd
+use Rattle.rules.specs.declared.fit.Unfit.{Unfit}
+use Rattle.rules.specs.declared.fit.Unfit.TheVariants as un
 use Rattle.rules.specs.Fit.{p1, stands, p45, bound, fits, Verdict, sound, broken, malformed, outcome, judged}
 use Rattle.lists.specs.Below.{least, all_below}
 
 -- ── what code has of a test ──
-abbrev pub hit_of : Seen → Bool
-hit_of (sn.End e b) = b
-hit_of sn.Fault = false
+abbrev pub hit_of : Option (ℕ × Bool) → Bool
+hit_of (Some (e, b)) = b
+hit_of None = false
 
-hit_is : {A : Type 0} (q : A → Bool) (r : Read A) {w : Seen} {x : A} {e : ℕ} → w ≡ seen q r → r ≡ got x e → hit_of w ≡ q x
+hit_is : {A : Type 0} (q : A → Bool) (r : Read A) {w : Option (ℕ × Bool)} {x : A} {e : ℕ} → w ≡ seen q r → r ≡ got x e → hit_of w ≡ q x
 hit_is q r h k = ap hit_of (h ∙ ap (seen q) k)
 
 -- the rule at a place, whatever rule that is, has this property
@@ -42,7 +39,7 @@ pub record Located (file arities ars : List ℕ) (x : RulePlaces) : Type 0 where
 
 -- the answer on a list
 pub list_asked :
-    (file arities ars : List ℕ) (start kind lo hi : ℕ) {o : Seen} {b : Bool} → b ≡ hit_of o
+    (file arities ars : List ℕ) (start kind lo hi : ℕ) {o : Option (ℕ × Bool)} {b : Bool} → b ≡ hit_of o
     → o ≡ seen (any_by (asks kind lo hi)) (facts file arities ars start)
     → (fs : List Fact) → Here (facts file arities ars) fs start → b ≡ any_by (asks kind lo hi) fs
 list_asked file arities ars start kind lo hi hb ho fs h =
@@ -58,7 +55,7 @@ module _ (file arities ars : List ℕ) (at : ℕ) where
 
   -- the answer on all of the rule
   pub rule_asked :
-      (kind lo hi : ℕ) {o : Seen} {b : Bool} → b ≡ hit_of o → o ≡ seen (rule_asks kind lo hi) (layout file arities ars at)
+      (kind lo hi : ℕ) {o : Option (ℕ × Bool)} {b : Bool} → b ≡ hit_of o → o ≡ seen (rule_asks kind lo hi) (layout file arities ars at)
       → OfRule file arities ars at (λ r. b ≡ rule_asks kind lo hi r)
   rule_asked kind lo hi hb ho r h = hb ∙ hit_is (rule_asks kind lo hi) (layout file arities ars at) ho h.reads
 
@@ -115,31 +112,49 @@ pub placed_fits :
 placed_fits file arities ars places n k b rs p l h =
     ap not (h (get_or rs k empty_rule) (rule_layout file arities ars (get_or places k 0) (get_or rs k empty_rule) (p.each k l)))
 
+-- a number from 1, of which 0 is none
+abbrev pub found : ℕ → Option ℕ
+found k = pick (eqb k 0) None (Some k)
+
 -- ── what the code answers of a file ──
-abbrev pub verdict_of : FitVerdict → Verdict
-verdict_of (jd.Sound ns nr) = sound
-verdict_of (jd.Broken k) = broken k
-verdict_of jd.Fault = malformed
+abbrev pub verdict_of : Result Counts Unfit → Verdict
+verdict_of (Ok c) = sound
+verdict_of (Err (un.Broken k)) = broken k
+verdict_of (Err un.Fault) = malformed
 
 -- where the file is sound, its index
-abbrev pub Indexes : List ℕ → FitVerdict → List ℕ → List ℕ → List ℕ → List ℕ → Type 0
-Indexes file (jd.Sound ns nr) arities ars flags places = Entries file ns nr arities ars flags places
-Indexes file (jd.Broken k) arities ars flags places = Unit {0}
-Indexes file jd.Fault arities ars flags places = Unit {0}
+abbrev pub Indexes : List ℕ → Result Counts Unfit → List ℕ → List ℕ → List ℕ → List ℕ → Type 0
+Indexes file (Ok c) arities ars flags places = Entries file c.symbols c.rules arities ars flags places
+Indexes file (Err u) arities ars flags places = Unit {0}
+
+-- no rule that breaks a condition, or the least
+abbrev pub outcome_of : Option ℕ → Verdict
+outcome_of (Some k) = broken k
+outcome_of None = sound
+
+pick_outcome : (b : Bool) (k : ℕ) → outcome_of (pick b None (Some k)) ≡ pick b sound (broken k)
+pick_outcome true k = refl
+pick_outcome false k = refl
+
+outcome_found : (k : ℕ) → outcome_of (found k) ≡ outcome k
+outcome_found k = pick_outcome (eqb k 0) k
 
 module _ (file arities ars flags places : List ℕ) where
-  pub indexed_counts : {i : Index} {ns nr : ℕ} → i ≡ ix.Counts ns nr → Indexed file i arities ars flags places → Entries file ns nr arities ars flags places
-  indexed_counts h x = subst (λ (j : Index). Indexed file j arities ars flags places) h x
+  pub indexed_counts :
+      {i : Option Counts} {c : Counts} → i ≡ Some c → Indexed file i arities ars flags places
+      → Entries file c.symbols c.rules arities ars flags places
+  indexed_counts h x = subst (λ (j : Option Counts). Indexed file j arities ars flags places) h x
 
-  pub indexed_fault : {i : Index} → i ≡ ix.Fault → Indexed file i arities ars flags places → malformed ≡ judged (protocol file)
-  indexed_fault h x = sym (ap judged (subst (λ (j : Index). Indexed file j arities ars flags places) h x))
+  pub indexed_fault : {i : Option Counts} → i ≡ None → Indexed file i arities ars flags places → malformed ≡ judged (protocol file)
+  indexed_fault h x = sym (ap judged (subst (λ (j : Option Counts). Indexed file j arities ars flags places) h x))
 
   pub judged_is :
-      {ns nr k : ℕ} (i : Entries file ns nr arities ars flags places)
-      → ((rs : List Rule) → Placed (rule file arities (take ns ars)) empty_rule places rs nr → k ≡ least (unfit rs) nr)
-      → outcome k ≡ judged (protocol file)
-  judged_is {ns} {nr} {k} i h =
-      ap outcome (h i.is.rules i.placed ∙ ap (least (unfit i.is.rules)) (sym i.placed.count))
+      {ns nr : ℕ} {o : Option ℕ} (i : Entries file ns nr arities ars flags places)
+      → ((rs : List Rule) → Placed (rule file arities (take ns ars)) empty_rule places rs nr → o ≡ found (least (unfit rs) nr))
+      → outcome_of o ≡ judged (protocol file)
+  judged_is {ns} {nr} i h =
+      ap outcome_of (h i.is.rules i.placed ∙ ap (λ (m : ℕ). found (least (unfit i.is.rules) m)) (sym i.placed.count))
+      ∙ outcome_found (least (unfit i.is.rules) (length i.is.rules))
       ∙ sym (ap judged i.reads)
 
 pub none_broken : {k : ℕ} → k ≡ 0 → outcome k ≡ sound
@@ -147,3 +162,7 @@ none_broken {k} h = ap outcome h
 
 pub some_broken : {k : ℕ} → (k ≡ 0 → ⊥) → outcome k ≡ broken k
 some_broken {k} h = simp (ne_eqb k 0 h)
+
+-- a number from 1 is found
+pub found_next : (j : ℕ) → found (j + 1) ≡ Some (j + 1)
+found_next j = simp (ne_eqb (j + 1) 0 (λ e. omega arith))

@@ -6,13 +6,9 @@ use Rattle.protocol.specs.Protocol.{Rule}
 use mathlib.Core.Path.{◌≡◌}
 use mathlib.Core.Bool.{true}
 use lib.ListN.{length}
-use Prim.Native.Nat.{◌-◌, ◌≤◌}
+use Prim.Native.Nat.{◌≤◌}
 use Rattle.rules.proofs.fit.all_bound.Given as goal
 
 abbrev pub invariant-loop-j : goal.invariant-loop-j
 invariant-loop-j l =
-    (l.j ≤ l.n) × OfRule l.file l.arities l.ars l.x.at (λ (r : Rule). l.n ≤ length r.sorts → all_below (bound r) l.j ≡ true)
-
-abbrev pub decreases-loop-j : goal.decreases-loop-j
-decreases-loop-j l =
-    l.n - l.j
+    OfRule l.file l.arities l.ars l.x.at (λ (r : Rule). l.n ≤ length r.sorts → all_below (bound r) l.j ≡ true)

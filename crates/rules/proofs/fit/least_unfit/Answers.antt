@@ -1,6 +1,5 @@
 -- The invariant is that none of the first j rules is unfit, so the first that rule_fits denies is the least.
-use borrow.Author.Rules.{rules}
-use Rattle.rules.specs.Fit.Laws.{unfit, placed_fits}
+use Rattle.rules.specs.Fit.Laws.{unfit, found, found_next, placed_fits}
 use Rattle.lists.specs.Below.{least_none, least_more, least_hit, least}
 use mathlib.Core.Path.{◌≡◌, ap, sym, ◌∙◌}
 use native.Mathlib.Omega.{arith}
@@ -9,24 +8,22 @@ use Rattle.rules.proofs.fit.least_unfit.Goals as goal
 
 pub loop-j-init : goal.loop-j-init
 loop-j-init c =
-    (search rules, (λ rs h. least_none _))
+    λ rs h. least_none _
 
 pub returns-then-not-rule_fits : goal.returns-then-not-rule_fits
 returns-then-not-rule_fits c =
-    λ rs h. sym (least_hit (unfit rs) c.args.n c.loop-j.j (c.loop-j.invariant.1 rs h)
+    λ rs h. sym (found_next c.loop-j.j) ∙ sym (ap found (least_hit (unfit rs) c.args.n c.loop-j.j (c.loop-j.invariant rs h)
     (sym (placed_fits c.args.file.now c.args.arities.now c.args.ars.now c.args.places.now c.args.n c.loop-j.j _ rs h
-    c.loop-j-test.true c.rule_fits.ensures) ∙ ap not c.if-not-rule_fits.true) c.loop-j-test.true)
+    c.loop-j-test.true c.rule_fits.ensures) ∙ ap not c.if-not-rule_fits.true) c.loop-j-test.true))
 
 pub loop-j-preserved : goal.loop-j-preserved
-loop-j-preserved c = (
-  search rules,
-  (λ rs h. least_more (unfit rs) c.loop-j.j (c.loop-j.invariant.1 rs h)
-      (sym (placed_fits c.args.file.now c.args.arities.now c.args.ars.now c.args.places.now c.args.n c.loop-j.j _ rs h
-      c.loop-j-test.true c.rule_fits.ensures) ∙ ap not c.if-not-rule_fits.false)),
-)
+loop-j-preserved c =
+    λ rs h. least_more (unfit rs) c.loop-j.j (c.loop-j.invariant rs h)
+    (sym (placed_fits c.args.file.now c.args.arities.now c.args.ars.now c.args.places.now c.args.n c.loop-j.j _ rs h
+    c.loop-j-test.true c.rule_fits.ensures) ∙ ap not c.if-not-rule_fits.false)
 
 pub returns : goal.returns
 returns c =
     λ rs h.
     let m : c.loop-j.j ≡ c.args.n = omega arith in
-    sym (ap (least (unfit rs)) (sym m) ∙ c.loop-j.invariant.1 rs h)
+    sym (ap found (ap (least (unfit rs)) (sym m) ∙ c.loop-j.invariant rs h))

@@ -5,13 +5,8 @@ use Rattle.protocol.specs.Index.{Placed}
 use Rattle.protocol.specs.Protocol.{Rule, empty_rule, rule}
 use mathlib.Core.Path.{◌≡◌}
 use mathlib.Core.List.{List}
-use Prim.Native.Nat.{◌-◌, ◌≤◌}
 use Rattle.rules.proofs.fit.least_unfit.Given as goal
 
 abbrev pub invariant-loop-j : goal.invariant-loop-j
 invariant-loop-j l =
-    (l.j ≤ l.n) × ((rs : List Rule) → Placed (rule l.file l.arities l.ars) empty_rule l.places rs l.n → least (unfit rs) l.j ≡ 0)
-
-abbrev pub decreases-loop-j : goal.decreases-loop-j
-decreases-loop-j l =
-    l.n - l.j
+    ((rs : List Rule) → Placed (rule l.file l.arities l.ars) empty_rule l.places rs l.n → least (unfit rs) l.j ≡ 0)

@@ -7,12 +7,12 @@ use mathlib.Core.Path.{◌≡◌, ap, sym, ◌∙◌}
 use mathlib.Core.Bool.{false}
 use Rattle.rules.proofs.fit.variables_bound.Goals as goal
 
-pub returns-in-Value : goal.returns-in-Value
-returns-in-Value c =
+pub returns-in-Some : goal.returns-in-Some
+returns-in-Some c =
     all_is c.args.file.now c.args.arities.now c.args.ars.now c.args.x.at _ _ _
-    (sym c.sorts_at.ensures ∙ ap as_read c.in-Value.is) c.all_bound.ensures
+    (sym c.sorts_at.ensures ∙ ap as_read c.in-Some.is) c.all_bound.ensures
 
-pub returns-in-Fault : goal.returns-in-Fault
-returns-in-Fault c =
+pub returns-in-None : goal.returns-in-None
+returns-in-None c =
     none_there c.args.file.now c.args.arities.now c.args.ars.now c.args.x.at (λ (r : Rule). false ≡ p45 r)
-    (sym c.sorts_at.ensures ∙ ap as_read c.in-Fault.is)
+    (sym c.sorts_at.ensures ∙ ap as_read c.in-None.is)

@@ -7,6 +7,6 @@ pub returns-then-k-n : goal.returns-then-k-n
 returns-then-k-n c =
     sym (place_found_lem c.args.places.now c.args.n c.args.k c.if-k-n.true)
 
-pub returns : goal.returns
-returns c =
+pub returns-else-k-n : goal.returns-else-k-n
+returns-else-k-n c =
     sym (place_none c.args.places.now c.args.n c.args.k c.if-k-n.false)
