@@ -1,13 +1,13 @@
 -- Filling a prepared protocol: what is asked of the tables of a protocol file, and what each step leaves.
 use Rattle.std.specs.Prelude.{ℕ, ◌+◌, ◌≤◌, ◌<◌, List, ◌≡◌, length, get_or}
-use Rattle.std.specs.Prelude.{Some, None}
+use Rattle.std.specs.Prelude.{Some, None, Result, Ok, Err}
 use Rattle.octets.specs.Head.{Bytes, Stands}
 use Rattle.number.specs.Reading.{got}
 use Rattle.protocol.specs.Protocol.{Rule, Protocol, fact_arities, fact_flags, encode_rule, protocol}
 use Rattle.protocol.specs.Index.{Entries}
 use Rattle.rules.specs.Numbered.{rule_of}
-use Rattle.rules.specs.declared.fit.FitVerdict.{FitVerdict}
-use Rattle.rules.specs.declared.fit.FitVerdict.TheVariants as jd
+use Rattle.protocol.specs.declared.index.Counts.{Counts}
+use Rattle.rules.specs.declared.fit.Unfit.{Unfit}
 use Rattle.rules.specs.Numbered.{rule_room}
 use Rattle.rules.specs.Numbered.Slots.{slot_of}
 use Rattle.prepared.specs.Sections.{file_limit, places_at, rules_at, file_at, cell_at, written_at}
@@ -78,7 +78,6 @@ pub record BodyAs (file : List ℕ) (nr : ℕ) (p : List ℕ) : Type 0 where
   pub is : Body p its
   pub count : length its.rules ≡ nr
 
-abbrev pub WhereBody : List ℕ → FitVerdict → List ℕ → Type 0
-WhereBody file (jd.Sound ns nr) p = BodyAs file nr p
-WhereBody file (jd.Broken k) p = Unit {0}
-WhereBody file jd.Fault p = Unit {0}
+abbrev pub WhereBody : List ℕ → Result Counts Unfit → List ℕ → Type 0
+WhereBody file (Ok c) p = BodyAs file c.rules p
+WhereBody file (Err u) p = Unit {0}

@@ -9,8 +9,6 @@ use Rattle.protocol.specs.Protocol.Limits.{Within}
 use Rattle.rules.specs.Numbered.{nothing, rule_of}
 use Rattle.rules.specs.Numbered.Found.{of_number}
 use Rattle.rules.specs.Numbered.Map.{number_nothing}
-use Rattle.prepared.specs.declared.finding.Found.{Found}
-use Rattle.prepared.specs.declared.finding.Found.TheVariants as fd
 use Rattle.prepared.specs.Sections.{rule_count}
 use Rattle.prepared.specs.Prepared.{place_at, RuleAt, Entry, Body}
 
@@ -19,9 +17,9 @@ pub record RuleFound (p : List ℕ) (P : Protocol) (n place : ℕ) : Type 0 wher
   pub is : rule_of P n ≡ Some its
   pub here : RuleAt p its place
 
-abbrev pub Finds : List ℕ → Protocol → ℕ → Found → Type 0
-Finds p P n (fd.At place) = RuleFound p P n place
-Finds p P n fd.Nothing = rule_of P n ≡ None
+abbrev pub Finds : List ℕ → Protocol → ℕ → Option ℕ → Type 0
+Finds p P n (Some place) = RuleFound p P n place
+Finds p P n None = rule_of P n ≡ None
 
 -- ── no rule has a number that the table has not ──
 pub rule_past : (P : Protocol) → Within P → (n : ℕ) → rule_count ≤ n → rule_of P n ≡ None

@@ -1,14 +1,14 @@
 -- The places of the lists of each rule and of their facts, in a table behind the body of a prepared protocol.
 use Rattle.std.specs.Prelude.{ℕ, ◌+◌, ◌*◌, ◌/◌, ◌%◌, ◌≤◌, ◌<◌, List, ◌≡◌, length}
-use Rattle.std.specs.Prelude.{Some}
+use Rattle.std.specs.Prelude.{Some, Result, Ok, Err}
 use Rattle.protocol.specs.Figures.{list_count}
 use Rattle.lists.specs.Asks.{Asks}
 use Rattle.number.specs.Reading.{got}
 use Rattle.protocol.specs.Protocol.{Fact, Rule, Protocol, list_of, protocol}
 use Rattle.protocol.specs.Places.{Here}
 use Rattle.rules.specs.Numbered.{rule_of}
-use Rattle.rules.specs.declared.fit.FitVerdict.{FitVerdict}
-use Rattle.rules.specs.declared.fit.FitVerdict.TheVariants as jd
+use Rattle.protocol.specs.declared.index.Counts.{Counts}
+use Rattle.rules.specs.declared.fit.Unfit.{Unfit}
 use Rattle.prepared.specs.Sections.{entry_count, entry_place, fact_row}
 use Rattle.prepared.specs.Pairs.{paired}
 use Rattle.prepared.specs.Prepared.{Body, body_of, entry_at, prepared_facts, ListAt, fact_place_in, Prepared}
@@ -75,7 +75,6 @@ pub record PreparedAs (file p : List ℕ) : Type 0 where
   pub reads : protocol file ≡ got its (length file)
   pub is : Prepared p its
 
-abbrev pub WherePrepared : List ℕ → FitVerdict → List ℕ → Type 0
-WherePrepared file (jd.Sound ns nr) p = PreparedAs file p
-WherePrepared file (jd.Broken k) p = Unit {0}
-WherePrepared file jd.Fault p = Unit {0}
+abbrev pub WherePrepared : List ℕ → Result Counts Unfit → List ℕ → Type 0
+WherePrepared file (Ok c) p = PreparedAs file p
+WherePrepared file (Err u) p = Unit {0}

@@ -14,7 +14,8 @@ ghost use Rattle.prepared.specs.Filling.{Source, Laid, placed, Enters, Rows, Whe
 
 use crate::{pairs, sections};
 use protocol::figures;
-use rules::fit::FitVerdict;
+use protocol::index::Counts;
+use rules::fit::Unfit;
 use rules::numbered::FoundRule;
 
 // Copies a table to a place, and 255 behind it where it is shorter than 36.
@@ -81,9 +82,9 @@ fn enter_rule(p: &mut [u8], n: usize, arities: &[u8], places: &[usize], nr: usiz
 {
     let mut own = [0u8; rules::numbered::RULE_ROOM];
     match rules::numbered::find_rule(arities, places, nr, n, &mut own) {
-        FoundRule::Written(len) => put_rule(p, n, &own[..len]),
-        FoundRule::At(k) => put_place(p, n, sections::FILE + k),
-        FoundRule::Nothing => put_place(p, n, 0),
+        Some(FoundRule::Written(len)) => put_rule(p, n, &own[..len]),
+        Some(FoundRule::At(k)) => put_place(p, n, sections::FILE + k),
+        None => put_place(p, n, 0),
     }
 }
 
@@ -92,10 +93,8 @@ fn enter_rules(p: &mut [u8], arities: &[u8], places: &[usize], nr: usize)
     requires { (length p.old ≡ body_length) × (length arities.now ≡ slot_count) × (nr ≤ length places.now) × Source arities.now places.now nr }
     ensures { (f : Source arities.now places.now nr) → Rows f p.old p.new rule_count }
 {
-    let mut n: usize = 0;
-    while n < sections::RULE_COUNT {
+    for n in 0..sections::RULE_COUNT {
         enter_rule(p, n, arities, places, nr);
-        n += 1;
     }
 }
 
@@ -120,7 +119,7 @@ fn lay(
 }
 
 // Judges a protocol file, and prepares it where it is fit, but for the places of its rules' lists.
-pub fn prepare_body(file: &[u8], p: &mut [u8]) -> FitVerdict
+pub fn prepare_body(file: &[u8], p: &mut [u8]) -> Result<Counts, Unfit>
     requires { (length file.now ≤ file_limit) × (length p.old ≡ body_length) }
     ensures told { verdict_of result ≡ judged (protocol file.now) }
     ensures made { WhereBody file.now result p.new }
@@ -129,12 +128,16 @@ pub fn prepare_body(file: &[u8], p: &mut [u8]) -> FitVerdict
     let mut ars = [0u8; figures::SYMBOLS];
     let mut flags = [0u8; figures::SYMBOLS];
     let mut places = [0usize; figures::MOST_RULES];
-    match rules::fit::judge(file, &mut arities, &mut ars, &mut flags, &mut places) {
-        FitVerdict::Sound(ns, nr) => {
-            lay(p, file, &arities, &ars[..ns], &flags[..ns], &places, nr);
-            FitVerdict::Sound(ns, nr)
-        }
-        FitVerdict::Broken(k) => FitVerdict::Broken(k),
-        FitVerdict::Fault => FitVerdict::Fault,
-    }
+    let counts = rules::fit::judge(file, &mut arities, &mut ars, &mut flags, &mut places)?;
+    let n = counts.symbols;
+    lay(
+        p,
+        file,
+        &arities,
+        &ars[..n],
+        &flags[..n],
+        &places,
+        counts.rules,
+    );
+    Ok(counts)
 }

@@ -12,13 +12,6 @@ ghost use Rattle.prepared.specs.Finding.{Finds};
 
 use crate::{pairs, sections};
 
-// A place of the prepared protocol, or no rule.
-#[derive(Drop)]
-pub enum Found {
-    At(usize),
-    Nothing,
-}
-
 // The place in the table; 0 for none.
 pub fn place_of(p: &[u8], number: usize) -> usize
     requires { (number < rule_count) × (body_length ≤ length p.now) }
@@ -28,18 +21,15 @@ pub fn place_of(p: &[u8], number: usize) -> usize
 }
 
 // The place of the rule of a number.
-pub fn rule_place(p: &[u8], number: usize) -> Found
+pub fn rule_place(p: &[u8], number: usize) -> Option<usize>
     requires { Asks (Body p.now) }
     ensures { Promises (Body p.now) (λ (P : Protocol). Finds p.now P number result) }
 {
     if sections::RULE_COUNT <= number {
-        return Found::Nothing;
+        return None;
     }
     let place = place_of(p, number);
-    if place == 0 {
-        return Found::Nothing;
-    }
-    Found::At(place)
+    if place == 0 { None } else { Some(place) }
 }
 
 // The place of a list of the rule at a place: 0 premises, 1 actions, 2 conclusions.

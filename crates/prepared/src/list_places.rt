@@ -10,10 +10,10 @@ ghost use Rattle.prepared.specs.Sections.{rule_count, entry_count, place_count, 
 ghost use Rattle.prepared.specs.Prepared.{Body, body_of, entry_at, list_entry, fact_entry, prepared_facts, fact_place_in};
 ghost use Rattle.prepared.specs.Lists.{FirstFacts, ListsOf, entered, FactsEntered, ListEntered, NumberEntered, Tabled, WherePrepared};
 
-use crate::finding::Found;
 use crate::{filling, finding, pairs, sections};
 use protocol::figures;
-use rules::fit::FitVerdict;
+use protocol::index::Counts;
+use rules::fit::Unfit;
 
 // Entry k of the table.
 fn put_entry(p: &mut [u8], k: usize, place: usize)
@@ -30,11 +30,9 @@ fn enter_facts(p: &mut [u8], list: usize, count: usize, row: usize) -> usize
     ensures done { FactsEntered list p.old p.new row count }
 {
     let mut at = finding::first_fact(&p[..sections::BODY], list);
-    let mut i: usize = 0;
-    while i < count {
+    for i in 0..count {
         put_entry(p, row + i, at);
         at = finding::fact_end(&p[..sections::BODY], at);
-        i += 1;
     }
     at
 }
@@ -88,9 +86,8 @@ fn enter_number(p: &mut [u8], n: usize)
     requires { (n < rule_count) × (length p.old ≡ prepared_length) × Asks (Body (body_of p.old)) }
     ensures { NumberEntered p.old p.new n }
 {
-    match finding::rule_place(&p[..sections::BODY], n) {
-        Found::At(place) => enter_lists(p, place, n),
-        Found::Nothing => (),
+    if let Some(place) = finding::rule_place(&p[..sections::BODY], n) {
+        enter_lists(p, place, n);
     }
 }
 
@@ -99,27 +96,20 @@ fn enter_table(p: &mut [u8])
     requires { Asks (Body (body_of p.old)) × (length p.old ≡ prepared_length) }
     ensures { Tabled p.old p.new }
 {
-    let mut n: usize = 0;
-    while n < sections::RULE_COUNT {
+    for n in 0..sections::RULE_COUNT {
         enter_number(p, n);
-        n += 1;
     }
 }
 
 // Judges a protocol file, and prepares it with that table where it is fit.
-pub fn prepare(file: &[u8], p: &mut [u8]) -> FitVerdict
+pub fn prepare(file: &[u8], p: &mut [u8]) -> Result<Counts, Unfit>
     requires { (length file.now ≤ file_limit) × (length p.old ≡ prepared_length) }
     ensures told { verdict_of result ≡ judged (protocol file.now) }
     ensures made { WherePrepared file.now result p.new }
 {
-    match filling::prepare_body(file, &mut p[..sections::BODY]) {
-        FitVerdict::Sound(ns, nr) => {
-            enter_table(p);
-            FitVerdict::Sound(ns, nr)
-        }
-        FitVerdict::Broken(k) => FitVerdict::Broken(k),
-        FitVerdict::Fault => FitVerdict::Fault,
-    }
+    let counts = filling::prepare_body(file, &mut p[..sections::BODY])?;
+    enter_table(p);
+    Ok(counts)
 }
 
 // Entry k of the table.

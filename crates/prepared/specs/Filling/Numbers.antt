@@ -1,6 +1,6 @@
 -- One rule number after another.
 use Rattle.std.specs.Prelude.{ℕ, ◌+◌, ◌*◌, ◌≤◌, ◌<◌, List, ◌≡◌, refl, length, get_or, take}
-use Rattle.std.specs.Prelude.{None}
+use Rattle.std.specs.Prelude.{Option, Some, None}
 use Rattle.std.proofs.Common.{ap, ap₂, sym, ◌∙◌, subst, arith, length-take-le}
 use Rattle.lists.specs.Choice.{by_size}
 use Rattle.octets.specs.Splice.{splice}
@@ -116,18 +116,18 @@ module _ {arities places : List ℕ} {nr : ℕ} (f : Source arities places nr) w
           }
 
     -- the code's cases
-    abbrev pub FoundAs : FoundRule → List ℕ → Type 0
+    abbrev pub FoundAs : Option FoundRule → List ℕ → Type 0
     FoundAs r out = Finds f.entries.is f.file arities (take f.ns f.ars) n r out
 
-    module _ (r : FoundRule) (out : List ℕ) (x : FoundAs r out) where
-      pub as_written : {len : ℕ} → r ≡ fd.Written len → WrittenAs f.entries.is n len out
-      as_written e = subst (λ (q : FoundRule). FoundAs q out) e x
+    module _ (r : Option FoundRule) (out : List ℕ) (x : FoundAs r out) where
+      pub as_written : {len : ℕ} → r ≡ Some (fd.Written len) → WrittenAs f.entries.is n len out
+      as_written e = subst (λ (q : Option FoundRule). FoundAs q out) e x
 
-      pub as_placed : {k : ℕ} → r ≡ fd.At k → InFile k
-      as_placed e = subst (λ (q : FoundRule). FoundAs q out) e x
+      pub as_placed : {k : ℕ} → r ≡ Some (fd.At k) → InFile k
+      as_placed e = subst (λ (q : Option FoundRule). FoundAs q out) e x
 
-      pub as_none : r ≡ fd.Nothing → rule_of f.entries.is n ≡ None
-      as_none e = subst (λ (q : FoundRule). FoundAs q out) e x
+      pub as_none : r ≡ None → rule_of f.entries.is n ≡ None
+      as_none e = subst (λ (q : Option FoundRule). FoundAs q out) e x
 
 pub written_few :
     {P : Protocol} {n len : ℕ} {out : List ℕ} → WrittenAs P n len out → length out ≡ rule_room → length (take len out) ≤ rule_room

@@ -1,5 +1,5 @@
 -- The whole of a prepared protocol.
-use Rattle.std.specs.Prelude.{ℕ, ◌+◌, ◌≤◌, ◌<◌, List, [], ◌∷◌, ◌++◌, map, ◌≡◌, refl, length, get_or, take, drop}
+use Rattle.std.specs.Prelude.{Result, Ok, ℕ, ◌+◌, ◌≤◌, ◌<◌, List, [], ◌∷◌, ◌++◌, map, ◌≡◌, refl, length, get_or, take, drop}
 use Rattle.std.proofs.Common.{append_assoc, ap, sym, ◌∙◌, subst, subst₂, arith, drop-drop}
 use Rattle.std.specs.Prelude.{Some}
 use Rattle.std.proofs.lemmas.List.{length-map, drop-append-le}
@@ -15,8 +15,8 @@ use Rattle.protocol.specs.Protocol.Limits.Parts.{FactWithin, FactsWithin}
 use Rattle.protocol.specs.Protocol.Exact.{rule_exact, few_arities}
 use Rattle.protocol.specs.Index.{Entries}
 use Rattle.rules.specs.Fit.Laws.{Indexes}
-use Rattle.rules.specs.declared.fit.FitVerdict.{FitVerdict}
-use Rattle.rules.specs.declared.fit.FitVerdict.TheVariants as jd
+use Rattle.protocol.specs.declared.index.Counts.{Counts}
+use Rattle.rules.specs.declared.fit.Unfit.{Unfit}
 use Rattle.rules.specs.Numbered.{rule_of}
 use Rattle.rules.specs.Numbered.Slots.{slot_of, slot_few}
 use Rattle.rules.specs.Numbered.Limits.{rule_within}
@@ -211,27 +211,27 @@ module _ {file arities ars flags places : List ℕ} {nr : ℕ} (l : Laid file ar
   laid_file = omega (arith, ap length l.file_is, l.source.short)
 
 -- ── a fit protocol's file ──
-module _ (s arities ars flags places : List ℕ) (r : FitVerdict) (ns nr : ℕ) (is : r ≡ jd.Sound ns nr) (index : Indexes s r arities ars flags places)
+module _ (s arities ars flags places : List ℕ) (r : Result Counts Unfit) (c : Counts) (is : r ≡ Ok c) (index : Indexes s r arities ars flags places)
     (bytes : Bytes s)
     (short : length s ≤ file_limit) where
-  entries : Entries s ns nr arities ars flags places
-  entries = subst (λ (q : FitVerdict). Indexes s q arities ars flags places) is index
+  entries : Entries s c.symbols c.rules arities ars flags places
+  entries = subst (λ (q : Result Counts Unfit). Indexes s q arities ars flags places) is index
 
-  pub sound_symbols : ns ≤ symbol_count
+  pub sound_symbols : c.symbols ≤ symbol_count
   sound_symbols = entries.few_symbols
 
-  pub sound_rules : nr ≤ 64
+  pub sound_rules : c.rules ≤ 64
   sound_rules = entries.few_rules
 
-  pub sound_laid : Laid s arities (take ns ars) (take ns flags) places nr
+  pub sound_laid : Laid s arities (take c.symbols ars) (take c.symbols flags) places c.rules
   sound_laid = record {
-    source = record { file = s; ns = ns; ars = ars; flags = flags; entries = entries; bytes = bytes; short = short };
+    source = record { file = s; ns = c.symbols; ars = ars; flags = flags; entries = entries; bytes = bytes; short = short };
     file_is = refl;
     ars_are = entries.tabled;
     flags_are = entries.flagged;
   }
 
   pub sound_body :
-      (p : List ℕ) → ((l : Laid s arities (take ns ars) (take ns flags) places nr) → Body p l.source.entries.is) → BodyAs s nr p
+      (p : List ℕ) → ((l : Laid s arities (take c.symbols ars) (take c.symbols flags) places c.rules) → Body p l.source.entries.is) → BodyAs s c.rules p
   unfolding entries sound_laid
   sound_body p h = record { its = entries.is; reads = entries.reads; is = h sound_laid; count = entries.placed.count }

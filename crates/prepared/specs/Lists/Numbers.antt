@@ -1,6 +1,6 @@
 -- The entries of one rule number after another.
 use Rattle.std.specs.Prelude.{ℕ, ◌+◌, ◌*◌, ◌/◌, ◌%◌, ◌<◌, List, ◌≡◌, refl, length}
-use Rattle.std.specs.Prelude.{Some, None}
+use Rattle.std.specs.Prelude.{Option, Some, None}
 use Rattle.std.proofs.lemmas.Option.{none-some}
 use Rattle.std.proofs.Common.{ap, ap₂, sym, ◌∙◌, subst, subst₂, arith}
 use Rattle.protocol.specs.Figures.{list_count}
@@ -11,8 +11,6 @@ use Rattle.protocol.specs.Protocol.{Rule, Protocol, list_of}
 use Rattle.protocol.specs.Places.{At, list_place, place_of}
 use Rattle.protocol.specs.Places.Laws.{list_law, list_next, rule_layout}
 use Rattle.rules.specs.Numbered.{rule_of}
-use Rattle.prepared.specs.declared.finding.Found.{Found}
-use Rattle.prepared.specs.declared.finding.Found.TheVariants as fd
 use Rattle.prepared.specs.Sections.{body_length, fact_row}
 use Rattle.prepared.specs.Prepared.{slots_of, arities_of, Body, body_of, entry_at, prepared_facts, ListAt, fact_place_in}
 use Rattle.prepared.specs.Prepared.Laws.{list_few}
@@ -61,11 +59,11 @@ module _ {q : List ℕ} {n place : ℕ} (x : ListsOf q n place) where
       (list_of list g.its, l P g.its f g.is)
 
 -- the code's two cases
-module _ (q : List ℕ) (ready : Asks (Body q)) (n : ℕ) {found : Found} (x : (P : Protocol) → Body q P → Finds q P n found) where
-  pub lists_of : (place : ℕ) → found ≡ fd.At place → ListsOf q n place
+module _ (q : List ℕ) (ready : Asks (Body q)) (n : ℕ) {found : Option ℕ} (x : (P : Protocol) → Body q P → Finds q P n found) where
+  pub lists_of : (place : ℕ) → found ≡ Some place → ListsOf q n place
   lists_of place e = record { some_protocol = ready; found = λ P f. subst (Finds q P n) e (x P f) }
 
-  pub none_found : found ≡ fd.Nothing → (P : Protocol) → Body q P → rule_of P n ≡ None
+  pub none_found : found ≡ None → (P : Protocol) → Body q P → rule_of P n ≡ None
   none_found e P f = subst (Finds q P n) e (x P f)
 
 -- ── one list more ──

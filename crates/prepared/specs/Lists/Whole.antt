@@ -1,5 +1,5 @@
 -- The table stands behind the body of a prepared protocol.
-use Rattle.std.specs.Prelude.{ℕ, ◌+◌, ◌*◌, ◌/◌, ◌%◌, ◌<◌, List, ◌++◌, ◌≡◌, length, drop}
+use Rattle.std.specs.Prelude.{Result, Ok, ℕ, ◌+◌, ◌*◌, ◌/◌, ◌%◌, ◌<◌, List, ◌++◌, ◌≡◌, length, drop}
 use Rattle.std.specs.Prelude.{Some}
 use Rattle.std.proofs.Common.{ap, sym, ◌∙◌, subst, arith, length-append, length-drop, take_at}
 use Rattle.protocol.specs.Figures.{list_count}
@@ -7,8 +7,8 @@ use Rattle.lists.specs.Asks.{Asks}
 use Rattle.octets.specs.Head.{Bytes}
 use Rattle.protocol.specs.Protocol.{Rule, Protocol, list_of}
 use Rattle.rules.specs.Numbered.{rule_of}
-use Rattle.rules.specs.declared.fit.FitVerdict.{FitVerdict}
-use Rattle.rules.specs.declared.fit.FitVerdict.TheVariants as jd
+use Rattle.protocol.specs.declared.index.Counts.{Counts}
+use Rattle.rules.specs.declared.fit.Unfit.{Unfit}
 use Rattle.prepared.specs.Sections.{rule_count, body_length, prepared_length, entry_count}
 use Rattle.prepared.specs.Prepared.{Body, body_of, list_entry, fact_entry, ListAt, fact_place_in}
 use Rattle.prepared.specs.Prepared.Longer.{body_longer, list_longer, fact_longer}
@@ -56,9 +56,9 @@ module _ (q p : List ℕ) (len : length q ≡ body_length) (long : length p ≡ 
   pub joined_long : length (q ++ drop body_length p) ≡ prepared_length
   joined_long = length-append q (drop body_length p) ∙ omega (arith, length-drop body_length p)
 
-  module _ (file : List ℕ) {r : FitVerdict} {ns nr : ℕ} (e : r ≡ jd.Sound ns nr) (w : WhereBody file r q) where
-    pub joined_as : BodyAs file nr (body_of (q ++ drop body_length p))
-    joined_as = subst (BodyAs file nr) (sym joined) (subst (λ (x : FitVerdict). WhereBody file x q) e w)
+  module _ (file : List ℕ) {r : Result Counts Unfit} {counts : Counts} (e : r ≡ Ok counts) (w : WhereBody file r q) where
+    pub joined_as : BodyAs file counts.rules (body_of (q ++ drop body_length p))
+    joined_as = subst (BodyAs file counts.rules) (sym joined) (subst (λ (x : Result Counts Unfit). WhereBody file x q) e w)
 
     pub joined_ready : Asks (Body (body_of (q ++ drop body_length p)))
     joined_ready = (joined_as.its, joined_as.is)

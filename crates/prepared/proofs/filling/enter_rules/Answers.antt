@@ -6,16 +6,15 @@ use Rattle.prepared.proofs.filling.enter_rules.Goals as goal
 
 pub loop-n-init : goal.loop-n-init
 loop-n-init c =
-    (omega arith, refl, λ f. rows_none f _)
+    (refl, λ f. rows_none f _)
 
 pub loop-n-preserved : goal.loop-n-preserved
 loop-n-preserved c = (
-  omega (arith, c.loop-n-test.true),
-  omega (arith, c.enter_rule.auto, c.loop-n.invariant.1),
+  omega (arith, c.enter_rule.auto, c.loop-n.invariant.0),
   λ f. rows_more f _ _ _ _ c.loop-n-test.true
-      (c.loop-n.invariant.2 f) (c.enter_rule.ensures f),
+      (c.loop-n.invariant.1 f) (c.enter_rule.ensures f),
 )
 
 pub returns : goal.returns
 returns c =
-    λ f. rows_end f _ _ _ (omega (arith, c.loop-n.invariant.0, c.loop-n-test.false)) (c.loop-n.invariant.2 f)
+    λ f. rows_end f _ _ _ (omega arith) (c.loop-n.invariant.1 f)

@@ -4,33 +4,34 @@ use Rattle.rules.specs.Fit.Laws.{verdict_of}
 use lib.ListN.{length-take}
 use native.Mathlib.Omega.{arith}
 use mathlib.Core.Path.{ap, sym, ◌∙◌}
+use Rattle.std.proofs.lemmas.Result.{err_from_is_err_and}
 use Rattle.prepared.proofs.filling.prepare_body.Goals as goal
 
 pub slice_bounds-ars-end : goal.slice_bounds-ars-end
 slice_bounds-ars-end c =
     let b = sound_symbols c.args.file.now c.judge.new.arities c.judge.new.ars c.judge.new.flags
-    c.judge.new.places c.judge.result _ _ c.in-Sound.is c.judge.ensures.index (λ k. (c.type_inv.file k).fits)
+    c.judge.new.places c.judge.result _ c.in_ok-counts.was c.judge.ensures.index (λ k. (c.type_inv.file k).fits)
     c.requires.0 in
     omega (arith, b, c.judge.auto.ars)
 
-pub slice_bounds-lay-end-in-Sound : goal.slice_bounds-lay-end-in-Sound
-slice_bounds-lay-end-in-Sound c =
+pub slice_bounds-lay-end-2 : goal.slice_bounds-lay-end-2
+slice_bounds-lay-end-2 c =
     let b = sound_symbols c.args.file.now c.judge.new.arities c.judge.new.ars c.judge.new.flags
-    c.judge.new.places c.judge.result _ _ c.in-Sound.is c.judge.ensures.index (λ k. (c.type_inv.file k).fits)
+    c.judge.new.places c.judge.result _ c.in_ok-counts.was c.judge.ensures.index (λ k. (c.type_inv.file k).fits)
     c.requires.0 in
     simp length-take (omega (arith, b, c.judge.auto.ars))
 
 pub slice_bounds-flags-end : goal.slice_bounds-flags-end
 slice_bounds-flags-end c =
     let b = sound_symbols c.args.file.now c.judge.new.arities c.judge.new.ars c.judge.new.flags
-    c.judge.new.places c.judge.result _ _ c.in-Sound.is c.judge.ensures.index (λ k. (c.type_inv.file k).fits)
+    c.judge.new.places c.judge.result _ c.in_ok-counts.was c.judge.ensures.index (λ k. (c.type_inv.file k).fits)
     c.requires.0 in
     omega (arith, b, c.judge.auto.flags)
 
-pub slice_bounds-lay-end-in-Sound-2 : goal.slice_bounds-lay-end-in-Sound-2
-slice_bounds-lay-end-in-Sound-2 c =
+pub slice_bounds-lay-end-3 : goal.slice_bounds-lay-end-3
+slice_bounds-lay-end-3 c =
     let b = sound_symbols c.args.file.now c.judge.new.arities c.judge.new.ars c.judge.new.flags
-    c.judge.new.places c.judge.result _ _ c.in-Sound.is c.judge.ensures.index (λ k. (c.type_inv.file k).fits)
+    c.judge.new.places c.judge.result _ c.in_ok-counts.was c.judge.ensures.index (λ k. (c.type_inv.file k).fits)
     c.requires.0 in
     simp length-take (omega (arith, b, c.judge.auto.flags))
 
@@ -40,28 +41,26 @@ lay-requires c = (
   omega (
     arith,
     sound_rules c.args.file.now c.judge.new.arities c.judge.new.ars c.judge.new.flags
-        c.judge.new.places c.judge.result _ _ c.in-Sound.is c.judge.ensures.index (λ k. (c.type_inv.file k).fits)
+        c.judge.new.places c.judge.result _ c.in_ok-counts.was c.judge.ensures.index (λ k. (c.type_inv.file k).fits)
         c.requires.0,
     c.judge.auto.places,
   ),
   sound_laid c.args.file.now c.judge.new.arities c.judge.new.ars
-      c.judge.new.flags c.judge.new.places c.judge.result _ _ c.in-Sound.is c.judge.ensures.index
+      c.judge.new.flags c.judge.new.places c.judge.result _ c.in_ok-counts.was c.judge.ensures.index
       (λ k. (c.type_inv.file k).fits) c.requires.0,
 )
 
-pub returns-in-Sound : goal.returns-in-Sound
-returns-in-Sound c =
+pub returns : goal.returns
+returns c =
     record {
-      told = sym (ap verdict_of c.in-Sound.is) ∙ c.judge.ensures.told;
+      told = sym (ap verdict_of c.in_ok-counts.was) ∙ c.judge.ensures.told;
       made = sound_body c.args.file.now c.judge.new.arities
-          c.judge.new.ars c.judge.new.flags c.judge.new.places c.judge.result _ _ c.in-Sound.is
+          c.judge.new.ars c.judge.new.flags c.judge.new.places c.judge.result _ c.in_ok-counts.was
           c.judge.ensures.index (λ k. (c.type_inv.file k).fits) c.requires.0 _ c.lay.ensures;
     }
 
-pub returns-in-Broken : goal.returns-in-Broken
-returns-in-Broken c =
-    record { told = sym (ap verdict_of c.in-Broken.is) ∙ c.judge.ensures.told; made = tt }
-
-pub returns-in-Fault : goal.returns-in-Fault
-returns-in-Fault c =
-    record { told = sym (ap verdict_of c.in-Fault.is) ∙ c.judge.ensures.told; made = tt }
+pub returns-in_err-counts : goal.returns-in_err-counts
+returns-in_err-counts c =
+    let p = err_from_is_err_and c.from_residual.result c.from_residual.ensures.1 in
+    rw (p.1, p.2)
+    record { told = sym (ap verdict_of c.in_err-counts.was) ∙ c.judge.ensures.told; made = tt }

@@ -11,6 +11,6 @@ pub returns-then-place-eq0 : goal.returns-then-place-eq0
 returns-then-place-eq0 c =
     λ P f. found_none _ P f _ (omega arith) _ c.place_of-place.ensures c.if-place-eq0.true
 
-pub returns : goal.returns
-returns c =
+pub returns-else-place-eq0 : goal.returns-else-place-eq0
+returns-else-place-eq0 c =
     λ P f. found_some _ P f _ (omega arith) _ c.place_of-place.ensures c.if-place-eq0.false

@@ -13,9 +13,9 @@ slice_bounds-rule_place-end-2 c =
 
 pub enter_lists-requires : goal.enter_lists-requires
 enter_lists-requires c =
-    (c.requires.0, c.requires.1, lists_of (body_of c.args.p.now) c.requires.2 c.args.n c.rule_place.ensures _ c.in-At.is)
+    (c.requires.0, c.requires.1, lists_of (body_of c.args.p.now) c.requires.2 c.args.n c.rule_place.ensures _ c.in-Some.is)
 
-pub returns-in-Nothing : goal.returns-in-Nothing
-returns-in-Nothing c =
+pub returns-in_default : goal.returns-in_default
+returns-in_default c =
     lists_none c.args.p.now c.args.n (none_found (body_of c.args.p.now) c.requires.2 c.args.n c.rule_place.ensures
-    c.in-Nothing.is)
+    c.in_default.is)

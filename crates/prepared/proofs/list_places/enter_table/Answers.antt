@@ -11,25 +11,24 @@ use Rattle.prepared.proofs.list_places.enter_table.Goals as goal
 
 pub loop-n-init : goal.loop-n-init
 loop-n-init c =
-    (omega arith, c.requires.1, refl, λ j h P u f is. absurd (omega arith))
+    (c.requires.1, refl, λ j h P u f is. absurd (omega arith))
 
 pub enter_number-requires : goal.enter_number-requires
 enter_number-requires c = (
   c.loop-n-test.true,
-  c.loop-n.invariant.1,
-  subst (λ (b : List ℕ). Asks (Body b)) (sym c.loop-n.invariant.2)
+  c.loop-n.invariant.0,
+  subst (λ (b : List ℕ). Asks (Body b)) (sym c.loop-n.invariant.1)
       c.requires.0,
 )
 
 pub loop-n-preserved : goal.loop-n-preserved
 loop-n-preserved c = (
-  omega (arith, c.loop-n-test.true),
-  omega (arith, c.enter_number.auto, c.loop-n.invariant.1),
-  c.enter_number.ensures.body ∙ c.loop-n.invariant.2,
-  c.enter_number.ensures.more c.loop-n.invariant.3,
+  omega (arith, c.enter_number.auto, c.loop-n.invariant.0),
+  c.enter_number.ensures.body ∙ c.loop-n.invariant.1,
+  c.enter_number.ensures.more c.loop-n.invariant.2,
 )
 
 pub returns : goal.returns
 returns c =
-    let e : 3 * c.loop-n.n ≡ 3 * rule_count = omega (arith, c.loop-n.invariant.0, c.loop-n-test.false) in
-    record { body = c.loop-n.invariant.2; all = subst (Listing c.loop-n.p) e c.loop-n.invariant.3 }
+    let e : 3 * c.loop-n.n ≡ 3 * rule_count = omega arith in
+    record { body = c.loop-n.invariant.1; all = subst (Listing c.loop-n.p) e c.loop-n.invariant.2 }
