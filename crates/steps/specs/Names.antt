@@ -1,10 +1,9 @@
 -- Cause 9 by the nodes of a step list or graph, and what code answers of the names that they make.
-use Rattle.std.specs.Prelude.{ℕ, suc, ◌<◌, List, [], ◌∷◌, ◌++◌, Bool, false, ◌≡◌, get_or, eqb, leb}
+use Rattle.std.specs.Prelude.{ℕ, ◌<◌, List, [], ◌∷◌, ◌++◌, Bool, false, ◌≡◌, get_or, eqb, leb}
 use Rattle.std.specs.Prelude.{Option, Some, None}
 use Rattle.lists.specs.Lists.{count_by}
 use Rattle.rewriting.specs.Graph.{name_of}
-use Rattle.steps.specs.declared.names.Made.{Made}
-use Rattle.steps.specs.declared.names.Made.TheVariants as md
+use Rattle.term.specs.declared.Fresh.{Fresh}
 use Rattle.steps.specs.Nodes.{Node}
 use Rattle.steps.specs.Nodes.{no_node}
 use Rattle.steps.specs.Facts.{made_name}
@@ -30,18 +29,10 @@ again_in xs None = false
 again_in xs (Some m) = is_made m xs
 
 -- the name of a node as the code has it
-abbrev pub MadeIs : Option ℕ → Made → Type 0
-MadeIs o (md.Of f) = o ≡ Some f.0
-MadeIs o md.Nothing = o ≡ None
+abbrev pub MadeIs : Option ℕ → Option Fresh → Type 0
+MadeIs o (Some f) = o ≡ Some f.0
+MadeIs o None = o ≡ None
 
--- ── a table of them, an entry a node ──
-abbrev pub name_entry : Option ℕ → ℕ
-name_entry None = 0
-name_entry (Some m) = suc m
-
-abbrev pub entry_of : Made → ℕ
-entry_of (md.Of f) = suc f.0
-entry_of md.Nothing = 0
-
-pub record Entered (names : List ℕ) (xs : List Node) (n : ℕ) : Type 0 where
-  pub each : (k : ℕ) → k < n → get_or names k 0 ≡ name_entry (made_name (get_or xs k no_node))
+-- a table of them, an entry a node
+pub record Entered (names : List (Option ℕ)) (xs : List Node) (n : ℕ) : Type 0 where
+  pub each : (k : ℕ) → k < n → get_or names k None ≡ made_name (get_or xs k no_node)

@@ -8,13 +8,10 @@ ghost use Rattle.prepared.specs.Prepared.{Prepared};
 ghost use Rattle.steps.specs.Nodes.{nodes_from, node_list, steps, most_nodes};
 ghost use Rattle.steps.specs.Nodes.Code.{Told};
 ghost use Rattle.steps.specs.Nodes.Filling.{ValuesRead, NodeEntered, NodeRead};
-ghost use Rattle.steps.specs.Table.{place_count, RowsFor, RowsOf, FewNodes, held_flag};
+ghost use Rattle.steps.specs.Table.{place_count, RowsFor, RowsOf, FewNodes};
 
-use number::Number;
-use prepared::finding::Found;
 use prepared::{finding, sections};
 use protocol::figures;
-use term::Walk;
 
 // "count of nodes (512)"
 pub const MOST_NODES: usize = 512;
@@ -40,26 +37,18 @@ pub const FEW_NODES: usize = 32;
 
 pub const FEW_ROWS: usize = ROW * FEW_NODES;
 
-// A node: the place behind it, a layout fault, or no such rule.
-#[derive(Drop)]
-pub enum NodeEnd {
-    End(usize),
+// Why a node is not read: a layout fault, or no such rule.
+#[derive(Clone, Copy)]
+pub enum NodeFault {
     Broken,
     NoRule,
 }
 
-// The nodes: how many, and the place behind the list; a layout fault; the node that has no such rule.
-#[derive(Drop)]
-pub enum Nodes {
-    End(usize, usize),
+// Why a list of nodes is not: a layout fault, or the node, from 1, that has no such rule.
+#[derive(Clone, Copy)]
+pub enum NodesFault {
     Broken,
     NoRule(usize),
-}
-
-fn flag_of(held: bool) -> usize
-    ensures { result ≡ held_flag held }
-{
-    if held { 1 } else { 0 }
 }
 
 // The places of k values go into the table from `to` on, with the place behind them; behind all places the symbols of each, and whether
@@ -71,30 +60,24 @@ fn place_values(
     k: usize,
     nodes: &mut [usize],
     to: usize,
-) -> NodeEnd
+) -> Result<usize, NodeFault>
     requires { (length s.now ≤ longest) × (k ≤ most_variables) × (to + place_count + most_variables < length nodes.old) }
     ensures { ValuesRead s.now arities.now at k nodes.old nodes.new to result }
 {
     let mut i = at;
     let mut held = false;
-    let mut v: usize = 0;
-    while v < k {
-        match term::walk_term(s, arities, i, term::VARIABLE, 0, number::NUMBER_LIMIT) {
-            Walk::End(e, n, h) => {
-                nodes[to + v] = i;
-                nodes[to + PLACES + v] = n;
-                held = held | h;
-                i = e;
-                v += 1;
-            }
-            Walk::Fault => {
-                return NodeEnd::Broken;
-            }
-        }
+    for v in 0..k {
+        let w = term::walk_term(s, arities, i, term::VARIABLE, 0, number::NUMBER_LIMIT).ok_or(
+            NodeFault::Broken,
+        )?;
+        nodes[to + v] = i;
+        nodes[to + PLACES + v] = w.size;
+        held = held | w.hit;
+        i = w.end;
     }
     nodes[to + k] = i;
-    nodes[to + PLACES + figures::MOST_VARIABLES] = flag_of(held);
-    NodeEnd::End(i)
+    nodes[to + PLACES + figures::MOST_VARIABLES] = usize::from(held);
+    Ok(i)
 }
 
 // A node whose rule number was read goes into row j.
@@ -105,65 +88,66 @@ fn enter_node(
     at: usize,
     nodes: &mut [usize],
     j: usize,
-) -> NodeEnd
+) -> Result<usize, NodeFault>
     requires { Asks (Prepared p.now) × (length s.now ≤ longest) × (j < most_nodes) × RowsFor nodes.old (j + 1) }
     ensures { Promises (Prepared p.now) (λ (P : Protocol). NodeEntered P p.now s.now number at nodes.old nodes.new j result) }
 {
-    match finding::rule_place(p, number) {
-        Found::At(place) => {
-            let k = protocol::places::variables_of(p, place);
-            let row = ROW * j;
-            nodes[row] = number;
-            place_values(s, &p[..sections::ARITIES], at, k, nodes, row + FIRST_PLACE)
-        }
-        Found::Nothing => NodeEnd::NoRule,
-    }
+    let place = finding::rule_place(p, number).ok_or(NodeFault::NoRule)?;
+    let k = protocol::places::variables_of(p, place);
+    let row = ROW * j;
+    nodes[row] = number;
+    place_values(s, &p[..sections::ARITIES], at, k, nodes, row + FIRST_PLACE)
 }
 
 // The node at a place goes into row j: its rule number is judged before its values are read.
-fn read_node(p: &[u8], s: &[u8], at: usize, nodes: &mut [usize], j: usize) -> NodeEnd
+fn read_node(
+    p: &[u8],
+    s: &[u8],
+    at: usize,
+    nodes: &mut [usize],
+    j: usize,
+) -> Result<usize, NodeFault>
     requires { Asks (Prepared p.now) × (length s.now ≤ longest) × (j < most_nodes) × RowsFor nodes.old (j + 1) }
     ensures { Promises (Prepared p.now) (λ (P : Protocol). NodeRead P p.now s.now at nodes.old nodes.new j result) }
 {
-    match number::read_number(s, at) {
-        Number::Value(r, e) => enter_node(p, s, r as usize, e, nodes, j),
-        Number::Fault => NodeEnd::Broken,
-    }
+    let (r, e) = number::read_number(s, at).ok_or(NodeFault::Broken)?;
+    enter_node(p, s, r as usize, e, nodes, j)
 }
 
 // n nodes.
-fn nodes_from(p: &[u8], s: &[u8], at: usize, n: usize, nodes: &mut [usize]) -> Nodes
+fn nodes_from(
+    p: &[u8],
+    s: &[u8],
+    at: usize,
+    n: usize,
+    nodes: &mut [usize],
+) -> Result<(usize, usize), NodesFault>
     requires { Asks (Prepared p.now) × (length s.now ≤ longest) × (n ≤ most_nodes) × RowsFor nodes.old n }
     ensures { Promises (Prepared p.now) (λ (P : Protocol). Told (nodes_from P s.now 1 n at) p.now s.now nodes.new result) }
 {
     let mut i = at;
-    let mut j: usize = 0;
-    while j < n {
+    for j in 0..n {
         match read_node(p, s, i, nodes, j) {
-            NodeEnd::End(e) => {
-                i = e;
-                j += 1;
-            }
-            NodeEnd::Broken => {
-                return Nodes::Broken;
-            }
-            NodeEnd::NoRule => {
-                return Nodes::NoRule(j + 1);
-            }
+            Ok(e) => i = e,
+            Err(NodeFault::Broken) => return Err(NodesFault::Broken),
+            Err(NodeFault::NoRule) => return Err(NodesFault::NoRule(j + 1)),
         }
     }
-    Nodes::End(n, i)
+    Ok((n, i))
 }
 
-// The count, 512 at most, and the nodes.
-pub fn read_nodes(p: &[u8], s: &[u8], at: usize, nodes: &mut [usize]) -> Nodes
+// The count, 512 at most, and the nodes: how many, and the place behind the list.
+pub fn read_nodes(
+    p: &[u8],
+    s: &[u8],
+    at: usize,
+    nodes: &mut [usize],
+) -> Result<(usize, usize), NodesFault>
     requires { Asks (Prepared p.now) × (length s.now ≤ longest) × RowsOf s.now at nodes.old }
     ensures { Promises (Prepared p.now) (λ (P : Protocol). Told (node_list P s.now at) p.now s.now nodes.new result) }
 {
-    match number::below(s, at, NODE_LIMIT) {
-        Number::Value(n, e) => nodes_from(p, s, e, n as usize, nodes),
-        Number::Fault => Nodes::Broken,
-    }
+    let (n, e) = number::below(s, at, NODE_LIMIT).ok_or(NodesFault::Broken)?;
+    nodes_from(p, s, e, n as usize, nodes)
 }
 
 // Whether the list that a file begins with has few nodes by its count.
@@ -171,24 +155,20 @@ pub fn few_nodes(s: &[u8]) -> bool
     ensures { result ≡ true → FewNodes s.now }
 {
     match number::below(s, 0, NODE_LIMIT) {
-        Number::Value(n, _) => (n as usize) <= FEW_NODES,
-        Number::Fault => true,
+        Some((n, _)) => (n as usize) <= FEW_NODES,
+        None => true,
     }
 }
 
 // A whole step list: leftover bytes are a layout fault.
-pub fn read_steps(p: &[u8], s: &[u8], nodes: &mut [usize]) -> Nodes
+pub fn read_steps(p: &[u8], s: &[u8], nodes: &mut [usize]) -> Result<(usize, usize), NodesFault>
     requires { Asks (Prepared p.now) × (length s.now ≤ longest) × RowsOf s.now 0 nodes.old }
     ensures { Promises (Prepared p.now) (λ (P : Protocol). Told (steps P s.now) p.now s.now nodes.new result) }
 {
-    match read_nodes(p, s, 0, nodes) {
-        Nodes::End(n, e) => {
-            if e == s.len() {
-                return Nodes::End(n, e);
-            }
-            Nodes::Broken
-        }
-        Nodes::Broken => Nodes::Broken,
-        Nodes::NoRule(k) => Nodes::NoRule(k),
+    let (n, e) = read_nodes(p, s, 0, nodes)?;
+    if e == s.len() {
+        Ok((n, e))
+    } else {
+        Err(NodesFault::Broken)
     }
 }

@@ -6,7 +6,6 @@ ghost use Rattle.lists.specs.Lists.{first_bad};
 ghost use Rattle.steps.specs.Nodes.{Node};
 ghost use Rattle.steps.specs.Table.{NodeIn, NodesIn};
 ghost use Rattle.steps.specs.Values.Tests.{node_terms_ok};
-ghost use Rattle.steps.specs.Values.Scan.{as_found};
 
 use crate::{nodes, sizes};
 use prepared::finding;
@@ -22,18 +21,15 @@ fn node_terms(p: &[u8], s: &[u8], nodes: &[usize], j: usize) -> bool
     sizes::rule_small(p, number, &nodes[first..first + k])
 }
 
-// 8: the least node that has a filled-in term of more than 256 symbols; 0 where there is none.
-pub fn size_pass(p: &[u8], s: &[u8], nodes: &[usize], n: usize) -> usize
+// 8: the least node, from 1, that has a filled-in term of more than 256 symbols.
+pub fn size_pass(p: &[u8], s: &[u8], nodes: &[usize], n: usize) -> Option<usize>
     requires { Asks₂ (NodesIn p.now s.now nodes.now n) }
-    ensures { Promises₂ (NodesIn p.now s.now nodes.now n) (λ (P : Protocol) (xs : List Node). as_found result ≡ first_bad (λ (k : ℕ) (x : Node). node_terms_ok P x) 1 xs) }
+    ensures { Promises₂ (NodesIn p.now s.now nodes.now n) (λ (P : Protocol) (xs : List Node). result ≡ first_bad (λ (k : ℕ) (x : Node). node_terms_ok P x) 1 xs) }
 {
-    let mut j: usize = 0;
-    while j < n {
-        if node_terms(p, s, nodes, j) {
-            j += 1;
-        } else {
-            return j + 1;
+    for j in 0..n {
+        if !node_terms(p, s, nodes, j) {
+            return Some(j + 1);
         }
     }
-    0
+    None
 }

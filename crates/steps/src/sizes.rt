@@ -20,28 +20,11 @@ const MOST_FILLED_IN: usize = term::MOST_SYMBOLS;
 
 const ONE_SYMBOL: usize = 1;
 
-// One symbol: what it weighs, how many terms it takes, the place behind it.
-#[derive(Drop)]
-pub enum Weight {
-    Takes(usize, u8, usize),
-    Fault,
-}
-
-// Small enough, with the place behind it; or not.
-#[derive(Drop)]
-pub enum Small {
-    Upto(usize),
-    Big,
-}
-
 // The size of a value.
 fn size_of(sizes: &[usize], n: usize) -> usize
     ensures { result ≡ size_in sizes.now n }
 {
-    if n < sizes.len() {
-        return sizes[n];
-    }
-    ONE_SYMBOL
+    sizes.get(n).copied().unwrap_or(ONE_SYMBOL)
 }
 
 // A variable weighs as much as its value, every other leaf one.
@@ -54,62 +37,49 @@ fn leaf_weight(t: usize, n: usize, sizes: &[usize]) -> usize
     ONE_SYMBOL
 }
 
-fn one_weight(file: &[u8], arities: &[u8], at: usize, sizes: &[usize]) -> Weight
+// One symbol: what it weighs, how many terms it takes, the place behind it.
+fn one_weight(file: &[u8], arities: &[u8], at: usize, sizes: &[usize]) -> Option<(usize, u8, usize)>
     ensures { result ≡ weight_of (size_in sizes.now) (symbol_at file.now arities.now at) }
 {
-    match term::symbol_at(file, arities, at) {
-        Symbol::Leaf(t, n, e) => Weight::Takes(leaf_weight(t, n as usize, sizes), 0, e),
-        Symbol::Op(_, k, e) => Weight::Takes(ONE_SYMBOL, k, e),
-        Symbol::Fault => Weight::Fault,
+    let y = term::symbol_at(file, arities, at)?;
+    match y {
+        Symbol::Leaf(t, n, e) => Some((leaf_weight(t, n as usize, sizes), 0, e)),
+        Symbol::Op(_, k, e) => Some((ONE_SYMBOL, k, e)),
     }
 }
 
-// Whether the term at a place has 256 symbols at most with values of these sizes filled in.
-pub fn term_small(file: &[u8], arities: &[u8], at: usize, sizes: &[usize]) -> Small
+// The place behind the term at a place, if it has 256 symbols at most with values of these sizes filled in.
+pub fn term_small(file: &[u8], arities: &[u8], at: usize, sizes: &[usize]) -> Option<usize>
     requires { Asks₂ (ReadAs (term file.now arities.now) at) × (length file.now ≤ longest) × ((v : ℕ) → size_in sizes.now v ≤ longest) }
     ensures { Promises₂ (ReadAs (term file.now arities.now) at) (λ (t : Term) (e : ℕ). result ≡ small_to (term_small (size_in sizes.now) t) e) }
 {
     let mut i = at;
     let mut pending: usize = 1;
     let mut sum: usize = 0;
+    // A while: each symbol says how many terms are still to come.
     while 0 < pending {
-        match one_weight(file, arities, i, sizes) {
-            Weight::Takes(a, k, e) => {
-                sum += a;
-                if MOST_FILLED_IN < sum {
-                    return Small::Big;
-                }
-                pending = pending - 1 + k as usize;
-                i = e;
-            }
-            Weight::Fault => {
-                return Small::Big;
-            }
+        let (a, k, e) = one_weight(file, arities, i, sizes)?;
+        sum += a;
+        if MOST_FILLED_IN < sum {
+            return None;
         }
+        pending = pending - 1 + k as usize;
+        i = e;
     }
-    Small::Upto(i)
+    Some(i)
 }
 
-// Whether all terms of the fact at a place are small enough, each found behind the one before.
-pub fn fact_small(p: &[u8], place: usize, sizes: &[usize]) -> Small
+// The place behind the last term of the fact at a place, if all are small enough, each found behind the one before.
+pub fn fact_small(p: &[u8], place: usize, sizes: &[usize]) -> Option<usize>
     requires { Asks₂ (ReadAs (fact p.now (slots_of p.now) (arities_of p.now)) place) × (length p.now ≡ prepared_length) × ((v : ℕ) → size_in sizes.now v ≤ longest) }
     ensures { Promises₂ (ReadAs (fact p.now (slots_of p.now) (arities_of p.now)) place) (λ (f : Fact) (e : ℕ). result ≡ small_to (fact_small (size_in sizes.now) f) e) }
 {
-    let y = finding::symbol_of(p, place);
-    let mut left = finding::arity_of(p, y);
+    let terms = finding::arity_of(p, finding::symbol_of(p, place));
     let mut at = finding::term_at(p, place, 0);
-    while 0 < left {
-        match term_small(p, &p[..sections::ARITIES], at, sizes) {
-            Small::Upto(e) => {
-                at = e;
-                left -= 1;
-            }
-            Small::Big => {
-                return Small::Big;
-            }
-        }
+    for _ in 0..terms {
+        at = term_small(p, &p[..sections::ARITIES], at, sizes)?;
     }
-    Small::Upto(at)
+    Some(at)
 }
 
 // Whether all facts of the list at a place are, each found behind the one before.
@@ -117,17 +87,12 @@ pub fn list_small(p: &[u8], place: usize, sizes: &[usize]) -> bool
     requires { Asks (At (facts p.now (slots_of p.now) (arities_of p.now)) place) × (length p.now ≡ prepared_length) × ((v : ℕ) → size_in sizes.now v ≤ longest) }
     ensures { Promises (At (facts p.now (slots_of p.now) (arities_of p.now)) place) (λ (fs : List Fact). result ≡ list_small (size_in sizes.now) fs) }
 {
-    let mut left = protocol::places::count_of(p, place);
+    let facts = protocol::places::count_of(p, place);
     let mut at = finding::first_fact(p, place);
-    while 0 < left {
+    for _ in 0..facts {
         match fact_small(p, at, sizes) {
-            Small::Upto(e) => {
-                at = e;
-                left -= 1;
-            }
-            Small::Big => {
-                return false;
-            }
+            Some(e) => at = e,
+            None => return false,
         }
     }
     true
@@ -138,12 +103,8 @@ pub fn rule_small(p: &[u8], number: usize, sizes: &[usize]) -> bool
     requires { Asks₂ (RuleOf p.now number) × ((v : ℕ) → size_in sizes.now v ≤ longest) }
     ensures { Promises₂ (RuleOf p.now number) (λ (P : Protocol) (u : Rule). result ≡ rule_small (size_in sizes.now) u) }
 {
-    let mut j: usize = 0;
-    while j < protocol::figures::LISTS {
-        let at = list_places::list_place(p, number, j);
-        if list_small(p, at, sizes) {
-            j += 1;
-        } else {
+    for j in 0..protocol::figures::LISTS {
+        if !list_small(p, list_places::list_place(p, number, j), sizes) {
             return false;
         }
     }

@@ -11,7 +11,6 @@ ghost use Rattle.lists.specs.Lists.{first_bad};
 ghost use Rattle.steps.specs.Nodes.{Node};
 ghost use Rattle.steps.specs.Table.{row_at, held_at, NodeIn, NodesIn};
 ghost use Rattle.steps.specs.Values.Tests.{value_ok, node_values_ok};
-ghost use Rattle.steps.specs.Values.Scan.{as_found};
 ghost use Rattle.protocol.specs.Figures.{message_sort, variable_limit};
 ghost use Rattle.steps.specs.Values.Code.{NameIs, of_fresh, of_public, FormRoom, GroundThere};
 
@@ -23,30 +22,21 @@ use term::{Fresh, Public, Symbol};
 // "over 128 symbols"
 const MOST_IN_VALUE: usize = 128;
 
-// A fresh name, a public name, or no name.
+// A fresh name or a public name.
 #[derive(Drop)]
 pub enum Name {
     FreshName(Fresh),
     PublicName(Public),
-    Other,
 }
 
 // The name at a place: "Fresh and public names are two incomparable sets".
-pub fn name_at(file: &[u8], arities: &[u8], at: usize) -> Name
+pub fn name_at(file: &[u8], arities: &[u8], at: usize) -> Option<Name>
     ensures { NameIs (symbol_at file.now arities.now at) result }
 {
     match term::symbol_at(file, arities, at) {
-        Symbol::Leaf(t, n, _) => {
-            if t == term::FRESH {
-                return Name::FreshName(Fresh(n));
-            }
-            if t == term::PUBLIC {
-                return Name::PublicName(Public(n));
-            }
-            Name::Other
-        }
-        Symbol::Op(_, _, _) => Name::Other,
-        Symbol::Fault => Name::Other,
+        Some(Symbol::Leaf(term::FRESH, n, _)) => Some(Name::FreshName(Fresh(n))),
+        Some(Symbol::Leaf(term::PUBLIC, n, _)) => Some(Name::PublicName(Public(n))),
+        _ => None,
     }
 }
 
@@ -89,14 +79,9 @@ pub fn value_ok(
     ensures { Promises (GroundThere arities.now s.now at size) (λ (t : Term). result ≡ value_ok sort t) }
 {
     match name_at(s, arities, at) {
-        Name::FreshName(f) => fresh_fits(sort, f),
-        Name::PublicName(f) => public_fits(sort, f),
-        Name::Other => {
-            if sort == figures::MESSAGE_SORT {
-                return message_ok(out, s, arities, at, size);
-            }
-            false
-        }
+        Some(Name::FreshName(f)) => fresh_fits(sort, f),
+        Some(Name::PublicName(f)) => public_fits(sort, f),
+        None => sort == figures::MESSAGE_SORT && message_ok(out, s, arities, at, size),
     }
 }
 
@@ -115,13 +100,10 @@ fn values_fit(
 {
     let first = nodes::ROW * j + nodes::FIRST_PLACE;
     let sizes = nodes::ROW * j + nodes::FIRST_SIZE;
-    let mut v: usize = 0;
-    while v < k {
+    for v in 0..k {
         let sort = protocol::places::sort_of(p, place, v as u32);
         let at = nodes[first + v];
-        if value_ok(out, s, &p[..sections::ARITIES], at, nodes[sizes + v], sort) {
-            v += 1;
-        } else {
+        if !value_ok(out, s, &p[..sections::ARITIES], at, nodes[sizes + v], sort) {
             return false;
         }
     }
@@ -142,19 +124,16 @@ fn node_values(out: &mut [u8], p: &[u8], s: &[u8], nodes: &[usize], j: usize) ->
     values_fit(out, p, s, nodes, j, place, k)
 }
 
-// 7: the least node that has a value that does not fit; 0 where there is none.
-pub fn value_pass(p: &[u8], s: &[u8], nodes: &[usize], n: usize) -> usize
+// 7: the least node, from 1, that has a value that does not fit.
+pub fn value_pass(p: &[u8], s: &[u8], nodes: &[usize], n: usize) -> Option<usize>
     requires { Asks₂ (NodesIn p.now s.now nodes.now n) }
-    ensures { Promises₂ (NodesIn p.now s.now nodes.now n) (λ (P : Protocol) (xs : List Node). as_found result ≡ first_bad (λ (k : ℕ) (x : Node). node_values_ok P x) 1 xs) }
+    ensures { Promises₂ (NodesIn p.now s.now nodes.now n) (λ (P : Protocol) (xs : List Node). result ≡ first_bad (λ (k : ℕ) (x : Node). node_values_ok P x) 1 xs) }
 {
     let mut out = [0u8; canonical::FORM_ROOM];
-    let mut j: usize = 0;
-    while j < n {
-        if node_values(&mut out, p, s, nodes, j) {
-            j += 1;
-        } else {
-            return j + 1;
+    for j in 0..n {
+        if !node_values(&mut out, p, s, nodes, j) {
+            return Some(j + 1);
         }
     }
-    0
+    None
 }

@@ -1,5 +1,5 @@
 -- What a good answer says of the nodes: each stands at its place, they are right, and no name is made twice.
-use Rattle.std.specs.Prelude.{ℕ, ◌≤◌, ◌<◌, List, ◌≡◌, refl, length, get_or, eqb}
+use Rattle.std.specs.Prelude.{ℕ, ◌≤◌, ◌<◌, List, ◌≡◌, refl, length, get_or, eqb, Result, Ok, Err}
 use Rattle.std.proofs.Math.Path.{ap, sym}
 use Rattle.std.proofs.Common.{◌∙◌, subst, arith}
 use Rattle.lists.specs.Choice.{cut, clash}
@@ -18,9 +18,9 @@ use Rattle.steps.specs.Table.Laws.{nodes_in}
 use Rattle.steps.specs.Values.{NodeRight}
 use Rattle.steps.specs.Causes.{node_rows, node_ruling}
 use Rattle.steps.specs.Causes.Laws.{Passing, nodes_ruled}
-use Rattle.steps.specs.Causes.Code.{ruling_of, counted}
-use Rattle.steps.specs.declared.ruling.NodesRuling.{NodesRuling}
-use Rattle.steps.specs.declared.ruling.NodesRuling.TheVariants as jd
+use Rattle.steps.specs.Causes.Code.{counted}
+use Rattle.rewriting.specs.declared.Refusal.{Refusal}
+use Rattle.rewriting.specs.Answers.{answered}
 
 -- nodes of a step list or graph that are good: read from a place on up to another, each with its row in the table
 pub record GoodNodes (P : Protocol) (p s : List ℕ) (at : ℕ) (nodes : List ℕ) (n e : ℕ) : Type 0 where
@@ -32,9 +32,9 @@ pub record GoodNodes (P : Protocol) (p s : List ℕ) (at : ℕ) (nodes : List �
   pub passing : Passing P items
 
 -- a step list has nothing before and behind them
-abbrev pub WhereGood : Protocol → List ℕ → List ℕ → List ℕ → NodesRuling → Type 0
-WhereGood P p s nodes (jd.Good n) = GoodNodes P p s 0 nodes n (length s)
-WhereGood P p s nodes (jd.Refused m k) = Unit {0}
+abbrev pub WhereGood : Protocol → List ℕ → List ℕ → List ℕ → Result ℕ Refusal → Type 0
+WhereGood P p s nodes (Ok n) = GoodNodes P p s 0 nodes n (length s)
+WhereGood P p s nodes (Err e) = Unit {0}
 
 -- they stand in the table, and they are right
 pub record RightNodes (p s nodes : List ℕ) (n : ℕ) (P : Protocol) (xs : List Node) : Type 0 where
@@ -66,9 +66,9 @@ list_of_all s (no_rule k) xs e h = clash (cc)
 
 module _ (P : Protocol) (p s nodes : List ℕ) (bytes : Bytes s) where
   pub where_good :
-      (n e : ℕ) (t : NodesAre (steps P s) p s nodes n e) (j : NodesRuling) → ruling_of j ≡ counted (node_ruling P t.items) → WhereGood P p s nodes j
+      (n e : ℕ) (t : NodesAre (steps P s) p s nodes n e) (j : Result ℕ Refusal) → answered j ≡ counted (node_ruling P t.items) → WhereGood P p s nodes j
   unfolding steps
-  where_good n e t (jd.Good m) h =
+  where_good n e t (Ok m) h =
       let f = steps_form P s bytes t.items e t.there in
       let g = good_passing P t.items f.0.each m h in
       let same : n ≡ m = sym t.count ∙ sym g.0 in
@@ -80,7 +80,7 @@ module _ (P : Protocol) (p s nodes : List ℕ) (bytes : Bytes s) where
         rows = λ j l. t.rows j (omega arith);
         passing = g.1;
       }
-  where_good n e t (jd.Refused m k) h = tt
+  where_good n e t (Err r) h = tt
 
   -- what callers above have of good nodes
   pub good_right :

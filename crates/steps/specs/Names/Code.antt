@@ -18,8 +18,6 @@ use Rattle.rules.specs.Numbered.{rule_of, fixed}
 use Rattle.rules.specs.Numbered.Found.{of_fixed}
 use Rattle.steps.specs.declared.values.Name.{Name}
 use Rattle.steps.specs.declared.values.Name.TheVariants as nm
-use Rattle.steps.specs.declared.names.Made.{Made}
-use Rattle.steps.specs.declared.names.Made.TheVariants as md
 use Rattle.prepared.specs.Prepared.{slots_of}
 use Rattle.steps.specs.Nodes.{Node}
 use Rattle.steps.specs.Table.{row_at, places_at, NodeIn}
@@ -30,28 +28,28 @@ use Rattle.steps.specs.Values.Parts.{no_term}
 use Rattle.steps.specs.Names.{MadeIs}
 
 -- a fresh name by its symbol
-abbrev pub NumberIs : Symbol → Made → Type 0
-NumberIs y (md.Of f) = (e : ℕ) × (y ≡ sy.Leaf 2 f.0 e)
-NumberIs y md.Nothing = (n e : ℕ) → y ≡ sy.Leaf 2 n e → ⊥
+abbrev pub NumberIs : Option Symbol → Option Fresh → Type 0
+NumberIs y (Some f) = (e : ℕ) × (y ≡ Some (sy.Leaf 2 f.0 e))
+NumberIs y None = (n e : ℕ) → y ≡ Some (sy.Leaf 2 n e) → ⊥
 
-module _ (y : Symbol) (x : Name) (h : NameIs y x) where
-  pub of_fresh : {f : Fresh} → x ≡ nm.FreshName f → NumberIs y (md.Of f)
+module _ (y : Option Symbol) (x : Option Name) (h : NameIs y x) where
+  pub of_fresh : {f : Fresh} → x ≡ Some (nm.FreshName f) → NumberIs y (Some f)
   of_fresh e = subst (NameIs y) e h
 
-  pub of_public : {f : Public} → x ≡ nm.PublicName f → (n d : ℕ) → y ≡ sy.Leaf 2 n d → ⊥
+  pub of_public : {f : Public} → x ≡ Some (nm.PublicName f) → (n d : ℕ) → y ≡ Some (sy.Leaf 2 n d) → ⊥
   of_public {f} e n d q =
       let (c, g) = subst (NameIs y) e h in
       let z : ◌≡◌ {A = ℕ} 1 2 = cc in
       omega arith
 
-  pub of_other : x ≡ nm.Other → (n d : ℕ) → y ≡ sy.Leaf 2 n d → ⊥
+  pub of_other : x ≡ None → (n d : ℕ) → y ≡ Some (sy.Leaf 2 n d) → ⊥
   of_other e n d q = (subst (NameIs y) e h n d).0 q
 
 -- ── the name of a term, and of a node ──
 module _ (file arities : List ℕ) (at : ℕ) (bytes : Bytes file) (t : Term) (e : ℕ) (there : term file arities at ≡ got t e) where
-  pub number_of : (m : Made) → NumberIs (symbol_at file arities at) m → MadeIs (fresh_number t) m
-  number_of (md.Of f) (d, h) = ap fresh_number (leaf_is file arities at bytes t e there 2 f.0 d h)
-  number_of md.Nothing h = no_fresh file arities at bytes t e there h
+  pub number_of : (m : Option Fresh) → NumberIs (symbol_at file arities at) m → MadeIs (fresh_number t) m
+  number_of (Some f) (d, h) = ap fresh_number (leaf_is file arities at bytes t e there 2 f.0 d h)
+  number_of None h = no_fresh file arities at bytes t e there h
 
 pub zero_sorts : (p : Protocol) (n : ℕ) → n ≡ 0 → (u : Rule) × (rule_of p n ≡ Some u) × (u.sorts ≡ 1 ∷ [])
 unfolding fixed
@@ -69,7 +67,7 @@ module _ {p s nodes : List ℕ} {j : ℕ} {P : Protocol} {x : Node} (h : NodeIn 
       h.within.takes ∙ ap (λ (w : Rule). length w.sorts) c ∙ ap length b
 
   pub zero_name :
-      Bytes s → number ≡ 0 → (m : Made) → NumberIs (symbol_at s (slots_of p) (get_or nodes (row_at j + 1) 0)) m → MadeIs (facts.made_name x) m
+      Bytes s → number ≡ 0 → (m : Option Fresh) → NumberIs (symbol_at s (slots_of p) (get_or nodes (row_at j + 1) 0)) m → MadeIs (facts.made_name x) m
   zero_name bytes z m q =
       let l : 0 < length x.values = omega (arith, zero_values z) in
       let o : places_at j + 0 ≡ places_at j = omega arith in

@@ -1,12 +1,15 @@
 -- The pass over the names by the nodes is crate rewriting's pass of cause 9.
 use Rattle.std.specs.Prelude.{ℕ, suc, ◌+◌, ◌<◌, ◌≤◌, List, [], ◌∷◌, ◌++◌, Bool, true, false, cond, ◌||◌, ◌≡◌, refl, eqb, leb, length, get_or, take, drop, set}
 use Rattle.std.proofs.Common.{append_assoc, append-nil, ap, ap₂, sym, ◌∙◌, subst, arith, drop_of_length-le, drop-cons, take-suc, get_or-set_same, get_or-set_other, eqb-true, eq-eqb, ne_eqb}
-use Rattle.std.specs.Prelude.{Option, Some, None}
+use Rattle.std.specs.Prelude.{zero, Option, Some, None, is_some}
+use Rattle.std.specs.List.{list_any}
+use Rattle.std.specs.Option.{option_eq, option_map}
+use Rattle.std.proofs.lemmas.List.Folds.{list_any_more}
 use Rattle.std.proofs.lemmas.Bool.{eqb-false}
 use Rattle.lists.specs.Choice.{by_order}
 use Rattle.lists.specs.Lists.{count_by}
 use Rattle.lists.specs.Lists.Laws.{count_append}
-use Rattle.lists.specs.Tests.{leb_sum}
+use Rattle.lists.specs.Tests.{true_false, leb_sum}
 use Rattle.rewriting.specs.Graph.{name_of}
 use Rattle.rewriting.specs.Machine.{made_already}
 use Rattle.rewriting.specs.Writer.{name_twice_from, first_name_twice}
@@ -14,11 +17,9 @@ use Rattle.protocol.specs.Protocol.{Protocol}
 use Rattle.steps.specs.Nodes.{Node}
 use Rattle.steps.specs.Facts.{made_name}
 use Rattle.steps.specs.Runs.{rewrittens}
-use Rattle.steps.specs.Values.Scan.{as_found, found_is}
-use Rattle.steps.specs.declared.names.Made.{Made}
-use Rattle.steps.specs.declared.names.Made.TheVariants as md
+use Rattle.term.specs.declared.Fresh.{Fresh}
 use Rattle.steps.specs.Nodes.{no_node}
-use Rattle.steps.specs.Names.{made_by, is_made, again_in, MadeIs, name_entry, entry_of, Entered}
+use Rattle.steps.specs.Names.{made_by, is_made, again_in, MadeIs, Entered}
 
 made_append : (xs ys : List Node) → made_by (xs ++ ys) ≡ made_by xs ++ made_by ys
 made_append [] ys = refl
@@ -54,59 +55,63 @@ module _ (m : ℕ) (xs : List Node) (d : Node) (j : ℕ) (l : j < length xs) whe
       ∙ ap (λ (b : Bool). is_made m (take j xs) || b) (one_more (made_name (get_or xs j d)))
 
 -- ── by the table ──
-pub entry_made : (o : Option ℕ) (a : Made) → MadeIs o a → entry_of a ≡ name_entry o
-entry_made o (md.Of f) h = sym (ap name_entry h)
-entry_made o md.Nothing h = sym (ap name_entry h)
+pub entry_made : (o : Option ℕ) (a : Option Fresh) → MadeIs o a → option_map (λ f. f.0) a ≡ o
+entry_made o (Some f) h = sym h
+entry_made o None h = sym h
 
-same_suc : (m n : ℕ) → eqb (suc m) (suc n) ≡ eqb m n
-same_suc m n = go (eqb m n) refl
+same_entry : (m : ℕ) (o : Option ℕ) → option_eq eqb o (Some m) ≡ same_as m o
+same_entry m None = refl
+same_entry m (Some n) = go (eqb m n) refl
   where
-    go : (b : Bool) → eqb m n ≡ b → eqb (suc m) (suc n) ≡ eqb m n
-    go true h = eq-eqb (suc m) (suc n) (ap suc (eqb-true m n h)) ∙ sym h
-    go false h = ne_eqb (suc m) (suc n) (λ e. eqb-false m n h (omega arith)) ∙ sym h
+    go : (b : Bool) → eqb m n ≡ b → eqb n m ≡ eqb m n
+    go true h = eq-eqb n m (sym (eqb-true m n h)) ∙ sym h
+    go false h = ne_eqb n m (λ e. eqb-false m n h (sym e)) ∙ sym h
 
-same_entry : (m : ℕ) (o : Option ℕ) → eqb (suc m) (name_entry o) ≡ same_as m o
-same_entry m None = ne_eqb (suc m) 0 (λ e. omega arith)
-same_entry m (Some n) = same_suc m n
-
-pub entered_none : (names : List ℕ) (xs : List Node) → Entered names xs 0
+pub entered_none : (names : List (Option ℕ)) (xs : List Node) → Entered names xs 0
 entered_none names xs = record { each = λ k l. absurd (omega arith) }
 
 -- one entry more
 pub entered_more :
-    (names : List ℕ) (xs : List Node) (j e : ℕ) → Entered names xs j → j < length names → e ≡ name_entry (made_name (get_or xs j no_node))
-    → Entered (set names j e) xs (j + 1)
+    (names : List (Option ℕ)) (xs : List Node) (j : ℕ) (e : Option ℕ) → Entered names xs j → j < length names
+    → e ≡ made_name (get_or xs j no_node) → Entered (set names j e) xs (j + 1)
 entered_more names xs j e h l q = record {
   each = λ k m.
       by_order k j
-      (λ a. get_or-set_other names j k e 0 (λ z. omega arith) ∙ h.each k a)
+      (λ a. get_or-set_other names j k e None (λ z. omega arith) ∙ h.each k a)
       (λ a.
-      subst (λ (i : ℕ). get_or (set names j e) i 0 ≡ name_entry (made_name (get_or xs i no_node))) (sym a) (get_or-set_same names j e 0 l ∙ q))
+      subst (λ (i : ℕ). get_or (set names j e) i None ≡ made_name (get_or xs i no_node)) (sym a)
+      (get_or-set_same names j e None l ∙ q))
       (λ a. absurd (omega arith));
 }
 
-module _ (names : List ℕ) (xs : List Node) (n : ℕ) (h : Entered names xs n) (few : n ≤ length xs) where
-  pub made_turn :
-      (m entry j : ℕ) → entry ≡ suc m → j < n → (b : Bool) → b ≡ is_made m (take j xs)
-      → (b || eqb entry (get_or names j 0)) ≡ is_made m (take (j + 1) xs)
-  made_turn m entry j e l b k =
-      ap₂ ◌||◌ k (ap₂ eqb e (h.each j l) ∙ same_entry m (made_name (get_or xs j no_node))) ∙ sym (made_step m xs no_node j (omega arith))
+module _ (names : List (Option ℕ)) (xs : List Node) (n : ℕ) (h : Entered names xs n) (few : n ≤ length xs) where
+  -- is a name among the first entries?
+  found_before : (m j : ℕ) → j ≤ n → j ≤ length names → list_any (λ o. option_eq eqb o (Some m)) (take j names) ≡ is_made m (take j xs)
+  found_before m zero l r = refl
+  found_before m (suc j) l r =
+      let k : suc j ≡ j + 1 = omega arith in
+      ap (λ (i : ℕ). list_any (λ o. option_eq eqb o (Some m)) (take i names)) k
+      ∙ list_any_more (λ o. option_eq eqb o (Some m)) names j None (omega arith)
+      ∙ ap₂ ◌||◌ (found_before m j (omega arith) (omega arith))
+      (ap (λ (o : Option ℕ). option_eq eqb o (Some m)) (h.each j (omega arith)) ∙ same_entry m (made_name (get_or xs j no_node)))
+      ∙ sym (made_step m xs no_node j (omega arith)) ∙ ap (λ (i : ℕ). is_made m (take i xs)) (sym k)
 
   -- the node's name is made by the nodes before it
-  pub again_of : (j : ℕ) → j < n → (entry : ℕ) → entry ≡ get_or names j 0 → (entry ≡ 0 → ⊥) → (b : Bool)
-      → ((m : ℕ) → entry ≡ suc m → b ≡ is_made m (take j xs)) → b ≡ again_in (take j xs) (made_name (get_or xs j no_node))
-  again_of j l entry e z b k = go (made_name (get_or xs j no_node)) (e ∙ h.each j l)
+  pub again_some : (j : ℕ) → j < n → j ≤ length names → is_some (get_or names j None) ≡ true →
+      list_any (λ o. option_eq eqb o (get_or names j None)) (take j names) ≡ again_in (take j xs) (made_name (get_or xs j no_node))
+  again_some j l r = go (get_or names j None) (h.each j l)
     where
-      go : (o : Option ℕ) → entry ≡ name_entry o → b ≡ again_in (take j xs) o
-      go None q = absurd (z q)
-      go (Some m) q = k m q
+      go : (o : Option ℕ) → o ≡ made_name (get_or xs j no_node) → is_some o ≡ true → list_any (λ x. option_eq eqb x o) (take j names) ≡ again_in (take j xs)
+          (made_name (get_or xs j no_node))
+      go None e q = absurd (true_false false q refl)
+      go (Some m) e q = found_before m j (omega arith) r ∙ ap (again_in (take j xs)) e
 
-  pub again_none : (j : ℕ) → j < n → (entry : ℕ) → entry ≡ get_or names j 0 → entry ≡ 0 → false ≡ again_in (take j xs) (made_name (get_or xs j no_node))
-  again_none j l entry e z = go (made_name (get_or xs j no_node)) (sym z ∙ e ∙ h.each j l)
+  pub again_none : (j : ℕ) → j < n → is_some (get_or names j None) ≡ false → false ≡ again_in (take j xs) (made_name (get_or xs j no_node))
+  again_none j l q = go (get_or names j None) (h.each j l) q
     where
-      go : (o : Option ℕ) → 0 ≡ name_entry o → false ≡ again_in (take j xs) o
-      go None q = refl
-      go (Some m) q = absurd (omega arith)
+      go : (o : Option ℕ) → o ≡ made_name (get_or xs j no_node) → is_some o ≡ false → false ≡ again_in (take j xs) (made_name (get_or xs j no_node))
+      go None e q = ap (again_in (take j xs)) e
+      go (Some m) e q = absurd (true_false true refl q)
 
 -- ── the pass ──
 again_already : (ys : List Node) (o : Option ℕ) → made_already (made_by ys) o ≡ again_in ys o
@@ -138,9 +143,8 @@ module _ (p : Protocol) (d : Node) (xs : List Node) where
       ∙ ap (λ (m : List ℕ). name_twice_from (suc (j + 1)) m (rewrittens p (drop (suc j) xs))) (sym (made_more xs j d l))
       ∙ ap₂ (λ (k i : ℕ). name_twice_from k (made_by (take i xs)) (rewrittens p (drop i xs))) a b
 
-  pub names_twice : (j : ℕ) → j < length xs → again_in (take j xs) (made_name (get_or xs j d)) ≡ true → NamesLeft j → as_found (j + 1) ≡ first_name_twice
-      (rewrittens p xs)
-  names_twice j l t h = found_is j ∙ sym (step j true l t h)
+  pub names_twice : (j : ℕ) → j < length xs → again_in (take j xs) (made_name (get_or xs j d)) ≡ true → NamesLeft j → Some (j + 1) ≡ first_name_twice (rewrittens p xs)
+  names_twice j l t h = sym (step j true l t h)
 
   pub names_none : (j : ℕ) → length xs ≤ j → NamesLeft j → None ≡ first_name_twice (rewrittens p xs)
   names_none j l h =

@@ -1,7 +1,7 @@
 -- What the reading of nodes leaves in their table: the values of one node, and one row after another.
 use Rattle.std.specs.Prelude.{ℕ, ◌+◌, ◌≤◌, ◌<◌, Bool, false, ◌||◌, ◌≡◌, refl, length, get_or, set}
 use mathlib.Core.List.{List, [], ◌∷◌, ◌++◌}
-use Rattle.std.specs.Prelude.{Option, None}
+use Rattle.std.specs.Prelude.{Option, Some, None, Result, Ok, Err}
 use Rattle.std.proofs.Math.Path.{ap, sym}
 use Rattle.std.proofs.Common.{ap₂, ◌∙◌, subst, arith, add-one, length-set, get_or-set_same, get_or-set_other}
 use Rattle.lists.specs.Choice.{clash, by_size}
@@ -13,9 +13,8 @@ use Rattle.number.specs.Reading.Many.{many_snoc, many_length, Came, came_none, c
 use Rattle.term.specs.Term.{Term, symbols}
 use Rattle.term.specs.Arity.{tag_arities}
 use Rattle.term.specs.Reader.{term}
-use Rattle.term.specs.Walk.{holds, walked}
+use Rattle.term.specs.Walk.{holds, walk, walked}
 use Rattle.term.specs.declared.Walk.{Walk}
-use Rattle.term.specs.declared.Walk.TheVariants as wk
 use Rattle.protocol.specs.Figures.{most_variables, variable_limit}
 use Rattle.protocol.specs.Protocol.{Rule, Protocol}
 use Rattle.protocol.specs.Places.{place_of, value_of}
@@ -24,10 +23,8 @@ use Rattle.rules.specs.Numbered.{rule_of}
 use Rattle.rules.specs.Numbered.Limits.{rule_within}
 use Rattle.prepared.specs.Prepared.{slots_of, arities_of, Prepared}
 use Rattle.prepared.specs.Finding.{RuleFound, Finds}
-use Rattle.prepared.specs.declared.finding.Found.{Found}
-use Rattle.prepared.specs.declared.finding.Found.TheVariants as fd
-use Rattle.steps.specs.declared.nodes.NodeEnd.{NodeEnd}
-use Rattle.steps.specs.declared.nodes.NodeEnd.TheVariants as end
+use Rattle.steps.specs.declared.nodes.NodeFault.{NodeFault}
+use Rattle.steps.specs.declared.nodes.NodeFault.TheVariants as one
 use Rattle.steps.specs.Nodes.{Node, node_of_lem, no_node, values, node, nodes_from, broken, no_rule}
 use Rattle.steps.specs.Nodes.Exact.{many_from}
 use Rattle.steps.specs.Nodes.Unknown.{stops_unknown, stops_broken}
@@ -48,7 +45,7 @@ pub record ValuesPlaced (s arities nodes : List ℕ) (to : ℕ) (vs : List Term)
   pub held : get_or nodes (to + place_count + most_variables) 0 ≡ held_flag (holds_any vs)
 
 -- k values from `at` on: their places from `to` on, their symbols behind the places
-pub record ValuesRead (s arities : List ℕ) (at k : ℕ) (nodes nodes' : List ℕ) (to : ℕ) (r : NodeEnd) : Type 0 where
+pub record ValuesRead (s arities : List ℕ) (at k : ℕ) (nodes nodes' : List ℕ) (to : ℕ) (r : Result ℕ NodeFault) : Type 0 where
   pub is_end : r ≡ terms_end (many (term s arities) k at)
   pub places : (vs : List Term) (e : ℕ) → many (term s arities) k at ≡ got vs e → ValuesPlaced s arities nodes' to vs
   pub before : Before nodes nodes' to
@@ -75,28 +72,28 @@ module _ (s arities : List ℕ) (at : ℕ) (to : ℕ) (nodes₀ : List ℕ) wher
     before = λ i l. refl;
   }
 
-  abbrev Walked : Read Term → Walk
+  abbrev Walked : Read Term → Option Walk
   Walked r = walked 0 0 number_limit r
 
-  read_end : (r : Read Term) (e n : ℕ) (b : Bool) → Walked r ≡ wk.End e n b → (t : Term) × (r ≡ got t e) × (symbols t ≡ n) × (holds t 0 0 number_limit ≡ b)
-  read_end (got t d) e n b h =
-      let a : d ≡ e = cc in
-      let m : symbols t ≡ n = cc in
-      let f : holds t 0 0 number_limit ≡ b = cc in
-      (t, ap (got t) a, m, f)
-  read_end fault e n b h = clash (cc)
+  read_end : (r : Read Term) (w : Walk) → Walked r ≡ Some w → (t : Term) × (r ≡ got t w.end) × (symbols t ≡ w.size) × (holds t 0 0 number_limit ≡ w.hit)
+  read_end (got t d) w h =
+      let is : walk d (symbols t) (holds t 0 0 number_limit) ≡ w = cc in
+      (t, ap (λ (v : Walk). got t v.end) is, ap (λ (v : Walk). v.size) is, ap (λ (v : Walk). v.hit) is)
+  read_end fault w h = clash (cc)
 
-  end_fault : (r : Read Term) → Walked r ≡ wk.Fault → r ≡ fault
+  end_fault : (r : Read Term) → Walked r ≡ None → r ≡ fault
   end_fault (got t d) h = clash (cc)
   end_fault fault h = refl
 
   module _ (v i : ℕ) (found : Bool) (nodes : List ℕ) (few : v < most_variables) (room : to + place_count + most_variables < length nodes)
       (g : Placing v i found nodes) where
     pub placing_more :
-        (e n : ℕ) (b : Bool) → walked 0 0 number_limit (term s arities i) ≡ wk.End e n b
-        → Placing (v + 1) e (found || b) (set (set nodes (to + v) i) (to + place_count + v) n)
-    placing_more e n b h =
-        let (t, is, size, flag) = read_end (term s arities i) e n b h in
+        (w : Walk) → walked 0 0 number_limit (term s arities i) ≡ Some w
+        → Placing (v + 1) w.end (found || w.hit) (set (set nodes (to + v) i) (to + place_count + v) w.size)
+    placing_more w h =
+        let e : ℕ = w.end in
+        let n : ℕ = w.size in
+        let (t, is, size, flag) = read_end (term s arities i) w h in
         let nodes₁ : List ℕ = set nodes (to + v) i in
         let nodes₂ : List ℕ = set nodes₁ (to + 17 + v) n in
         let other : (k : ℕ) → (k ≡ to + v → ⊥) → (k ≡ to + 17 + v → ⊥) → get_or nodes₂ k 0 ≡ get_or nodes k 0 =
@@ -136,7 +133,7 @@ module _ (s arities : List ℕ) (at : ℕ) (to : ℕ) (nodes₀ : List ℕ) wher
           before = λ k l. other k (λ q. omega arith) (λ q. omega arith) ∙ g.before k l;
         }
 
-    pub placing_fault : (k : ℕ) → v < k → walked 0 0 number_limit (term s arities i) ≡ wk.Fault → end.Broken ≡ terms_end (many (term s arities) k at)
+    pub placing_fault : (k : ℕ) → v < k → walked 0 0 number_limit (term s arities i) ≡ None → Err one.Broken ≡ terms_end (many (term s arities) k at)
     placing_fault k l h =
         sym (ap terms_end (came_stop (term s arities) at v i k g.here (end_fault (term s arities i) h) l))
 
@@ -196,40 +193,40 @@ module _ (s arities : List ℕ) (at : ℕ) (to : ℕ) (nodes₀ : List ℕ) wher
             ∙ ap held_flag (g.held vs e h);
       }
 
-    pub values_read : ValuesRead s arities at k nodes₀ nodes' to (end.End i)
+    pub values_read : ValuesRead s arities at k nodes₀ nodes' to (Ok i)
     values_read = record {
       is_end = sym (ap terms_end g.here.there);
       places = all_placed;
       before = λ j l. kept j (omega arith) (λ q. omega arith) ∙ g.before j l;
     }
 
-  pub values_broken : (k : ℕ) (nodes : List ℕ) → end.Broken ≡ terms_end (many (term s arities) k at) → Before nodes₀ nodes to
-      → ValuesRead s arities at k nodes₀ nodes to end.Broken
+  pub values_broken : (k : ℕ) (nodes : List ℕ) → Err one.Broken ≡ terms_end (many (term s arities) k at) → Before nodes₀ nodes to
+      → ValuesRead s arities at k nodes₀ nodes to (Err one.Broken)
   values_broken k nodes h b = record {
     is_end = h;
-    places = λ vs e q. clash (let z : end.Broken ≡ end.End e = h ∙ ap terms_end q in cc);
+    places = λ vs e q. clash (let z : Err one.Broken ≡ Ok e = h ∙ ap terms_end q in cc);
     before = b;
   }
 
 -- ── a node ──
 -- a node whose rule number was read went into row j
-pub record NodeEntered (P : Protocol) (p s : List ℕ) (number at : ℕ) (nodes nodes' : List ℕ) (j : ℕ) (r : NodeEnd) : Type 0 where
+pub record NodeEntered (P : Protocol) (p s : List ℕ) (number at : ℕ) (nodes nodes' : List ℕ) (j : ℕ) (r : Result ℕ NodeFault) : Type 0 where
   pub is_end : r ≡ node_from P s (rule_of P number) at
   pub row : (x : Node) (e : ℕ) → values P s number (rule_of P number) at ≡ got x e → Row p s nodes' j x
   pub before : Before nodes nodes' (row_at j)
 
 -- the node at a place
-pub record NodeRead (P : Protocol) (p s : List ℕ) (at : ℕ) (nodes nodes' : List ℕ) (j : ℕ) (r : NodeEnd) : Type 0 where
+pub record NodeRead (P : Protocol) (p s : List ℕ) (at : ℕ) (nodes nodes' : List ℕ) (j : ℕ) (r : Result ℕ NodeFault) : Type 0 where
   pub is_end : r ≡ node_end P s at
   pub row : (x : Node) (e : ℕ) → node P s at ≡ got x e → Row p s nodes' j x
   pub before : Before nodes nodes' (row_at j)
 
 -- the code's two cases of a rule number
-module _ (p : List ℕ) (P : Protocol) (number : ℕ) {r : Found} where
-  pub as_found : {place : ℕ} → r ≡ fd.At place → Finds p P number r → RuleFound p P number place
+module _ (p : List ℕ) (P : Protocol) (number : ℕ) {r : Option ℕ} where
+  pub as_found : {place : ℕ} → r ≡ Some place → Finds p P number r → RuleFound p P number place
   as_found e x = subst (Finds p P number) e x
 
-  pub as_none : r ≡ fd.Nothing → Finds p P number r → rule_of P number ≡ None
+  pub as_none : r ≡ None → Finds p P number r → rule_of P number ≡ None
   as_none e x = subst (Finds p P number) e x
 
 module _ {P : Protocol} {p : List ℕ} (f : Prepared p P) (s : List ℕ) (number at : ℕ) (nodes : List ℕ) (j : ℕ) where
@@ -243,7 +240,7 @@ module _ {P : Protocol} {p : List ℕ} (f : Prepared p P) (s : List ℕ) (number
     variables_few = omega (arith, sorts_are, (rule_within P f.body.within number x.its x.is).laid.few)
 
     pub found_entered :
-        (nodes₁ nodes₂ : List ℕ) (r : NodeEnd) → nodes₁ ≡ set nodes (row_at j) number → row_at j < length nodes
+        (nodes₁ nodes₂ : List ℕ) (r : Result ℕ NodeFault) → nodes₁ ≡ set nodes (row_at j) number → row_at j < length nodes
         → ValuesRead s (slots_of p) at k nodes₁ nodes₂ (places_at j) r → NodeEntered P p s number at nodes nodes₂ j r
     found_entered nodes₁ nodes₂ r h room v =
         let same : many (term s (slots_of p)) k at ≡ many (term s (tag_arities P.functions)) (length x.its.sorts) at =
@@ -273,7 +270,7 @@ module _ {P : Protocol} {p : List ℕ} (f : Prepared p P) (s : List ℕ) (number
         }
 
   -- there is none
-  pub none_entered : rule_of P number ≡ None → NodeEntered P p s number at nodes nodes j end.NoRule
+  pub none_entered : rule_of P number ≡ None → NodeEntered P p s number at nodes nodes j (Err one.NoRule)
   none_entered h = record {
     is_end = sym (ap (λ (o : Option Rule). node_from P s o at) h);
     row = λ x e q. clash (let z : fault ≡ got x e = sym (ap (λ (o : Option Rule). values P s number o at) h) ∙ q in cc);
@@ -282,7 +279,7 @@ module _ {P : Protocol} {p : List ℕ} (f : Prepared p P) (s : List ℕ) (number
 
 module _ {P : Protocol} {p s : List ℕ} (at : ℕ) (nodes nodes' : List ℕ) (j : ℕ) where
   pub number_entered :
-      (number e : ℕ) (r : NodeEnd) → read_number s at ≡ got number e → NodeEntered P p s number e nodes nodes' j r → NodeRead P p s at nodes nodes' j r
+      (number e : ℕ) (r : Result ℕ NodeFault) → read_number s at ≡ got number e → NodeEntered P p s number e nodes nodes' j r → NodeRead P p s at nodes nodes' j r
   unfolding node_end node
   number_entered number e r h n = record {
     is_end = n.is_end ∙ sym (ap (node_of P s) h);
@@ -290,7 +287,7 @@ module _ {P : Protocol} {p s : List ℕ} (at : ℕ) (nodes nodes' : List ℕ) (j
     before = n.before;
   }
 
-  pub number_broken : read_number s at ≡ fault → NodeRead P p s at nodes nodes j end.Broken
+  pub number_broken : read_number s at ≡ fault → NodeRead P p s at nodes nodes j (Err one.Broken)
   unfolding node_end node
   number_broken h = record {
     is_end = sym (ap (node_of P s) h);
@@ -313,7 +310,7 @@ module _ (P : Protocol) (p s : List ℕ) (at : ℕ) where
   passed_none nodes = record { each = λ k l. absurd (omega arith); here = came_none (node P s) at }
 
   module _ (j i : ℕ) (nodes nodes' : List ℕ) (c : Passed j i nodes) where
-    pub passed_more : (e : ℕ) (r : NodeEnd) → r ≡ end.End e → NodeRead P p s i nodes nodes' j r → Passed (j + 1) e nodes'
+    pub passed_more : (e : ℕ) (r : Result ℕ NodeFault) → r ≡ Ok e → NodeRead P p s i nodes nodes' j r → Passed (j + 1) e nodes'
     passed_more e r is n =
         let (x, g) = end_node P s i (sym n.is_end ∙ is) in
         record {
@@ -328,13 +325,13 @@ module _ (P : Protocol) (p s : List ℕ) (at : ℕ) where
           here = came_more (node P s) at j i e x c.here g;
         }
 
-    module _ (n : ℕ) (l : j < n) {r : NodeEnd} (h : NodeRead P p s i nodes nodes' j r) where
-      pub passed_broken : r ≡ end.Broken → nodes_from P s 1 n at ≡ broken
+    module _ (n : ℕ) (l : j < n) {r : Result ℕ NodeFault} (h : NodeRead P p s i nodes nodes' j r) where
+      pub passed_broken : r ≡ Err one.Broken → nodes_from P s 1 n at ≡ broken
       passed_broken is =
           let (u, g) = broken_node P s i (sym h.is_end ∙ is) in
           stops_broken P s i u g j 1 n at c.here.items c.here.there l
 
-      pub passed_unknown : r ≡ end.NoRule → nodes_from P s 1 n at ≡ no_rule (j + 1)
+      pub passed_unknown : r ≡ Err one.NoRule → nodes_from P s 1 n at ≡ no_rule (j + 1)
       passed_unknown is =
           let k : 1 + j ≡ j + 1 = omega arith in
           stops_unknown P s i (no_node_lem P s i (sym h.is_end ∙ is)) j 1 n at c.here.items c.here.there l ∙ ap no_rule k

@@ -2,7 +2,7 @@
 use Rattle.std.specs.Prelude.{ℕ, zero, suc, ◌≤◌, ◌<◌, List, [], Bool, true, false, not, ◌&&◌, ◌||◌, ◌≡◌, refl, length, ltb, eqb, ◌↔◌}
 use Rattle.std.proofs.Common.{append-nil, ap, ap₂, sym, ◌∙◌, subst, arith, lt-ltb, le-ltb, ne_eqb}
 use Rattle.std.proofs.Math.Bool.{and-false, and-true}
-use Rattle.std.specs.Prelude.{None}
+use Rattle.std.specs.Prelude.{Option, Some, None}
 use Rattle.steps.specs.Values.{most_in_value}
 use Rattle.octets.specs.Limits.{longest}
 use Rattle.message.specs.Canon.{canon}
@@ -35,10 +35,10 @@ use Rattle.message.specs.Substitution.Laws.{none_ground}
 use Rattle.steps.specs.Values.Laws.{canon_decides}
 
 -- a name by its symbol: tag 2 fresh, tag 1 public
-abbrev pub NameIs : Symbol → Name → Type 0
-NameIs y (nm.FreshName f) = (e : ℕ) × (y ≡ sy.Leaf 2 f.0 e)
-NameIs y (nm.PublicName f) = (e : ℕ) × (y ≡ sy.Leaf 1 f.0 e)
-NameIs y nm.Other = (n e : ℕ) → (y ≡ sy.Leaf 2 n e → ⊥) × (y ≡ sy.Leaf 1 n e → ⊥)
+abbrev pub NameIs : Option Symbol → Option Name → Type 0
+NameIs y (Some (nm.FreshName f)) = (e : ℕ) × (y ≡ Some (sy.Leaf 2 f.0 e))
+NameIs y (Some (nm.PublicName f)) = (e : ℕ) × (y ≡ Some (sy.Leaf 1 f.0 e))
+NameIs y None = (n e : ℕ) → (y ≡ Some (sy.Leaf 2 n e) → ⊥) × (y ≡ Some (sy.Leaf 1 n e) → ⊥)
 
 -- what a name fits: a fresh one, a public one, a value that is none
 abbrev pub of_fresh : ℕ → Fresh → Bool
@@ -47,10 +47,10 @@ of_fresh sort f = eqb sort 0 || eqb sort 1
 abbrev pub of_public : ℕ → Public → Bool
 of_public sort f = eqb sort 0 || eqb sort 2
 
-abbrev pub of_name : ℕ → Name → Bool
-of_name sort (nm.FreshName f) = of_fresh sort f
-of_name sort (nm.PublicName f) = of_public sort f
-of_name sort nm.Other = eqb sort 0
+abbrev pub of_name : ℕ → Option Name → Bool
+of_name sort (Some (nm.FreshName f)) = of_fresh sort f
+of_name sort (Some (nm.PublicName f)) = of_public sort f
+of_name sort None = eqb sort 0
 
 -- there is room to make a form in
 pub record FormRoom (out : List ℕ) : Type 0 where
@@ -73,21 +73,6 @@ pub record GroundThere (arities file : List ℕ) (at size : ℕ) (t : Term) : Ty
 pub room_kept : {out out' : List ℕ} → FormRoom out → length out' ≡ length out → FormRoom out'
 room_kept r e = record { enough = omega (arith, r.enough); short = omega (arith, r.short) }
 
--- ── a name by its symbol ──
-module _ {y : Symbol} where
-  pub tagged : {t n e : ℕ} (k : ℕ) → y ≡ sy.Leaf t n e → t ≡ k → y ≡ sy.Leaf k n e
-  tagged {t} {n} {e} k h i = h ∙ ap (λ (j : ℕ). sy.Leaf j n e) i
-
-  pub other_leaf :
-      {t n e : ℕ} → y ≡ sy.Leaf t n e → (t ≡ 2 → ⊥) → (t ≡ 1 → ⊥) → (m d : ℕ) → (y ≡ sy.Leaf 2 m d → ⊥) × (y ≡ sy.Leaf 1 m d → ⊥)
-  other_leaf {t} {n} {e} h a b m d = ((λ g. a (let i : t ≡ 2 = cc in i)), (λ g. b (let i : t ≡ 1 = cc in i)))
-
-  pub other_op : {t k e : ℕ} → y ≡ sy.Op t k e → (m d : ℕ) → (y ≡ sy.Leaf 2 m d → ⊥) × (y ≡ sy.Leaf 1 m d → ⊥)
-  other_op h m d = ((λ g. clash (cc)), (λ g. clash (cc)))
-
-  pub other_fault : y ≡ sy.Fault → (m d : ℕ) → (y ≡ sy.Leaf 2 m d → ⊥) × (y ≡ sy.Leaf 1 m d → ⊥)
-  other_fault h m d = ((λ g. clash (cc)), (λ g. clash (cc)))
-
 -- ── what a name fits ──
 neither : (k n : ℕ) → n < 3 → (eqb (suc (suc (suc k))) 0 || eqb (suc (suc (suc k))) n) ≡ false
 neither k n l =
@@ -98,49 +83,49 @@ module _ (file arities : List ℕ) (at : ℕ) (bytes : Bytes file) (t : Term) (e
   built : build (term file arities) (symbol_at file arities at) ≡ got t e
   built = sym (term_build file arities bytes at) ∙ there
 
-  pub leaf_is : (k n d : ℕ) → symbol_at file arities at ≡ sy.Leaf k n d → t ≡ leaf (kind_of k) n
+  pub leaf_is : (k n d : ℕ) → symbol_at file arities at ≡ Some (sy.Leaf k n d) → t ≡ leaf (kind_of k) n
   leaf_is k n d h =
       let g : got (leaf (kind_of k) n) d ≡ got t e = sym (ap (build (term file arities)) h) ∙ built in
       cc
 
-  no_name : ((n d : ℕ) → (symbol_at file arities at ≡ sy.Leaf 2 n d → ⊥) × (symbol_at file arities at ≡ sy.Leaf 1 n d → ⊥)) → (is_fresh t ≡ false) ×
+  no_name : ((n d : ℕ) → (symbol_at file arities at ≡ Some (sy.Leaf 2 n d) → ⊥) × (symbol_at file arities at ≡ Some (sy.Leaf 1 n d) → ⊥)) → (is_fresh t ≡ false) ×
       (is_public t ≡ false)
   no_name h = go (symbol_at file arities at) refl built
     where
-      leaves : (k n d : ℕ) → symbol_at file arities at ≡ sy.Leaf k n d → k < 3 → (is_fresh (leaf (kind_of k) n) ≡ false) × (is_public (leaf (kind_of k) n) ≡ false)
+      leaves : (k n d : ℕ) → symbol_at file arities at ≡ Some (sy.Leaf k n d) → k < 3 → (is_fresh (leaf (kind_of k) n) ≡ false) × (is_public (leaf (kind_of k) n) ≡ false)
       leaves zero n d g l = (refl, refl)
       leaves (suc zero) n d g l = absurd ((h n d).1 g)
       leaves (suc (suc zero)) n d g l = absurd ((h n d).0 g)
       leaves (suc (suc (suc k))) n d g l = absurd (omega arith)
 
-      go : (y : Symbol) → symbol_at file arities at ≡ y → build (term file arities) y ≡ got t e → (is_fresh t ≡ false) × (is_public t ≡ false)
-      go (sy.Leaf k n d) g b =
+      go : (y : Option Symbol) → symbol_at file arities at ≡ y → build (term file arities) y ≡ got t e → (is_fresh t ≡ false) × (is_public t ≡ false)
+      go (Some (sy.Leaf k n d)) g b =
           let r = leaves k n d g (leaf_at file arities at k n d g).small in
           let i = leaf_is k n d g in
           (ap is_fresh i ∙ r.0, ap is_public i ∙ r.1)
-      go (sy.Op k n d) g b =
+      go (Some (sy.Op k n d)) g b =
           cut_got (many (term file arities) n d) _ b (λ ts f hm q.
           let i : app k (terms ts) ≡ t = cc in
           (sym (ap is_fresh i), sym (ap is_public i)))
-      go sy.Fault g b = clash (cc)
+      go None g b = clash (cc)
 
   -- a term that no fresh name begins is none
-  pub no_fresh : ((n d : ℕ) → symbol_at file arities at ≡ sy.Leaf 2 n d → ⊥) → fresh_number t ≡ None
+  pub no_fresh : ((n d : ℕ) → symbol_at file arities at ≡ Some (sy.Leaf 2 n d) → ⊥) → fresh_number t ≡ None
   no_fresh h = go (symbol_at file arities at) refl built
     where
-      leaves : (k n d : ℕ) → symbol_at file arities at ≡ sy.Leaf k n d → k < 3 → fresh_number (leaf (kind_of k) n) ≡ None
+      leaves : (k n d : ℕ) → symbol_at file arities at ≡ Some (sy.Leaf k n d) → k < 3 → fresh_number (leaf (kind_of k) n) ≡ None
       leaves zero n d g l = refl
       leaves (suc zero) n d g l = refl
       leaves (suc (suc zero)) n d g l = absurd (h n d g)
       leaves (suc (suc (suc k))) n d g l = absurd (omega arith)
 
-      go : (y : Symbol) → symbol_at file arities at ≡ y → build (term file arities) y ≡ got t e → fresh_number t ≡ None
-      go (sy.Leaf k n d) g b = ap fresh_number (leaf_is k n d g) ∙ leaves k n d g (leaf_at file arities at k n d g).small
-      go (sy.Op k n d) g b =
+      go : (y : Option Symbol) → symbol_at file arities at ≡ y → build (term file arities) y ≡ got t e → fresh_number t ≡ None
+      go (Some (sy.Leaf k n d)) g b = ap fresh_number (leaf_is k n d g) ∙ leaves k n d g (leaf_at file arities at k n d g).small
+      go (Some (sy.Op k n d)) g b =
           cut_got (many (term file arities) n d) _ b (λ ts f hm q.
           let i : app k (terms ts) ≡ t = cc in
           sym (ap fresh_number i))
-      go sy.Fault g b = clash (cc)
+      go None g b = clash (cc)
 
   sorts_fresh : (sort n : ℕ) → (eqb sort 0 || eqb sort 1) ≡ of_sort sort (leaf fresh n)
   sorts_fresh zero n = refl
@@ -160,10 +145,10 @@ module _ (file arities : List ℕ) (at : ℕ) (bytes : Bytes file) (t : Term) (e
   sorts_other (suc (suc zero)) a b = sym b
   sorts_other (suc (suc (suc k))) a b = ne_eqb (suc (suc (suc k))) 0 (λ h. omega arith)
 
-  pub name_sort : (sort : ℕ) (x : Name) → NameIs (symbol_at file arities at) x → of_name sort x ≡ of_sort sort t
-  name_sort sort (nm.FreshName f) (d, h) = sorts_fresh sort f.0 ∙ ap (of_sort sort) (sym (leaf_is 2 f.0 d h))
-  name_sort sort (nm.PublicName f) (d, h) = sorts_public sort f.0 ∙ ap (of_sort sort) (sym (leaf_is 1 f.0 d h))
-  name_sort sort nm.Other h = let (a, b) = no_name h in sorts_other sort a b
+  pub name_sort : (sort : ℕ) (x : Option Name) → NameIs (symbol_at file arities at) x → of_name sort x ≡ of_sort sort t
+  name_sort sort (Some (nm.FreshName f)) (d, h) = sorts_fresh sort f.0 ∙ ap (of_sort sort) (sym (leaf_is 2 f.0 d h))
+  name_sort sort (Some (nm.PublicName f)) (d, h) = sorts_public sort f.0 ∙ ap (of_sort sort) (sym (leaf_is 1 f.0 d h))
+  name_sort sort None h = let (a, b) = no_name h in sorts_other sort a b
 
   -- a name fits just where its sort does
   names_ok : (k : Kind) (n : ℕ) → holds (leaf k n) 0 0 number_limit ≡ false → (sort : ℕ) → t ≡ leaf k n → of_sort sort t ≡ value_ok sort t
@@ -173,19 +158,19 @@ module _ (file arities : List ℕ) (at : ℕ) (bytes : Bytes file) (t : Term) (e
       ap₂ (λ (a b : Bool). not a && (of_sort sort (leaf k n) && b)) h c ∙ and-true (of_sort sort (leaf k n)) in
       ap (of_sort sort) e ∙ sym one ∙ sym (ap (value_ok sort) e)
 
-  module _ (sort : ℕ) (x : Name) (is : NameIs (symbol_at file arities at) x) (b : Bool) where
-    pub fresh_ok : {f : Fresh} → x ≡ nm.FreshName f → b ≡ of_fresh sort f → b ≡ value_ok sort t
+  module _ (sort : ℕ) (x : Option Name) (is : NameIs (symbol_at file arities at) x) (b : Bool) where
+    pub fresh_ok : {f : Fresh} → x ≡ Some (nm.FreshName f) → b ≡ of_fresh sort f → b ≡ value_ok sort t
     fresh_ok {f} h e =
         let (d, q) = subst (NameIs (symbol_at file arities at)) h is in
         e ∙ sym (ap (of_name sort) h) ∙ name_sort sort x is ∙ names_ok fresh f.0 refl sort (leaf_is 2 f.0 d q)
 
-    pub public_ok : {f : Public} → x ≡ nm.PublicName f → b ≡ of_public sort f → b ≡ value_ok sort t
+    pub public_ok : {f : Public} → x ≡ Some (nm.PublicName f) → b ≡ of_public sort f → b ≡ value_ok sort t
     public_ok {f} h e =
         let (d, q) = subst (NameIs (symbol_at file arities at)) h is in
         e ∙ sym (ap (of_name sort) h) ∙ name_sort sort x is ∙ names_ok public f.0 refl sort (leaf_is 1 f.0 d q)
 
   -- what is no name fits no sort of names
-  pub other_sort : (sort : ℕ) (x : Name) → NameIs (symbol_at file arities at) x → x ≡ nm.Other → (sort ≡ 0 → ⊥) → of_sort sort t ≡ false
+  pub other_sort : (sort : ℕ) (x : Option Name) → NameIs (symbol_at file arities at) x → x ≡ None → (sort ≡ 0 → ⊥) → of_sort sort t ≡ false
   other_sort sort x is h n = sym (name_sort sort x is) ∙ ap (of_name sort) h ∙ ne_eqb sort 0 n
 
 -- ── the whole test ──

@@ -1,7 +1,7 @@
 -- The terms of a fact, the facts of a list and the lists of a rule, one after the other: a test of all of them.
 use Prim.Native.Nat.{ℕ, zero, suc, ◌+◌, ◌-◌, ◌≤◌, ◌<◌}
 use mathlib.Core.List.{List, [], ◌∷◌}
-use Rattle.std.specs.Prelude.{Bool, true, false, ◌&&◌, ◌≡◌, refl, length, drop, ltb}
+use Rattle.std.specs.Prelude.{Bool, true, false, ◌&&◌, ◌≡◌, refl, length, drop, ltb, Some, None}
 use Rattle.std.proofs.Math.Path.{ap, ap₂}
 use Rattle.std.proofs.Common.{sym, ◌∙◌, drop_of_length-le, drop-cons}
 use native.Mathlib.Omega.{arith}
@@ -24,7 +24,6 @@ use Rattle.lists.specs.Lists.{all_by}
 use Rattle.steps.specs.Facts.{value_at}
 use Rattle.steps.specs.Values.Tests.{term_ok, fact_ok, rule_ok}
 use Rattle.steps.specs.Values.Weights.{weigh, weighs, weigh_filled, term_small, small_to, upto, big}
-use Rattle.steps.specs.declared.sizes.Small.TheVariants as sm
 
 -- ── all of a list ──
 module _ {A : Type 0} (ok : A → Bool) (d : A) (xs : List A) where
@@ -87,17 +86,20 @@ module _ {A : Type 0} (p : ℕ → Read A) (ok : A → Bool) (xs : List A) (end 
   pub left_reads : (k at : ℕ) → 0 < k → Left k at → Asks₂ (ReadAs p at)
   left_reads k at l g = let x = next k at l g in (x.item, x.behind, x.here)
 
-  pub left_more : (k at e : ℕ) → 0 < k → Left k at → Promises₂ (ReadAs p at) (λ (x : A) (d : ℕ). sm.Upto e ≡ small_to (ok x) d) → Left (k - 1) e
-  left_more k at e l g h =
-      let x = next k at l g in
+  pub left_more :
+      (k i at e : ℕ) → i + 1 ≡ k → Left k at → Promises₂ (ReadAs p at) (λ (x : A) (d : ℕ). Some e ≡ small_to (ok x) d)
+      → Left i e
+  left_more k i at e l g h =
+      let x = next k at (omega arith) g in
       let (good, here) = upto (ok x.item) x.behind e (h x.item x.behind x.here) in
+      let z : i ≡ k - 1 = omega arith in
       record {
         rest = x.others;
-        reads = ap (many p (k - 1)) here ∙ x.reads;
+        reads = ap₂ (many p) z here ∙ x.reads;
         decide = ap (λ (b : Bool). b && all_by ok x.others) good ∙ x.decide;
       }
 
-  pub left_bad : (k at : ℕ) → 0 < k → Left k at → Promises₂ (ReadAs p at) (λ (x : A) (d : ℕ). sm.Big ≡ small_to (ok x) d) → false ≡ all_by ok xs
+  pub left_bad : (k at : ℕ) → 0 < k → Left k at → Promises₂ (ReadAs p at) (λ (x : A) (d : ℕ). None ≡ small_to (ok x) d) → false ≡ all_by ok xs
   left_bad k at l g h =
       let x = next k at l g in
       ap (λ (b : Bool). b && all_by ok x.others) (big (ok x.item) x.behind (h x.item x.behind x.here)) ∙ x.decide

@@ -1,7 +1,7 @@
 -- The symbols of a term with the values filled in, added up symbol by symbol: a variable weighs as much as its value, everything else one.
 use Prim.Native.Nat.{ℕ, zero, suc, ◌+◌, ◌-◌, ◌≤◌, ◌<◌}
 use mathlib.Core.List.{List, [], ◌∷◌, ◌++◌}
-use Rattle.std.specs.Prelude.{Bool, true, false, ◌≡◌, length, get_or, ltb}
+use Rattle.std.specs.Prelude.{Bool, true, false, ◌≡◌, length, get_or, ltb, Option, Some, None}
 use Rattle.std.proofs.Math.Path.{refl, ap, ap₂, sym}
 use Rattle.std.proofs.Common.{◌∙◌, lt-ltb, le-ltb}
 use native.Mathlib.Omega.{arith}
@@ -18,10 +18,6 @@ use Rattle.term.specs.Reader.Laws.{term_build, leaf_ahead, op_ahead}
 use Rattle.term.specs.declared.Symbol.{Symbol}
 use Rattle.term.specs.declared.Symbol.TheVariants as sy
 use Rattle.message.specs.Substitution.{sub, subs}
-use Rattle.steps.specs.declared.sizes.Weight.{Weight}
-use Rattle.steps.specs.declared.sizes.Weight.TheVariants as wt
-use Rattle.steps.specs.declared.sizes.Small.{Small}
-use Rattle.steps.specs.declared.sizes.Small.TheVariants as sm
 
 -- ── weights ──
 abbrev pub leaf_weight : (ℕ → ℕ) → Kind → ℕ → ℕ
@@ -63,21 +59,24 @@ total_terms w [] = refl
 total_terms w (t ∷ ts) = ap (λ (n : ℕ). weigh w t + n) (total_terms w ts)
 
 -- ── one symbol: its weight, how many terms it takes, the place behind it ──
-abbrev pub weight_of : (ℕ → ℕ) → Symbol → Weight
-weight_of w (sy.Leaf t n e) = wt.Takes (leaf_weight w (kind_of t) n) 0 e
-weight_of w (sy.Op t k e) = wt.Takes 1 k e
-weight_of w sy.Fault = wt.Fault
+abbrev pub weight_of : (ℕ → ℕ) → Option Symbol → Option (ℕ × ℕ × ℕ)
+weight_of w (Some (sy.Leaf t n e)) = Some (leaf_weight w (kind_of t) n, 0, e)
+weight_of w (Some (sy.Op t k e)) = Some (1, k, e)
+weight_of w None = None
+
+weight_parts : {a b k l d e : ℕ} → ◌≡◌ {A = Option (ℕ × ℕ × ℕ)} (Some (a, k, d)) (Some (b, l, e)) → (a ≡ b) × (k ≡ l) × (d ≡ e)
+weight_parts h = grind arith
 
 -- weights are small if the values' are
-pub weight_small : (w : ℕ → ℕ) (b : ℕ) → 1 ≤ b → ((v : ℕ) → w v ≤ b) → (y : Symbol) {a k e : ℕ} → weight_of w y ≡ wt.Takes a k e → a ≤ b
-weight_small w b l small (sy.Leaf t n d) {a} {k} {e} h = let q : leaf_weight w (kind_of t) n ≡ a = cc in omega (arith, go (kind_of t))
+pub weight_small : (w : ℕ → ℕ) (b : ℕ) → 1 ≤ b → ((v : ℕ) → w v ≤ b) → (y : Option Symbol) {a k e : ℕ} → weight_of w y ≡ Some (a, k, e) → a ≤ b
+weight_small w b l small (Some (sy.Leaf t n d)) {a} {k} {e} h = let q : leaf_weight w (kind_of t) n ≡ a = grind arith in omega (arith, go (kind_of t))
   where
     go : (j : Kind) → leaf_weight w j n ≤ b
     go variable = small n
     go public = l
     go fresh = l
-weight_small w b l small (sy.Op t n d) {a} {k} {e} h = let q : 1 ≡ a = cc in omega arith
-weight_small w b l small sy.Fault h = clash (cc)
+weight_small w b l small (Some (sy.Op t n d)) {a} {k} {e} h = let q : 1 ≡ a = grind arith in omega arith
+weight_small w b l small None h = clash (cc)
 
 -- the sizes of the values as a table
 abbrev pub size_in : List ℕ → ℕ → ℕ
@@ -88,15 +87,15 @@ abbrev pub term_small : (ℕ → ℕ) → Term → Bool
 term_small w t = ltb (weigh w t) (suc most_filled_in)
 
 -- small enough, with the place behind it; or not
-abbrev pub small_to : Bool → ℕ → Small
-small_to true e = sm.Upto e
-small_to false e = sm.Big
+abbrev pub small_to : Bool → ℕ → Option ℕ
+small_to true e = Some e
+small_to false e = None
 
-pub upto : (b : Bool) (e d : ℕ) → sm.Upto d ≡ small_to b e → (true ≡ b) × (d ≡ e)
+pub upto : (b : Bool) (e d : ℕ) → Some d ≡ small_to b e → (true ≡ b) × (d ≡ e)
 upto true e d h = (refl, cc)
 upto false e d h = clash (cc)
 
-pub big : (b : Bool) (e : ℕ) → sm.Big ≡ small_to b e → false ≡ b
+pub big : (b : Bool) (e : ℕ) → None ≡ small_to b e → false ≡ b
 big true e h = clash (cc)
 big false e h = refl
 
@@ -111,7 +110,7 @@ module _ (file arities : List ℕ) (w : ℕ → ℕ) (t : Term) (end : ℕ) wher
   unfolding many
   going_starts at h = record { rest = t ∷ []; reads = then_got (term file arities at) _ h; adds = omega arith }
 
-  pub going_ends : (sum pending i : ℕ) → pending ≤ 0 → sum ≤ most_filled_in → Going sum pending i → sm.Upto i ≡ small_to (term_small w t) end
+  pub going_ends : (sum pending i : ℕ) → pending ≤ 0 → sum ≤ most_filled_in → Going sum pending i → Some i ≡ small_to (term_small w t) end
   unfolding many
   going_ends sum (suc n) i z l g = absurd (omega arith)
   going_ends sum zero i z l g =
@@ -120,7 +119,7 @@ module _ (file arities : List ℕ) (w : ℕ → ℕ) (t : Term) (end : ℕ) wher
       ap₂ small_to (sym (lt-ltb (weigh w t) (suc most_filled_in) (omega (arith, g.adds, ap (total w) r)))) b
 
   -- what was added up is no more than the whole
-  pub going_long : (sum pending i : ℕ) → Going sum pending i → most_filled_in < sum → sm.Big ≡ small_to (term_small w t) end
+  pub going_long : (sum pending i : ℕ) → Going sum pending i → most_filled_in < sum → None ≡ small_to (term_small w t) end
   going_long sum pending i g l = ap (λ (b : Bool). small_to b end) (sym (le-ltb (weigh w t) (suc most_filled_in) (omega (arith, g.adds))))
 
   pub record Stepped (sum pending i a k e : ℕ) : Type 0 where
@@ -129,21 +128,21 @@ module _ (file arities : List ℕ) (w : ℕ → ℕ) (t : Term) (end : ℕ) wher
     pub going : Going (sum + a) (pending - 1 + k) e
 
 module _ (file arities : List ℕ) (bytes : Bytes file) (w : ℕ → ℕ) (t : Term) (end : ℕ) where
-  pub going_fault : {C : Type 0} (sum pending i : ℕ) → 0 < pending → Going file arities w t end sum pending i → weight_of w (symbol_at file arities i) ≡ wt.Fault
+  pub going_fault : {C : Type 0} (sum pending i : ℕ) → 0 < pending → Going file arities w t end sum pending i → weight_of w (symbol_at file arities i) ≡ None
       → C
   unfolding many
   going_fault sum zero i l g h = absurd (omega arith)
   going_fault sum (suc n) i l g h =
       cut_got (term file arities i) _ g.reads (λ u d hu q. go (symbol_at file arities i) refl (sym (term_build file arities bytes i) ∙ hu) h)
     where
-      go : {C : Type 0} {u : Term} {d : ℕ} (y : Symbol) → symbol_at file arities i ≡ y → build (term file arities) (symbol_at file arities i) ≡ got u d →
+      go : {C : Type 0} {u : Term} {d : ℕ} (y : Option Symbol) → symbol_at file arities i ≡ y → build (term file arities) (symbol_at file arities i) ≡ got u d →
           weight_of w
-          (symbol_at file arities i) ≡ wt.Fault → C
-      go (sy.Leaf f m b) y hu h = let q : wt.Takes (leaf_weight w (kind_of f) m) 0 b ≡ wt.Fault = sym (ap (weight_of w) y) ∙ h in clash (cc)
-      go (sy.Op f m b) y hu h = let q : wt.Takes 1 m b ≡ wt.Fault = sym (ap (weight_of w) y) ∙ h in clash (cc)
-      go {C} {u} {d} sy.Fault y hu h = let q : fault ≡ got u d = sym (ap (build (term file arities)) y) ∙ hu in clash (cc)
+          (symbol_at file arities i) ≡ None → C
+      go (Some (sy.Leaf f m b)) y hu h = let q : Some (leaf_weight w (kind_of f) m, 0, b) ≡ None = sym (ap (weight_of w) y) ∙ h in clash (cc)
+      go (Some (sy.Op f m b)) y hu h = let q : Some (1, m, b) ≡ None = sym (ap (weight_of w) y) ∙ h in clash (cc)
+      go {C} {u} {d} None y hu h = let q : fault ≡ got u d = sym (ap (build (term file arities)) y) ∙ hu in clash (cc)
 
-  pub going_more : (sum pending i a k e : ℕ) → 0 < pending → Going file arities w t end sum pending i → weight_of w (symbol_at file arities i) ≡ wt.Takes a k e →
+  pub going_more : (sum pending i a k e : ℕ) → 0 < pending → Going file arities w t end sum pending i → weight_of w (symbol_at file arities i) ≡ Some (a, k, e) →
       Stepped file
       arities w t end sum pending i a k e
   unfolding many
@@ -155,19 +154,20 @@ module _ (file arities : List ℕ) (bytes : Bytes file) (w : ℕ → ℕ) (t : T
       let z : sum + (weigh w u + total w us) ≡ weigh w t = ap (λ (l : List Term). sum + total w l) r ∙ g.adds in
       go (symbol_at file arities i) refl u d us (sym (term_build file arities bytes i) ∙ hu) (hus ∙ ap (got us) b) z h))
     where
-      go : (y : Symbol) → symbol_at file arities i ≡ y → (u : Term) (d : ℕ) (us : List Term) → build (term file arities) (symbol_at file arities i) ≡ got
+      go : (y : Option Symbol) → symbol_at file arities i ≡ y → (u : Term) (d : ℕ) (us : List Term) → build (term file arities) (symbol_at file arities i) ≡ got
           u d
-          → many (term file arities) n d ≡ got us end → sum + (weigh w u + total w us) ≡ weigh w t → weight_of w (symbol_at file arities i) ≡ wt.Takes a k e →
+          → many (term file arities) n d ≡ got us end → sum + (weigh w u + total w us) ≡ weigh w t → weight_of w (symbol_at file arities i) ≡ Some (a, k, e) →
           Stepped file
           arities w t end sum (suc n) i a k e
-      go (sy.Leaf f m b) y u d us hu hus z h =
+      go (Some (sy.Leaf f m b)) y u d us hu hus z h =
           let p : got (leaf (kind_of f) m) b ≡ got u d = sym (ap (build (term file arities)) y) ∙ hu in
-          let q : wt.Takes (leaf_weight w (kind_of f) m) 0 b ≡ wt.Takes a k e = sym (ap (weight_of w) y) ∙ h in
+          let q : Some (leaf_weight w (kind_of f) m, 0, b) ≡ Some (a, k, e) = sym (ap (weight_of w) y) ∙ h in
           let pu : leaf (kind_of f) m ≡ u = cc in
           let pd : b ≡ d = cc in
-          let qa : leaf_weight w (kind_of f) m ≡ a = cc in
-          let qk : 0 ≡ k = cc in
-          let qe : b ≡ e = cc in
+          let g = weight_parts q in
+          let qa : leaf_weight w (kind_of f) m ≡ a = g.0 in
+          let qk : 0 ≡ k = g.1 in
+          let qe : b ≡ e = g.2 in
           let x = leaf_ahead file arities bytes i f m b y in
           let j : suc n - 1 + k ≡ n = omega arith in
           let de : e ≡ d = sym qe ∙ pd in
@@ -180,14 +180,15 @@ module _ (file arities : List ℕ) (bytes : Bytes file) (w : ℕ → ℕ) (t : T
               adds = omega (arith, ap (weigh w) pu);
             };
           }
-      go (sy.Op f m b) y u d us hu hus z h =
+      go (Some (sy.Op f m b)) y u d us hu hus z h =
           cut_got (many (term file arities) m b) _ (sym (ap (build (term file arities)) y) ∙ hu) (λ vs o hvs p.
-          let q : wt.Takes 1 m b ≡ wt.Takes a k e = sym (ap (weight_of w) y) ∙ h in
+          let q : Some (1, m, b) ≡ Some (a, k, e) = sym (ap (weight_of w) y) ∙ h in
           let pu : app f (terms vs) ≡ u = cc in
           let pd : o ≡ d = cc in
-          let qa : 1 ≡ a = cc in
-          let qk : m ≡ k = cc in
-          let qe : b ≡ e = cc in
+          let g = weight_parts q in
+          let qa : 1 ≡ a = g.0 in
+          let qk : m ≡ k = g.1 in
+          let qe : b ≡ e = g.2 in
           let x = op_ahead file arities bytes i f m b y in
           let j : suc n - 1 + k ≡ n + m = omega arith in
           record {
@@ -202,7 +203,7 @@ module _ (file arities : List ℕ) (bytes : Bytes file) (w : ℕ → ℕ) (t : T
               adds = omega (arith, ap (weigh w) pu, total_terms w vs, total_append w vs us);
             };
           })
-      go sy.Fault y u d us hu hus z h = let q : wt.Fault ≡ wt.Takes a k e = sym (ap (weight_of w) y) ∙ h in clash (cc)
+      go None y u d us hu hus z h = let q : None ≡ Some (a, k, e) = sym (ap (weight_of w) y) ∙ h in clash (cc)
 
 -- ── a leaf ──
 module _ (sizes : List ℕ) (n : ℕ) where

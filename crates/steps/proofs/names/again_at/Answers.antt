@@ -1,13 +1,13 @@
--- An entry of 0 makes no name; any other is that of a name, which made_before looks for.
-use Rattle.steps.specs.Names.Laws.{again_of, again_none}
-use mathlib.Core.Path.{refl}
+-- A node that makes no name makes none again; a name is again made if it stands among the entries before.
+use Rattle.steps.specs.Names.Laws.{again_none, again_some}
+use mathlib.Core.Path.{sym, ◌∙◌}
 use native.Mathlib.Omega.{arith}
 use Rattle.steps.proofs.names.again_at.Goals as goal
 
-pub returns-then-entry-eq0 : goal.returns-then-entry-eq0
-returns-then-entry-eq0 c =
-    λ xs n h l k. again_none _ xs n h k _ l _ refl c.if-entry-eq0.true
+pub returns-then-is_some : goal.returns-then-is_some
+returns-then-is_some c =
+    λ xs n h l k. c.contains.ensures.value ∙ again_some _ xs n h k c.args.j l (omega arith) (sym c.is_some.ensures ∙ c.if-is_some.true)
 
-pub returns : goal.returns
-returns c =
-    λ xs n h l k. again_of _ xs n h k _ l _ refl c.if-entry-eq0.false _ (λ m e. c.made_before.ensures xs n h m (omega (arith, l)) k e)
+pub returns-else-is_some : goal.returns-else-is_some
+returns-else-is_some c =
+    λ xs n h l k. sym (sym c.if-is_some.false) ∙ again_none _ xs n h k c.args.j l (sym c.is_some.ensures ∙ c.if-is_some.false)

@@ -4,16 +4,10 @@ use Rattle.steps.specs.Table.{NodesIn}
 use Rattle.steps.specs.Nodes.{Node}
 use Rattle.protocol.specs.Protocol.{Protocol}
 use Rattle.lists.specs.Asks.{Promises₂}
-use Prim.Native.Nat.{◌-◌, ◌≤◌}
 use lib.ListN.{length}
 use mathlib.Core.List.{List}
-use mathlib.Core.Path.{◌≡◌}
 use Rattle.steps.proofs.names.enter_names.Given as goal
 
 abbrev pub invariant-loop-j : goal.invariant-loop-j
 invariant-loop-j l =
-    (l.j ≤ l.n) × (length l.names ≡ length l.initial.names) × Promises₂ (NodesIn l.p l.s l.nodes l.n) (λ (P : Protocol) (xs : List Node). Entered l.names xs l.j)
-
-abbrev pub decreases-loop-j : goal.decreases-loop-j
-decreases-loop-j l =
-    l.n - l.j
+    Promises₂ (NodesIn l.p l.s l.nodes (length l.names)) (λ (P : Protocol) (xs : List Node). Entered l.names xs l.j)

@@ -4,7 +4,6 @@ use Rattle.steps.specs.Names.{Entered}
 use Rattle.steps.specs.Nodes.{no_node}
 use Rattle.steps.specs.Nodes.{Node}
 use Rattle.protocol.specs.Protocol.{Protocol}
-use Prim.Native.Nat.{◌-◌, ◌≤◌}
 use mathlib.Core.List.{List}
 use mathlib.Core.Path.{◌≡◌}
 use lib.ListN.{length}
@@ -12,8 +11,4 @@ use Rattle.steps.proofs.names.least_again.Given as goal
 
 abbrev pub invariant-loop-j : goal.invariant-loop-j
 invariant-loop-j l =
-    (l.j ≤ l.n) × ((p : Protocol) (xs : List Node) → Entered l.names xs l.n → length xs ≡ l.n → NamesLeft p no_node xs l.j)
-
-abbrev pub decreases-loop-j : goal.decreases-loop-j
-decreases-loop-j l =
-    l.n - l.j
+    (p : Protocol) (xs : List Node) → Entered l.names xs (length l.names) → length xs ≡ length l.names → NamesLeft p no_node xs l.j

@@ -5,10 +5,10 @@ use Rattle.number.specs.Reading.{as_read}
 use Rattle.steps.specs.Table.Laws.{few_counted, few_uncounted}
 use Rattle.steps.proofs.nodes.few_nodes.Goals as goal
 
-pub returns-in-Value : goal.returns-in-Value
-returns-in-Value c =
-    λ h. few_counted c.args.s.now (sym c.below.ensures ∙ ap as_read c.in-Value.is) (leb-true _ _ h)
+pub returns-in-Some : goal.returns-in-Some
+returns-in-Some c =
+    λ h. few_counted c.args.s.now (sym c.below.ensures ∙ ap as_read c.in-Some.is) (leb-true _ _ h)
 
-pub returns-in-Fault : goal.returns-in-Fault
-returns-in-Fault c =
-    λ h. few_uncounted c.args.s.now (sym c.below.ensures ∙ ap as_read c.in-Fault.is)
+pub returns-in-None : goal.returns-in-None
+returns-in-None c =
+    λ h. few_uncounted c.args.s.now (sym c.below.ensures ∙ ap as_read c.in-None.is)

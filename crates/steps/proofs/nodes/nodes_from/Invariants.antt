@@ -3,15 +3,10 @@ use Rattle.steps.specs.Nodes.Filling.{Passed}
 use Rattle.prepared.specs.Prepared.{Prepared}
 use Rattle.protocol.specs.Protocol.{Protocol}
 use Rattle.lists.specs.Asks.{Promises}
-use Prim.Native.Nat.{◌-◌, ◌≤◌}
 use mathlib.Core.Path.{◌≡◌}
 use lib.ListN.{length}
 use Rattle.steps.proofs.nodes.nodes_from.Given as goal
 
 abbrev pub invariant-loop-j : goal.invariant-loop-j
 invariant-loop-j l =
-    (l.j ≤ l.n) × (length l.nodes ≡ length l.initial.nodes) × Promises (Prepared l.p) (λ (P : Protocol). Passed P l.p l.s l.at l.j l.i l.nodes)
-
-abbrev pub decreases-loop-j : goal.decreases-loop-j
-decreases-loop-j l =
-    l.n - l.j
+    (length l.nodes ≡ length l.initial.nodes) × Promises (Prepared l.p) (λ (P : Protocol). Passed P l.p l.s l.at l.j l.i l.nodes)

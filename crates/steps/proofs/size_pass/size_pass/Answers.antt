@@ -1,5 +1,4 @@
 -- The invariant is that searching on from node j finds what searching all finds; the first bad node ends it.
-use borrow.Author.Rules.{rules}
 use Rattle.steps.specs.Values.Scan.{rest_all, rest_more, rest_bad, rest_none}
 use Rattle.steps.specs.Values.Tests.{node_terms_ok}
 use Rattle.steps.specs.Table.Laws.{node_in}
@@ -12,7 +11,7 @@ use Rattle.steps.proofs.size_pass.size_pass.Goals as goal
 
 pub loop-j-init : goal.loop-j-init
 loop-j-init c =
-    (search rules, λ P xs h. rest_all (λ k. node_terms_ok P) no_node xs)
+    λ P xs h. rest_all (λ k. node_terms_ok P) no_node xs
 
 pub node_terms-requires : goal.node_terms-requires
 node_terms-requires c =
@@ -20,20 +19,18 @@ node_terms-requires c =
     (P, get_or xs c.loop-j.j no_node, node_in h c.loop-j.j c.loop-j-test.true)
 
 pub loop-j-preserved : goal.loop-j-preserved
-loop-j-preserved c = (
-  omega arith,
-  λ P xs h.
-      let l : c.loop-j.j < length xs = omega (arith, h.count) in
-      rest_more (λ k. node_terms_ok P) no_node xs _ l (sym (c.node_terms.ensures P _
-      (node_in h c.loop-j.j c.loop-j-test.true)) ∙ c.if-node_terms.true) (c.loop-j.invariant.1 P xs h),
-)
-
-pub returns-else-node_terms : goal.returns-else-node_terms
-returns-else-node_terms c =
+loop-j-preserved c =
     λ P xs h.
     let l : c.loop-j.j < length xs = omega (arith, h.count) in
-    rest_bad (λ k. node_terms_ok P) no_node xs _ l (sym (c.node_terms.ensures P _ (node_in h c.loop-j.j c.loop-j-test.true)) ∙ c.if-node_terms.false) (c.loop-j.invariant.1 P xs h)
+    rest_more (λ k. node_terms_ok P) no_node xs _ l (sym (c.node_terms.ensures P _
+    (node_in h c.loop-j.j c.loop-j-test.true)) ∙ c.if-not-node_terms.false) (c.loop-j.invariant P xs h)
+
+pub returns-then-not-node_terms : goal.returns-then-not-node_terms
+returns-then-not-node_terms c =
+    λ P xs h.
+    let l : c.loop-j.j < length xs = omega (arith, h.count) in
+    rest_bad (λ k. node_terms_ok P) no_node xs _ l (sym (c.node_terms.ensures P _ (node_in h c.loop-j.j c.loop-j-test.true)) ∙ c.if-not-node_terms.true) (c.loop-j.invariant P xs h)
 
 pub returns : goal.returns
 returns c =
-    λ P xs h. rest_none (λ k. node_terms_ok P) no_node xs c.loop-j.j (omega (arith, h.count)) (c.loop-j.invariant.1 P xs h)
+    λ P xs h. rest_none (λ k. node_terms_ok P) no_node xs c.loop-j.j (omega (arith, h.count)) (c.loop-j.invariant P xs h)

@@ -5,14 +5,9 @@ use Rattle.steps.specs.Table.{NodesIn}
 use Rattle.steps.specs.Nodes.{Node, no_node}
 use Rattle.protocol.specs.Protocol.{Protocol}
 use Rattle.lists.specs.Asks.{Promises₂}
-use Prim.Native.Nat.{◌-◌, ◌≤◌}
 use mathlib.Core.List.{List}
 use Rattle.steps.proofs.size_pass.size_pass.Given as goal
 
 abbrev pub invariant-loop-j : goal.invariant-loop-j
 invariant-loop-j l =
-    (l.j ≤ l.n) × Promises₂ (NodesIn l.p l.s l.nodes l.n) (λ (P : Protocol) (xs : List Node). Rest (λ k. node_terms_ok P) no_node xs l.j)
-
-abbrev pub decreases-loop-j : goal.decreases-loop-j
-decreases-loop-j l =
-    l.n - l.j
+    Promises₂ (NodesIn l.p l.s l.nodes l.n) (λ (P : Protocol) (xs : List Node). Rest (λ k. node_terms_ok P) no_node xs l.j)

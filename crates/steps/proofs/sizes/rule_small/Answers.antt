@@ -1,5 +1,4 @@
 -- The invariant is that the lists from j on decide; the prepared protocol has each list's place.
-use borrow.Author.Rules.{rules}
 use Rattle.steps.specs.Values.Parts.{all_start, all_more, all_bad, all_done, list_small}
 use Rattle.steps.specs.Table.Laws.{of_listed, of_list, of_three}
 use Rattle.steps.specs.Values.Weights.{size_in}
@@ -13,10 +12,10 @@ use Rattle.steps.proofs.sizes.rule_small.Goals as goal
 
 pub loop-j-init : goal.loop-j-init
 loop-j-init c =
-    (search rules, λ P u h. all_start (list_small (size_in c.args.sizes.now)) [] u.lists)
+    λ P u h. all_start (list_small (size_in c.args.sizes.now)) [] u.lists
 
-pub list_place-at-requires : goal.list_place-at-requires
-list_place-at-requires c =
+pub list_place-requires : goal.list_place-requires
+list_place-requires c =
     (of_listed c.requires.0.2, c.loop-j-test.true, c.requires.0.2.prepared.long)
 
 pub list_small-requires : goal.list_small-requires
@@ -24,7 +23,7 @@ list_small-requires c =
     let q = c.requires.0 in (
       (
         get_or q.1.lists c.loop-j.j [],
-        subst (ListAt c.args.p.now q.1 c.loop-j.j) (sym c.list_place-at.ensures)
+        subst (ListAt c.args.p.now q.1 c.loop-j.j) (sym c.list_place.ensures)
             (of_list q.2 c.loop-j.j c.loop-j-test.true),
       ),
       q.2.prepared.long,
@@ -32,24 +31,22 @@ list_small-requires c =
     )
 
 pub loop-j-preserved : goal.loop-j-preserved
-loop-j-preserved c = (
-  omega arith,
-  λ P u h.
-      let l : c.loop-j.j < length u.lists = omega (arith, of_three h) in
-      all_more (list_small (size_in c.args.sizes.now)) [] u.lists c.loop-j.j l
-      (sym (c.list_small.ensures _ (subst (ListAt c.args.p.now u c.loop-j.j) (sym c.list_place-at.ensures)
-      (of_list h c.loop-j.j c.loop-j-test.true))) ∙ c.if-list_small.true) (c.loop-j.invariant.1 P u h),
-)
+loop-j-preserved c =
+    λ P u h.
+    let l : c.loop-j.j < length u.lists = omega (arith, of_three h) in
+    all_more (list_small (size_in c.args.sizes.now)) [] u.lists c.loop-j.j l
+    (sym (c.list_small.ensures _ (subst (ListAt c.args.p.now u c.loop-j.j) (sym c.list_place.ensures)
+    (of_list h c.loop-j.j c.loop-j-test.true))) ∙ c.if-not-list_small.false) (c.loop-j.invariant P u h)
 
-pub returns-else-list_small : goal.returns-else-list_small
-returns-else-list_small c =
+pub returns-then-not-list_small : goal.returns-then-not-list_small
+returns-then-not-list_small c =
     λ P u h.
     let l : c.loop-j.j < length u.lists = omega (arith, of_three h) in
     all_bad (list_small (size_in c.args.sizes.now)) [] u.lists c.loop-j.j l
-    (sym (c.list_small.ensures _ (subst (ListAt c.args.p.now u c.loop-j.j) (sym c.list_place-at.ensures)
-    (of_list h c.loop-j.j c.loop-j-test.true))) ∙ c.if-list_small.false) (c.loop-j.invariant.1 P u h)
+    (sym (c.list_small.ensures _ (subst (ListAt c.args.p.now u c.loop-j.j) (sym c.list_place.ensures)
+    (of_list h c.loop-j.j c.loop-j-test.true))) ∙ c.if-not-list_small.true) (c.loop-j.invariant P u h)
 
 pub returns : goal.returns
 returns c =
     λ P u h. all_done (list_small (size_in c.args.sizes.now)) [] u.lists c.loop-j.j
-    (omega (arith, of_three h)) (c.loop-j.invariant.1 P u h)
+    (omega (arith, of_three h)) (c.loop-j.invariant P u h)

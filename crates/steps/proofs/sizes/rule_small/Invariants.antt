@@ -3,16 +3,10 @@ use Rattle.steps.specs.Values.Parts.{AllLeft, list_small}
 use Rattle.steps.specs.Table.Laws.{RuleOf}
 use Rattle.steps.specs.Values.Weights.{size_in}
 use Rattle.protocol.specs.Protocol.{Rule, Protocol}
-use Rattle.protocol.specs.Figures.{list_count}
 use Rattle.lists.specs.Asks.{Promises₂}
-use Prim.Native.Nat.{◌-◌, ◌≤◌}
 use mathlib.Core.List.{[]}
 use Rattle.steps.proofs.sizes.rule_small.Given as goal
 
 abbrev pub invariant-loop-j : goal.invariant-loop-j
 invariant-loop-j l =
-    (l.j ≤ list_count) × Promises₂ (RuleOf l.p l.number) (λ (P : Protocol) (u : Rule). AllLeft (list_small (size_in l.sizes)) [] u.lists l.j)
-
-abbrev pub decreases-loop-j : goal.decreases-loop-j
-decreases-loop-j l =
-    list_count - l.j
+    Promises₂ (RuleOf l.p l.number) (λ (P : Protocol) (u : Rule). AllLeft (list_small (size_in l.sizes)) [] u.lists l.j)

@@ -14,45 +14,46 @@ loop-pending-init c =
 pub overflow_add-sum : goal.overflow_add-sum
 overflow_add-sum c =
     let b : _ ≤ longest = weight_small (size_in c.args.sizes.now) longest (omega arith) c.requires.2
-    (symbol_at c.args.file.now c.args.arities.now c.loop-pending.i) (sym c.one_weight.ensures ∙ c.in-Takes.is) in
+    (symbol_at c.args.file.now c.args.arities.now c.loop-pending.i) (sym c.one_weight.ensures ∙ c.in_ok-a.was) in
     omega (arith, b, c.loop-pending.invariant.1)
 
 pub returns-then-sum-gt-MOST_FILLED_IN : goal.returns-then-sum-gt-MOST_FILLED_IN
 returns-then-sum-gt-MOST_FILLED_IN c =
     λ t e h. going_long _ _ (size_in c.args.sizes.now) t e _ _ _ (going_more _ _ (λ j. (c.type_inv.file j).fits)
     (size_in c.args.sizes.now) t e _ _ _ _ _ _ c.loop-pending-test.true (c.loop-pending.invariant.2 t e h)
-    (sym c.one_weight.ensures ∙ c.in-Takes.is)).going c.if-sum-gt-MOST_FILLED_IN.true
+    (sym c.one_weight.ensures ∙ c.in_ok-a.was)).going c.if-sum-gt-MOST_FILLED_IN.true
 
 pub overflow_add-pending : goal.overflow_add-pending
 overflow_add-pending c =
     let q = c.requires.0 in
     let x = going_more _ _ (λ j. (c.type_inv.file j).fits) (size_in c.args.sizes.now) q.0 q.1 _ _ _ _ _ _ c.loop-pending-test.true
-    (c.loop-pending.invariant.2 q.0 q.1 q.2) (sym c.one_weight.ensures ∙ c.in-Takes.is) in
-    omega (arith, x.ahead, x.inside, c.loop-pending.invariant.0, c.in-Takes.known_told-1-own.given.1.0)
+    (c.loop-pending.invariant.2 q.0 q.1 q.2) (sym c.one_weight.ensures ∙ c.in_ok-a.was) in
+    omega (arith, x.ahead, x.inside, c.loop-pending.invariant.0)
 
 pub loop-pending-smaller : goal.loop-pending-smaller
 loop-pending-smaller c =
     let q = c.requires.0 in
     let x = going_more _ _ (λ j. (c.type_inv.file j).fits) (size_in c.args.sizes.now) q.0 q.1 _ _ _ _ _ _ c.loop-pending-test.true
-    (c.loop-pending.invariant.2 q.0 q.1 q.2) (sym c.one_weight.ensures ∙ c.in-Takes.is) in
+    (c.loop-pending.invariant.2 q.0 q.1 q.2) (sym c.one_weight.ensures ∙ c.in_ok-a.was) in
     omega (arith, x.ahead, x.inside)
 
 pub loop-pending-preserved : goal.loop-pending-preserved
 loop-pending-preserved c =
     let q = c.requires.0 in
     let x = going_more _ _ (λ j. (c.type_inv.file j).fits) (size_in c.args.sizes.now) q.0 q.1 _ _ _ _ _ _ c.loop-pending-test.true
-    (c.loop-pending.invariant.2 q.0 q.1 q.2) (sym c.one_weight.ensures ∙ c.in-Takes.is) in (
-      omega (arith, x.ahead, x.inside, c.loop-pending.invariant.0, c.in-Takes.known_told-1-own.given.1.0),
+    (c.loop-pending.invariant.2 q.0 q.1 q.2) (sym c.one_weight.ensures ∙ c.in_ok-a.was) in (
+      omega (arith, x.ahead, x.inside, c.loop-pending.invariant.0),
       omega (arith, c.if-sum-gt-MOST_FILLED_IN.false),
       λ t e h. (going_more _ _
           (λ j. (c.type_inv.file j).fits) (size_in c.args.sizes.now) t e _ _ _ _ _ _ c.loop-pending-test.true (c.loop-pending.invariant.2 t e h)
-          (sym c.one_weight.ensures ∙ c.in-Takes.is)).going,
+          (sym c.one_weight.ensures ∙ c.in_ok-a.was)).going,
     )
 
-pub returns-in-Fault : goal.returns-in-Fault
-returns-in-Fault c =
-    λ t e h. going_fault _ _ (λ j. (c.type_inv.file j).fits) (size_in c.args.sizes.now) t e _ _ _ c.loop-pending-test.true
-    (c.loop-pending.invariant.2 t e h) (sym c.one_weight.ensures ∙ c.in-Fault.is)
+pub returns-in_err-a : goal.returns-in_err-a
+returns-in_err-a c =
+    rw c.from_residual.ensures
+    (λ t e h. going_fault _ _ (λ j. (c.type_inv.file j).fits) (size_in c.args.sizes.now) t e _ _ _ c.loop-pending-test.true
+    (c.loop-pending.invariant.2 t e h) (sym c.one_weight.ensures ∙ c.in_err-a.was))
 
 pub returns : goal.returns
 returns c =
