@@ -1,153 +1,109 @@
 // What stands before a quantifier's body: the sorts of its new variables, its guard, its time variable.
-ghost use Rattle.std.specs.Prelude.{◌≡◌, List, ℕ, ◌+◌, ◌≤◌, ◌<◌, length, get_or};
+ghost use Rattle.std.specs.Prelude.{◌≡◌, List, ℕ, ◌≤◌, ◌<◌, length, drop};
 ghost use Rattle.lists.specs.Asks.{Promises};
 ghost use Rattle.lists.specs.Lists.{any_by};
 ghost use Rattle.number.specs.Reading.{got, many};
 ghost use Rattle.property.specs.Figures.{most_scope};
 ghost use Rattle.property.specs.Formula.{Term};
 ghost use Rattle.property.specs.Fit.{is_var, guarded};
-ghost use Rattle.property.specs.Layout.{term_at, scoped_at};
-ghost use Rattle.property.specs.Walk.{sort_of, sorts_from, in_guard, Tabled, SortIs, SortsAre, GuardIs, head_from, HeadIs};
+ghost use Rattle.property.specs.Layout.{term_at, sort_at, scoped_at};
+ghost use Rattle.property.specs.Walk.{sort_of, scope_of, as_sort, as_sorts, in_guard, Tabled, GuardIs, HeadIs};
 
 use crate::facts::Guard;
+use crate::terms::Sort;
 use crate::{facts, figures, terms};
-use number::{Number, Seen};
 
-// The variables in scope with the new ones, the place behind, and whether the guard is as 5 asks.
-#[derive(Drop)]
-pub enum Opened {
-    At(usize, usize, bool),
-    Fault,
-}
-
-// The place behind some sorts.
-#[derive(Drop)]
-pub enum Past {
-    At(usize),
-    Fault,
+// How many variables are in scope with the new ones, the place behind, and whether the guard is as 5 asks.
+#[derive(Clone, Copy)]
+pub struct Opened {
+    pub count: usize,
+    pub end: usize,
+    pub fits: bool,
 }
 
 // "each sort (0 message, 3 time)"
-fn read_sort(f: &[u8], at: usize) -> Number
-    ensures { SortIs f.now at result }
+fn read_sort(f: &[u8], at: usize) -> Option<(Sort, usize)>
+    ensures { as_sort result ≡ sort_at f.now at }
 {
-    match number::read_number(f, at) {
-        Number::Value(v, e) => {
-            if v as usize == protocol::figures::MESSAGE_SORT {
-                return Number::Value(v, e);
-            }
-            if v as usize == figures::TIME_SORT {
-                return Number::Value(v, e);
-            }
-            Number::Fault
-        }
-        Number::Fault => Number::Fault,
+    let (v, e) = number::read_number(f, at)?;
+    if v as usize == protocol::figures::MESSAGE_SORT {
+        return Some((Sort::Message, e));
     }
+    if v as usize == figures::TIME_SORT {
+        return Some((Sort::Time, e));
+    }
+    None
 }
 
-// The sorts of k new variables, behind those of the n in scope.
-fn read_sorts(f: &[u8], at: usize, k: usize, sorts: &mut [u8], n: usize) -> Past
-    requires { n + k ≤ length sorts.old }
-    ensures { SortsAre f.now at k n sorts.old sorts.new result }
+// As many sorts as there is room for, and the place behind them.
+fn read_sorts(f: &[u8], at: usize, sorts: &mut [Sort]) -> Option<usize>
+    ensures { as_sorts result sorts.new ≡ many (sort_at f.now) (length sorts.new) at }
 {
     let mut i = at;
-    let mut j: usize = 0;
-    while j < k {
-        match read_sort(f, i) {
-            Number::Value(v, e) => {
-                sorts[n + j] = v as u8;
-                i = e;
-                j += 1;
-            }
-            Number::Fault => {
-                return Past::Fault;
-            }
-        }
+    for s in sorts.iter_mut() {
+        let (sort, e) = read_sort(f, i)?;
+        *s = sort;
+        i = e;
     }
-    Past::At(i)
+    Some(i)
 }
 
-// Whether one of the terms is the variable x.
-fn is_among(f: &[u8], at: usize, count: usize, x: usize) -> bool
-    ensures { (ts : List Term) (e : ℕ) → many (term_at f.now) count at ≡ got ts e → result ≡ any_by (is_var x) ts }
+// Whether one of the guard's terms is the variable x.
+fn is_among(f: &[u8], guard: Guard, x: usize) -> bool
+    ensures { (ts : List Term) (e : ℕ) → many (term_at f.now) guard.count guard.terms ≡ got ts e → result ≡ any_by (is_var x) ts }
 {
-    match terms::among_terms(f, at, count, x) {
-        Seen::End(_, b) => b,
-        Seen::Fault => false,
+    match terms::any_term(f, guard.terms, guard.count, |y| y == Some(x)) {
+        Some((_, found)) => found,
+        None => false,
     }
 }
 
 // The new variable x is in its guard: a message among its terms, a time as its time.
-fn in_guard(f: &[u8], terms: usize, count: usize, time: usize, sorts: &[u8], x: usize) -> bool
-    requires { x < length sorts.now }
-    ensures { (ts : List Term) (e : ℕ) → many (term_at f.now) count terms ≡ got ts e → result ≡ in_guard (sort_of (get_or sorts.now x 0)) x ts time }
+fn in_guard(f: &[u8], guard: Guard, sort: Sort, x: usize) -> bool
+    ensures { (ts : List Term) (e : ℕ) → many (term_at f.now) guard.count guard.terms ≡ got ts e → result ≡ in_guard (sort_of sort) x ts guard.time }
 {
-    if terms::wide(sorts[x]) == protocol::figures::MESSAGE_SORT {
-        return is_among(f, terms, count, x);
-    }
-    x == time
-}
-
-// Each of k new variables is in its guard.
-fn all_in_guard(
-    f: &[u8],
-    terms: usize,
-    count: usize,
-    time: usize,
-    sorts: &[u8],
-    n: usize,
-    k: usize,
-) -> bool
-    requires { n + k ≤ length sorts.now }
-    ensures { (ts : List Term) (e : ℕ) → many (term_at f.now) count terms ≡ got ts e → result ≡ guarded n (sorts_from n k sorts.now) ts time }
-{
-    let mut ok = true;
-    let mut j: usize = 0;
-    while j < k {
-        ok = ok & in_guard(f, terms, count, time, sorts, n + j);
-        j += 1;
-    }
-    ok
-}
-
-// The guard of a quantifier with k new variables, whose sorts stand behind those of the n in scope.
-fn see_new(f: &[u8], arities: &[u8], at: usize, sorts: &[u8], n: usize, k: usize) -> Opened
-    requires { n + k ≤ length sorts.now }
-    ensures { Promises (Tabled arities.now) (λ (ars : List ℕ). GuardIs f.now ars at sorts.now n k result) }
-{
-    match facts::see_guard(f, arities, at, sorts, n + k) {
-        Guard::At(terms, count, time, e, fits) => Opened::At(
-            n + k,
-            e,
-            fits & all_in_guard(f, terms, count, time, sorts, n, k),
-        ),
-        Guard::Fault => Opened::Fault,
+    match sort {
+        Sort::Message => is_among(f, guard, x),
+        Sort::Time => x == guard.time,
     }
 }
 
-// The sorts of k new variables, and the guard.
-fn see_sorts(f: &[u8], arities: &[u8], at: usize, k: usize, sorts: &mut [u8], n: usize) -> Opened
-    requires { n + k ≤ length sorts.old }
-    ensures { Promises (Tabled arities.now) (λ (ars : List ℕ). HeadIs (head_from f.now ars k at) n sorts.old sorts.new result) }
+// Each new variable is in its guard: those from n on are new.
+fn all_in_guard(f: &[u8], guard: Guard, sorts: &[Sort], n: usize) -> bool
+    requires { n ≤ length sorts.now }
+    ensures { (ts : List Term) (e : ℕ) → many (term_at f.now) guard.count guard.terms ≡ got ts e → result ≡ guarded n (scope_of (drop n sorts.now)) ts guard.time }
 {
-    match read_sorts(f, at, k, sorts, n) {
-        Past::At(e) => see_new(f, arities, e, sorts, n, k),
-        Past::Fault => Opened::Fault,
+    for x in n..sorts.len() {
+        if !in_guard(f, guard, sorts[x], x) {
+            return false;
+        }
     }
+    true
+}
+
+// The guard of a quantifier whose new variables are those from n on.
+fn see_new(f: &[u8], arities: &[u8], at: usize, sorts: &[Sort], n: usize) -> Option<Opened>
+    requires { n ≤ length sorts.now }
+    ensures { Promises (Tabled arities.now) (λ (ars : List ℕ). GuardIs f.now ars at sorts.now n result) }
+{
+    let guard = facts::see_guard(f, arities, at, sorts)?;
+    Some(Opened {
+        count: sorts.len(),
+        end: guard.end,
+        fits: guard.fits & all_in_guard(f, guard, sorts, n),
+    })
 }
 
 // What stands before a quantifier's body where n variables are in scope: their sorts are lent, and get the new ones behind them.
-pub fn see_head(f: &[u8], arities: &[u8], at: usize, sorts: &mut [u8], n: usize) -> Opened
+pub fn see_head(f: &[u8], arities: &[u8], at: usize, sorts: &mut [Sort], n: usize) -> Option<Opened>
     requires { (n ≤ most_scope) × (length sorts.old ≡ most_scope) }
     ensures { Promises (Tabled arities.now) (λ (ars : List ℕ). HeadIs (scoped_at f.now ars n at) n sorts.old sorts.new result) }
 {
-    match number::below(f, at, figures::NEW_LIMIT) {
-        Number::Value(k, e) => {
-            if figures::MOST_SCOPE < n + k as usize {
-                return Opened::Fault;
-            }
-            see_sorts(f, arities, e, k as usize, sorts, n)
-        }
-        Number::Fault => Opened::Fault,
+    let (k, i) = number::below(f, at, figures::NEW_LIMIT)?;
+    let m = n + k as usize;
+    if figures::MOST_SCOPE < m {
+        return None;
     }
+    let e = read_sorts(f, i, &mut sorts[n..m])?;
+    see_new(f, arities, e, &sorts[..m], n)
 }

@@ -1,26 +1,25 @@
 -- Facts with their time variables, and atoms, as code has them.
-use Rattle.std.specs.Prelude.{ℕ, zero, suc, ◌≤◌, ◌<◌, Bool, true, false, ◌&&◌, ◌≡◌, length, get_or, ltb}
+use Rattle.std.specs.Prelude.{ℕ, zero, suc, ◌≤◌, ◌<◌, Bool, true, false, ◌&&◌, ◌≡◌, length, get_or, ltb, eqb, Option, Some, None}
 use mathlib.Core.List.{List, [], ◌∷◌}
 use Rattle.std.proofs.Math.Path.{refl, ap}
-use Rattle.std.proofs.Common.{ap₂, sym, ◌∙◌, arith, lt-ltb, le-ltb}
-use Rattle.lists.specs.Choice.{pick, by_size, clash}
+use Rattle.std.proofs.Common.{ap₂, sym, ◌∙◌, arith, lt-ltb, le-ltb, eq-eqb, ne_eqb}
+use Rattle.std.proofs.Math.Bool.{and-true}
+use Rattle.std.proofs.lemmas.Option.{same_Some}
+use Rattle.lists.specs.Choice.{pick, by_size, cut_eq, clash}
 use Rattle.lists.specs.Lists.{all_by}
 use Rattle.lists.specs.All.Laws.{all_inside, same_inside}
 use Rattle.number.specs.Reading.{Read, got, fault, and_then, read_number, below, many, seen}
 use Rattle.number.specs.Reading.Laws.{then_got, cut_seen, cut_fault}
 use Rattle.number.specs.Reading.Many.{many_length}
-use Rattle.number.specs.declared.Seen.{Seen}
-use Rattle.number.specs.declared.Seen.TheVariants as sn
 use Rattle.term.specs.Arity.{undeclared, padded}
 use Rattle.protocol.specs.Figures.{symbol_count}
 use Rattle.property.specs.Figures.{before_tag, same_time_tag, action_tag}
 use Rattle.property.specs.Formula.{Sort, tmp, Term, pattern_of, Atom, equal, action}
 use Rattle.property.specs.Fit.{in_scope, term_fits, atom_fits}
 use Rattle.property.specs.Layout.{Timed, timed_of, term_at, fact_at, timed_at, equal_at, times_at, times_of, action_at, atom_at}
-use Rattle.property.specs.Walk.{Tabled, Placed, placed_of, guard_from, guard_at, as_guard, guard_timed, also}
+use Rattle.property.specs.Walk.{Saw, saw, also, Tabled, declared, Placed, placed_of, guard_from, guard_at, guard_of, as_guard, guard_timed}
 use Rattle.property.specs.Walk.Chain.{chain_end, chain_fault}
 use Rattle.property.specs.declared.facts.Guard.{Guard}
-use Rattle.property.specs.declared.facts.Guard.TheVariants as gd
 
 -- ── the table of arities ──
 padded_at : (n : ℕ) (l : List ℕ) (i : ℕ) → length l ≤ n → get_or (padded n l) i undeclared ≡ get_or l i undeclared
@@ -36,11 +35,21 @@ get_d_out [] i h = refl
 get_d_out (a ∷ l) zero h = absurd (omega arith)
 get_d_out (a ∷ l) (suc i) h = get_d_out l i (omega arith)
 
-pub arity_out : (l : List ℕ) (i : ℕ) → length l ≤ i → undeclared ≡ get_or l i undeclared
-arity_out l i h = sym (get_d_out l i h)
+pub arity_out : (l : List ℕ) (i : ℕ) → length l ≤ i → None ≡ declared (get_or l i undeclared)
+arity_out l i h = ap declared (sym (get_d_out l i h))
 
-pub arity_in : (l : List ℕ) (i : ℕ) {v : ℕ} → v ≡ get_or l i 0 → i < length l → v ≡ get_or l i undeclared
-arity_in l i e h = e ∙ same_inside l i 0 undeclared h
+module _ (l : List ℕ) (i : ℕ) {v : ℕ} (e : v ≡ get_or l i 0) (h : i < length l) where
+  pub arity_none : v ≡ undeclared → None ≡ declared (get_or l i undeclared)
+  arity_none z = ap (λ (b : Bool). pick b None (Some v)) (sym (eq-eqb v undeclared z)) ∙ ap declared (e ∙ same_inside l i 0 undeclared h)
+
+  pub arity_in : (v ≡ undeclared → ⊥) → Some v ≡ declared (get_or l i undeclared)
+  arity_in z = ap (λ (b : Bool). pick b None (Some v)) (sym (ne_eqb v undeclared z)) ∙ ap declared (e ∙ same_inside l i 0 undeclared h)
+
+undeclared_is : (a : ℕ) → declared a ≡ None → a ≡ undeclared
+undeclared_is a h = cut_eq None (Some a) None a undeclared h (λ z k. z) (λ z k. clash (cc))
+
+declared_is : (a : ℕ) {c : ℕ} → declared a ≡ Some c → (c ≡ a) × (a ≡ undeclared → ⊥)
+declared_is a {c} h = cut_eq None (Some a) (Some c) a undeclared h (λ z k. clash (cc)) (λ z k. (same_Some c a (sym k), z))
 
 module _ {table ars : List ℕ} (t : Tabled table ars) (y : ℕ) where
   slot : get_or table y undeclared ≡ get_or ars y undeclared
@@ -59,17 +68,20 @@ module _ {table ars : List ℕ} (t : Tabled table ars) (y : ℕ) where
       (λ l. absurd (h (slot ∙ get_d_out ars y l)))
 
 -- ── a fact and its time variable ──
-module _ (scope : List Sort) (terms count : ℕ) (fits : Bool) (r : Read ℕ) where
-  pub timed_end : {i e : ℕ} {b : Bool} → got i e ≡ r → b ≡ in_scope scope i tmp → gd.At terms count i e (fits && b) ≡ guard_timed scope terms count fits r
-  timed_end {i} {e} h k = ap (λ (b : Bool). gd.At terms count i e (fits && b)) k ∙ ap (guard_timed scope terms count fits) h
+abbrev pub some_guard : ℕ → ℕ → ℕ → ℕ → Bool → Option Guard
+some_guard p c i e b = Some (guard_of p c i e b)
 
-  pub timed_none : fault ≡ r → gd.Fault ≡ guard_timed scope terms count fits r
+module _ (scope : List Sort) (terms count : ℕ) (fits : Bool) (r : Read ℕ) where
+  pub timed_end : {i e : ℕ} {b : Bool} → got i e ≡ r → b ≡ in_scope scope i tmp → some_guard terms count i e (fits && b) ≡ guard_timed scope terms count fits r
+  timed_end {i} {e} h k = ap (λ (b : Bool). some_guard terms count i e (fits && b)) k ∙ ap (guard_timed scope terms count fits) h
+
+  pub timed_none : fault ≡ r → None ≡ guard_timed scope terms count fits r
   timed_none h = ap (guard_timed scope terms count fits) h
 
 -- from behind the terms
 module _ (scope : List Sort) (place y count : ℕ) (ts : List Term) (fits : Bool) (long : length ts ≡ count) (fit : all_by (term_fits scope) ts ≡ fits) where
   timed_guard : (r : Read ℕ) → guard_timed scope place count fits r ≡ as_guard scope (and_then r (λ i d. got (placed_of place y ts i) d))
-  timed_guard (got i e) = ap₂ (λ (n : ℕ) (b : Bool). gd.At place n i e (b && in_scope scope i tmp)) (sym long) (sym fit)
+  timed_guard (got i e) = ap₂ (λ (n : ℕ) (b : Bool). some_guard place n i e (b && in_scope scope i tmp)) (sym long) (sym fit)
   timed_guard fault = refl
 
 module _ {table ars : List ℕ} (t : Tabled table ars) (scope : List Sort) (file : List ℕ) (y at : ℕ) where
@@ -84,33 +96,38 @@ module _ {table ars : List ℕ} (t : Tabled table ars) (scope : List Sort) (file
       let s = symbol_in t y h in
       ap (λ (b : Bool). pick b (rest (Terms (get_or ars y 0))) fault) (lt-ltb y (length ars) s.0) ∙ ap (λ (n : ℕ). rest (Terms n)) (sym s.1)
 
-  pub from_undeclared : {c : ℕ} → c ≡ get_or table y undeclared → c ≡ undeclared → gd.Fault ≡ as_guard scope (guard_from file ars y at)
-  from_undeclared e h =
-      ap (λ (b : Bool). as_guard scope (pick b (rest (Terms (get_or ars y 0))) fault)) (sym (le-ltb y (length ars) (symbol_out t y (sym e ∙ h))))
+  abbrev Slot : ℕ
+  Slot = get_or table y undeclared
+
+  pub from_undeclared : declared Slot ≡ None → None ≡ as_guard scope (guard_from file ars y at)
+  from_undeclared h =
+      ap (λ (b : Bool). as_guard scope (pick b (rest (Terms (get_or ars y 0))) fault))
+      (sym (le-ltb y (length ars) (symbol_out t y (undeclared_is Slot h))))
 
   pub from_end :
-      {c e : ℕ} {b : Bool} {g : Guard} → c ≡ get_or table y undeclared → (c ≡ undeclared → ⊥) → sn.End e b ≡ seen (all_by (term_fits scope)) (Terms c)
+      {c e : ℕ} {b : Bool} {g : Option Guard} → declared Slot ≡ Some c → saw e b ≡ seen (all_by (term_fits scope)) (Terms c)
       → g ≡ guard_timed scope at c b (read_number file e) → g ≡ as_guard scope (guard_from file ars y at)
-  from_end {c} {e} {b} {g} d h k r =
+  from_end {c} {e} {b} {g} d k r =
+      let s = declared_is Slot d in
       cut_seen (all_by (term_fits scope)) (Terms c) (sym k) (λ ts m q.
       r ∙ timed_guard scope at y c ts b (many_length (term_at file) c at e ts m) q (read_number file e)
       ∙ ap (as_guard scope) (sym (then_got (Terms c) (λ ts e. and_then (read_number file e) (λ i d. got (placed_of at y ts i) d)) m))
-      ∙ ap (λ (n : ℕ). as_guard scope (rest (Terms n))) d
-      ∙ ap (as_guard scope) (sym (from_in (λ z. h (d ∙ z)))))
+      ∙ ap (λ (n : ℕ). as_guard scope (rest (Terms n))) s.0
+      ∙ ap (as_guard scope) (sym (from_in s.1)))
 
   pub from_fault :
-      {c : ℕ} → c ≡ get_or table y undeclared → (c ≡ undeclared → ⊥) → sn.Fault ≡ seen (all_by (term_fits scope)) (Terms c)
-      → gd.Fault ≡ as_guard scope (guard_from file ars y at)
-  from_fault {c} d h k =
+      {c : ℕ} → declared Slot ≡ Some c → None ≡ seen (all_by (term_fits scope)) (Terms c) → None ≡ as_guard scope (guard_from file ars y at)
+  from_fault {c} d k =
+      let s = declared_is Slot d in
       ap (λ (r : Read (List Term)). as_guard scope (rest r)) (sym (cut_fault (all_by (term_fits scope)) (Terms c) (sym k)))
-      ∙ ap (λ (n : ℕ). as_guard scope (rest (Terms n))) d
-      ∙ ap (as_guard scope) (sym (from_in (λ z. h (d ∙ z))))
+      ∙ ap (λ (n : ℕ). as_guard scope (rest (Terms n))) s.0
+      ∙ ap (as_guard scope) (sym (from_in s.1))
 
 module _ (scope : List Sort) (file ars : List ℕ) (at : ℕ) where
-  pub guard_got : {y e : ℕ} {g : Guard} → got y e ≡ read_number file at → g ≡ as_guard scope (guard_from file ars y e) → g ≡ as_guard scope (guard_at file ars at)
+  pub guard_got : {y e : ℕ} {g : Option Guard} → got y e ≡ read_number file at → g ≡ as_guard scope (guard_from file ars y e) → g ≡ as_guard scope (guard_at file ars at)
   guard_got h k = k ∙ ap (as_guard scope) (sym (then_got (read_number file at) (λ y e. guard_from file ars y e) (sym h)))
 
-  pub guard_none : fault ≡ read_number file at → gd.Fault ≡ as_guard scope (guard_at file ars at)
+  pub guard_none : fault ≡ read_number file at → None ≡ as_guard scope (guard_at file ars at)
   guard_none h = ap (λ (r : Read ℕ). as_guard scope (and_then r (λ y e. guard_from file ars y e))) h
 
   -- it is the fact and time of the layout
@@ -155,31 +172,37 @@ module _ (scope : List Sort) (file ars : List ℕ) (at : ℕ) where
   unfolding action_at
   action_as = ap (λ (r : Read Timed). and_then r (λ g e. got (action g.pattern g.time) e)) guard_timed_lem
 
-  pub action_end : {p c i e : ℕ} {b : Bool} → gd.At p c i e b ≡ as_guard scope (guard_at file ars at) → sn.End e b ≡ seen (atom_fits scope) (action_at file ars at)
+  pub action_end : {p c i e : ℕ} {b : Bool} → some_guard p c i e b ≡ as_guard scope (guard_at file ars at) → saw e b ≡ seen (atom_fits scope) (action_at file ars at)
   action_end h = go (guard_at file ars at) h ∙ ap (seen (atom_fits scope)) (sym action_as)
     where
-      go : {p c i e : ℕ} {b : Bool} (r : Read Placed) → gd.At p c i e b ≡ as_guard scope r → sn.End e b ≡ seen (atom_fits scope) (action_of r)
-      go {e = e} {b = b} (got g d) h = ap₂ sn.End (cc) (cc)
+      go : {p c i e : ℕ} {b : Bool} (r : Read Placed) → some_guard p c i e b ≡ as_guard scope r → saw e b ≡ seen (atom_fits scope) (action_of r)
+      go {e = e} {b = b} (got g d) h = let w = same_Some _ _ h in ap (λ (x : Guard). saw x.end x.fits) w
       go fault h = clash (cc)
 
-  pub action_none : gd.Fault ≡ as_guard scope (guard_at file ars at) → sn.Fault ≡ seen (atom_fits scope) (action_at file ars at)
+  pub action_none : None ≡ as_guard scope (guard_at file ars at) → None ≡ seen (atom_fits scope) (action_at file ars at)
   action_none h = go (guard_at file ars at) h ∙ ap (seen (atom_fits scope)) (sym action_as)
     where
-      go : (r : Read Placed) → gd.Fault ≡ as_guard scope r → sn.Fault ≡ seen (atom_fits scope) (action_of r)
+      go : (r : Read Placed) → None ≡ as_guard scope r → None ≡ seen (atom_fits scope) (action_of r)
       go (got g d) h = clash (cc)
       go fault h = refl
 
   -- ── atoms ──
-  pub equal_end :
-      {e : ℕ} {b : Bool} {r : Seen} → sn.End e b ≡ seen (term_fits scope) (term_at file at) → r ≡ seen (term_fits scope) (term_at file e)
-      → also b r ≡ seen (atom_fits scope) (equal_at file at)
-  unfolding equal_at
-  equal_end h k =
-      chain_end (term_fits scope) (λ t. term_fits scope) (atom_fits scope) equal (λ t u. refl) (term_at file at) (λ t. term_at file) h (λ t g. k)
+  -- two terms
+  pub equal_two : seen (all_by (term_fits scope)) (many (term_at file) 2 at) ≡ seen (atom_fits scope) (equal_at file at)
+  unfolding equal_at many
+  equal_two = first (term_at file at)
+    where
+      second : (t : Term) (r : Read Term)
+          → seen (all_by (term_fits scope)) (and_then (and_then r (λ u d. got (u ∷ []) d)) (λ ts d. got (t ∷ ts) d))
+          ≡ seen (atom_fits scope) (and_then r (λ u d. got (equal t u) d))
+      second t (got u d) = ap (λ (b : Bool). saw d (term_fits scope t && b)) (and-true (term_fits scope u))
+      second t fault = refl
 
-  pub equal_none : sn.Fault ≡ seen (term_fits scope) (term_at file at) → sn.Fault ≡ seen (atom_fits scope) (equal_at file at)
-  unfolding equal_at
-  equal_none h = chain_fault (term_fits scope) (λ t. term_fits scope) (atom_fits scope) equal (λ t u. refl) (term_at file at) (λ t. term_at file) h
+      first : (r : Read Term)
+          → seen (all_by (term_fits scope)) (and_then r (λ t e. and_then (and_then (term_at file e) (λ u d. got (u ∷ []) d)) (λ ts d. got (t ∷ ts) d)))
+          ≡ seen (atom_fits scope) (and_then r (λ t e. and_then (term_at file e) (λ u d. got (equal t u) d)))
+      first (got t e) = second t (term_at file e)
+      first fault = refl
 
   abbrev pub time_fits : ℕ → Bool
   time_fits i = in_scope scope i tmp
@@ -189,19 +212,19 @@ module _ (scope : List Sort) (file ars : List ℕ) (at : ℕ) where
   times_split false i j = refl
 
   pub times_end :
-      {e : ℕ} {b : Bool} {r : Seen} → sn.End e b ≡ seen time_fits (read_number file at) → r ≡ seen time_fits (read_number file e) → (q : Bool)
+      {e : ℕ} {b : Bool} {r : Saw} → saw e b ≡ seen time_fits (read_number file at) → r ≡ seen time_fits (read_number file e) → (q : Bool)
       → also b r ≡ seen (atom_fits scope) (times_at file q at)
   unfolding times_at
   times_end h k q =
       chain_end time_fits (λ i. time_fits) (atom_fits scope) (times_of q) (times_split q) (read_number file at) (λ i. read_number file) h (λ i g. k)
 
-  pub times_none : sn.Fault ≡ seen time_fits (read_number file at) → (q : Bool) → sn.Fault ≡ seen (atom_fits scope) (times_at file q at)
+  pub times_none : None ≡ seen time_fits (read_number file at) → (q : Bool) → None ≡ seen (atom_fits scope) (times_at file q at)
   unfolding times_at
   times_none h q =
       chain_fault time_fits (λ i. time_fits) (atom_fits scope) (times_of q) (times_split q) (read_number file at) (λ i. read_number file) h
 
   -- by the tag
-  module _ (tag : ℕ) {r : Seen} where
+  module _ (tag : ℕ) {r : Saw} where
     pub atom_equal : tag < before_tag → r ≡ seen (atom_fits scope) (equal_at file at) → r ≡ seen (atom_fits scope) (atom_at file ars tag at)
     atom_equal l h =
         h ∙ ap (λ (b : Bool). seen (atom_fits scope) (pick b (equal_at file at) (pick (ltb tag action_tag) (times_at file (ltb tag same_time_tag) at)

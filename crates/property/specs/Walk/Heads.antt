@@ -1,164 +1,111 @@
 -- What stands before a quantifier's body, as code has it.
-use Rattle.std.specs.Prelude.{ℕ, zero, suc, ◌+◌, ◌-◌, ◌≤◌, ◌<◌, List, [], ◌∷◌, ◌++◌, Bool, true, ◌&&◌, ◌≡◌, length, get_or, set, leb, eqb}
-use Rattle.std.proofs.Math.Bool.{and-true, and_assoc}
+use Rattle.std.specs.Prelude.{ℕ, suc, ◌+◌, ◌≤◌, ◌<◌, List, [], ◌∷◌, ◌++◌, Bool, true, false, ◌&&◌, ◌≡◌, length, get_or, set, take, drop, leb, eqb, Option, Some, None}
 use Rattle.std.proofs.Math.Path.{refl, ap}
-use Rattle.std.proofs.Common.{ap₂, sym, ◌∙◌, subst, arith, add-one, length-set, get_or-set_same, get_or-set_other, eq-eqb, ne_eqb}
+use Rattle.std.proofs.Common.{ap₂, sym, ◌∙◌, subst, arith, add-one, eq-eqb, ne_eqb}
+use Rattle.std.proofs.Math.Seq.{drop-cons, take-suc-set, drop-length, take-length, take-append_seam, drop-append_seam}
+use Rattle.std.proofs.lemmas.List.{map-append, length-map, length-append, length-take-le, take-append-drop}
+use Rattle.std.proofs.lemmas.Option.{same_Some, some_pair_parts}
 use Rattle.lists.specs.Choice.{pick, cut_lt, clash}
 use Rattle.lists.specs.Tests.{le_leb, gt_leb}
 use Rattle.lists.specs.Lists.{any_by}
 use Rattle.number.specs.Reading.{Read, got, fault, and_then, read_number, below, many, seen}
 use Rattle.number.specs.Reading.Laws.{cut_got, then_got, then_fault}
 use Rattle.number.specs.Reading.Many.{many_snoc, many_stop, many_length, counted_got, counted_fault}
-use Rattle.number.specs.declared.Number.TheVariants as num
-use Rattle.number.specs.declared.Seen.TheVariants as sn
 use Rattle.property.specs.Figures.{most_new, most_scope}
 use Rattle.property.specs.Formula.{Sort, msg, tmp, Term, pattern_of}
 use Rattle.property.specs.Fit.{is_var, pattern_fits, guarded}
 use Rattle.property.specs.Layout.{timed_of, Head, head_of, term_at, sort_at, timed_at, head_at, scoped_at}
-use Rattle.property.specs.Walk.{sort_of, sorts_from, scope_of, Placed, placed_of, guard_from, guard_at, as_guard, SortIs, SortsRead, in_guard}
-use Rattle.property.specs.Walk.{SortsAre, guard_fits, GuardRead, GuardIs, head_from, HeadRead, HeadIs}
+use Rattle.property.specs.Walk.{sort_of, scope_of, Placed, placed_of, guard_from, guard_at, as_guard, as_sort, as_sorts, in_guard}
+use Rattle.property.specs.Walk.{guard_fits, GuardRead, GuardIs, head_from, HeadRead, HeadIs, saw, opened_of}
 use Rattle.property.specs.Walk.Facts.{guard_timed_lem}
-use Rattle.property.specs.declared.facts.Guard.TheVariants as gd
+use Rattle.property.specs.declared.terms.Sort as code
+use Rattle.property.specs.declared.terms.Sort.TheVariants as sort
+use Rattle.property.specs.declared.facts.Guard.{Guard}
 use Rattle.property.specs.declared.heads.Opened.{Opened}
-use Rattle.property.specs.declared.heads.Opened.TheVariants as op
-use Rattle.property.specs.declared.heads.Past.TheVariants as ps
-
--- ── sorts from a place on ──
-from_same : (x k : ℕ) (l m : List ℕ) → ((y : ℕ) → x ≤ y → y < x + k → get_or l y 0 ≡ get_or m y 0) → sorts_from x k l ≡ sorts_from x k m
-from_same x zero l m h = refl
-from_same x (suc k) l m h =
-    ap₂ (λ (v : ℕ) (s : List Sort). sort_of v ∷ s) (h x (omega arith) (omega arith)) (from_same (suc x) k l m (λ y a b. h y (omega arith) (omega arith)))
-
-from_split : (x n k : ℕ) (l : List ℕ) → sorts_from x (n + k) l ≡ sorts_from x n l ++ sorts_from (x + n) k l
-from_split x zero k l = let z : x ≡ x + 0 = omega arith in let y : 0 + k ≡ k = omega arith in ap₂ (λ (i j : ℕ). sorts_from i j l) z y
-from_split x (suc n) k l =
-    let z : suc x + n ≡ x + suc n = omega arith in
-    let y : suc n + k ≡ suc (n + k) = omega arith in
-    ap (λ (j : ℕ). sorts_from x j l) y
-    ∙ ap (λ (s : List Sort). sort_of (get_or l x 0) ∷ s) (from_split (suc x) n k l ∙ ap (λ (i : ℕ). sorts_from (suc x) n l ++ sorts_from i k l) z)
-
-pub from_length : (x k : ℕ) (l : List ℕ) → length (sorts_from x k l) ≡ k
-from_length x zero l = refl
-from_length x (suc k) l = ap suc (from_length (suc x) k l)
-
--- those of n variables, and then of k new ones
-pub scope_split : (n k : ℕ) (l : List ℕ) → scope_of (n + k) l ≡ scope_of n l ++ sorts_from n k l
-scope_split n k l = let z : 0 + n ≡ n = omega arith in from_split 0 n k l ∙ ap (λ (i : ℕ). scope_of n l ++ sorts_from i k l) z
-
-from_snoc : (x k : ℕ) (l : List ℕ) → sorts_from x (k + 1) l ≡ sorts_from x k l ++ (sort_of (get_or l (x + k) 0) ∷ [])
-from_snoc x k l = from_split x k 1 l
 
 -- ── one sort ──
 module _ (file : List ℕ) (at : ℕ) where
   abbrev sort_by : ℕ → ℕ → Read Sort
   sort_by v e = pick (eqb v 0) (got msg e) (pick (eqb v 3) (got tmp e) fault)
 
-  sort_got : {v e : ℕ} → got v e ≡ read_number file at → sort_at file at ≡ sort_by v e
+  sort_got : {v e : ℕ} → got v e ≡ read_number file at → sort_by v e ≡ sort_at file at
   unfolding sort_at
-  sort_got h = then_got (read_number file at) _ (sym h)
+  sort_got h = sym (then_got (read_number file at) _ (sym h))
 
-  pub sort_message : {v e : ℕ} → got v e ≡ read_number file at → v ≡ 0 → SortIs file at (num.Value v e)
-  sort_message {v} {e} h z = (
-    sort_got h ∙ ap (λ (b : Bool). pick b (got msg e) (pick (eqb v 3) (got tmp e) fault)) (eq-eqb v 0 z)
-        ∙ ap (λ (b : Bool). got (pick b msg tmp) e) (sym (eq-eqb v 0 z)),
-    omega arith,
-  )
+  pub sort_message : {v e : ℕ} → got v e ≡ read_number file at → v ≡ 0 → as_sort (Some (sort.Message, e)) ≡ sort_at file at
+  sort_message {v} {e} h z = ap (λ (b : Bool). pick b (got msg e) (pick (eqb v 3) (got tmp e) fault)) (sym (eq-eqb v 0 z)) ∙ sort_got h
 
-  pub sort_time : {v e : ℕ} → got v e ≡ read_number file at → (v ≡ 0 → ⊥) → v ≡ 3 → SortIs file at (num.Value v e)
-  sort_time {v} {e} h z w = (
-    sort_got h ∙ ap₂ (λ (b c : Bool). pick b (got msg e) (pick c (got tmp e) fault)) (ne_eqb v 0 z) (eq-eqb v 3 w)
-        ∙ ap (λ (b : Bool). got (pick b msg tmp) e) (sym (ne_eqb v 0 z)),
-    omega arith,
-  )
+  pub sort_time : {v e : ℕ} → got v e ≡ read_number file at → (v ≡ 0 → ⊥) → v ≡ 3 → as_sort (Some (sort.Time, e)) ≡ sort_at file at
+  sort_time {v} {e} h z w =
+      ap₂ (λ (b c : Bool). pick b (got msg e) (pick c (got tmp e) fault)) (sym (ne_eqb v 0 z)) (sym (eq-eqb v 3 w)) ∙ sort_got h
 
-  pub sort_other : {v e : ℕ} → got v e ≡ read_number file at → (v ≡ 0 → ⊥) → (v ≡ 3 → ⊥) → sort_at file at ≡ fault
-  sort_other {v} {e} h z w = sort_got h ∙ ap₂ (λ (b c : Bool). pick b (got msg e) (pick c (got tmp e) fault)) (ne_eqb v 0 z) (ne_eqb v 3 w)
+  pub sort_other : {v e : ℕ} → got v e ≡ read_number file at → (v ≡ 0 → ⊥) → (v ≡ 3 → ⊥) → fault ≡ sort_at file at
+  sort_other {v} {e} h z w =
+      ap₂ (λ (b c : Bool). pick b (got msg e) (pick c (got tmp e) fault)) (sym (ne_eqb v 0 z)) (sym (ne_eqb v 3 w)) ∙ sort_got h
 
-  pub sort_none : fault ≡ read_number file at → sort_at file at ≡ fault
+  pub sort_none : fault ≡ read_number file at → fault ≡ sort_at file at
   unfolding sort_at
-  sort_none h = then_fault (read_number file at) _ (sym h)
+  sort_none h = sym (then_fault (read_number file at) _ (sym h))
 
 -- ── the sorts of the new variables: j are read ──
-pub record Sorting (file : List ℕ) (at n : ℕ) (old now : List ℕ) (j i : ℕ) : Type 0 where
-  pub there : many (sort_at file) j at ≡ got (sorts_from n j now) i
-  pub kept : (x : ℕ) → x < n → get_or now x 0 ≡ get_or old x 0
-  pub size : length now ≡ length old
+module _ (file : List ℕ) (at : ℕ) where
+  abbrev pub Sorting : List code.Sort → ℕ → ℕ → Type 0
+  Sorting now j i = many (sort_at file) j at ≡ got (scope_of (take j now)) i
 
-module _ (file : List ℕ) (at n : ℕ) (old : List ℕ) where
-  pub sorting_begins : Sorting file at n old old 0 at
+  pub sorting_begins : (now : List code.Sort) → Sorting now 0 at
   unfolding many
-  sorting_begins = record { there = refl; kept = λ x l. refl; size = refl }
+  sorting_begins now = refl
 
-  pub sorting_next :
-      {now : List ℕ} {j i v e : ℕ} → n + j < length now → Sorting file at n old now j i → SortIs file i (num.Value v e)
-      → Sorting file at n old (set now (n + j) v) (j + 1) e
-  sorting_next {now} {j} {i} {v} {e} room s h =
-      let new : List ℕ = set now (n + j) v in
-      let front : sorts_from n j new ≡ sorts_from n j now =
-      from_same n j new now (λ y a b. get_or-set_other now (n + j) y v 0 (λ z. omega arith)) in
-      record {
-        there = rw add-one (many_snoc (sort_at file) j at i e (sorts_from n j now) (sort_of v) s.there h.0)
-            ∙ ap (λ (l : List Sort). got l e)
-            (sym (from_snoc n j new ∙ ap₂ (λ (l : List Sort) (w : ℕ). l ++ (sort_of w ∷ [])) front (get_or-set_same now (n + j) v 0 room)));
-        kept = λ x l. get_or-set_other now (n + j) x v 0 (λ z. omega arith) ∙ s.kept x l;
-        size = length-set now (n + j) v ∙ s.size;
-      }
+  pub sorting_next : (now : List code.Sort) {j i e : ℕ} (v : code.Sort) → j < length now → Sorting now j i → as_sort (Some (v, e)) ≡ sort_at file i
+      → Sorting (set now j v) (j + 1) e
+  sorting_next now {j} {i} {e} v l s h =
+      rw add-one (many_snoc (sort_at file) j at i e (scope_of (take j now)) (sort_of v) s (sym h)
+      ∙ ap (λ (l : List Sort). got l e)
+      (sym (ap scope_of (take-suc-set now j v l) ∙ map-append sort_of (take j now) (v ∷ []))))
 
-  pub sorting_ends : {now : List ℕ} {k j i : ℕ} → j ≡ k → Sorting file at n old now j i → SortsRead file at k n old now i
-  sorting_ends {now} {k} {j} {i} z s = record {
-    there = subst (λ (m : ℕ). many (sort_at file) m at ≡ got (sorts_from n m now) i) z s.there;
-    kept = from_same 0 n now old (λ y a b. s.kept y (omega arith));
-  }
+  pub sorting_ends : (now : List code.Sort) {j i : ℕ} → j ≡ length now → Sorting now j i → as_sorts (Some i) now ≡ many (sort_at file) (length now) at
+  sorting_ends now {j} {i} z s =
+      ap (λ (l : List code.Sort). got (scope_of l) i) (sym (ap (λ (n : ℕ). take n now) z ∙ take-length now))
+      ∙ sym s ∙ ap (λ (n : ℕ). many (sort_at file) n at) z
 
-  pub sorting_stops : {now : List ℕ} {k j i : ℕ} → j < k → Sorting file at n old now j i → sort_at file i ≡ fault → many (sort_at file) k at ≡ fault
-  sorting_stops {now} {k} {j} {i} l s h = many_stop (sort_at file) j k at i (sorts_from n j now) s.there h l
+  pub sorting_stops :
+      (now : List code.Sort) {j i : ℕ} → j < length now → Sorting now j i → fault ≡ sort_at file i → fault ≡ many (sort_at file) (length now) at
+  sorting_stops now {j} {i} l s h = sym (many_stop (sort_at file) j (length now) at i (scope_of (take j now)) s (sym h) l)
 
 -- ── each new variable is in its guard ──
-pub among : (q : Term → Bool) (r : Read (List Term)) {e : ℕ} {b : Bool} → sn.End e b ≡ seen (any_by q) r → (ts : List Term) (d : ℕ) → r ≡ got ts d → b ≡ any_by q
+pub among : (q : Term → Bool) (r : Read (List Term)) {e : ℕ} {b : Bool} → saw e b ≡ seen (any_by q) r → (ts : List Term) (d : ℕ) → r ≡ got ts d → b ≡ any_by q
     ts
-among q r {e} {b} h ts d g =
-    let z : sn.End e b ≡ sn.End d (any_by q ts) = h ∙ ap (seen (any_by q)) g in
-    cc
+among q r {e} {b} h ts d g = (some_pair_parts e d b (any_by q ts) (h ∙ ap (seen (any_by q)) g)).1
 
-pub among_none : {b : Bool} (q : Term → Bool) (r : Read (List Term)) → sn.Fault ≡ seen (any_by q) r → (ts : List Term) (d : ℕ) → r ≡ got ts d → b ≡ any_by q ts
-among_none q r h ts d g = let z : sn.Fault ≡ sn.End d (any_by q ts) = h ∙ ap (seen (any_by q)) g in clash (cc)
+pub among_none : {b : Bool} (q : Term → Bool) (r : Read (List Term)) → None ≡ seen (any_by q) r → (ts : List Term) (d : ℕ) → r ≡ got ts d → b ≡ any_by q ts
+among_none q r h ts d g = let z : None ≡ saw d (any_by q ts) = h ∙ ap (seen (any_by q)) g in clash (cc)
 
-module _ (x : ℕ) (ts : List Term) (i : ℕ) where
-  pub in_message : {v w : ℕ} {b : Bool} → v ≡ w → v ≡ 0 → b ≡ any_by (is_var x) ts → b ≡ in_guard (sort_of w) x ts i
-  in_message {v} {w} e z h = h ∙ ap (λ (t : Sort). in_guard t x ts i) (sym (ap sort_of (sym e) ∙ ap (λ (c : Bool). pick c msg tmp) (eq-eqb v 0 z)))
+-- those before x are
+module _ (ts : List Term) (i : ℕ) (sorts : List code.Sort) where
+  abbrev pub rest_guarded : ℕ → Bool
+  rest_guarded x = guarded x (scope_of (drop x sorts)) ts i
 
-  pub in_time : {v w : ℕ} → v ≡ w → (v ≡ 0 → ⊥) → eqb x i ≡ in_guard (sort_of w) x ts i
-  in_time {v} {w} e z = ap (λ (t : Sort). in_guard t x ts i) (sym (ap sort_of (sym e) ∙ ap (λ (c : Bool). pick c msg tmp) (ne_eqb v 0 z)))
+  guarded_more : (x : ℕ) (t : Sort) (s : List Sort) → guarded x (t ∷ s) ts i ≡ (in_guard t x ts i && guarded (suc x) s ts i)
+  guarded_more x msg s = refl
+  guarded_more x tmp s = refl
 
-  guarded_more : (t : Sort) (s : List Sort) → guarded x (t ∷ s) ts i ≡ (in_guard t x ts i && guarded (suc x) s ts i)
-  guarded_more msg s = refl
-  guarded_more tmp s = refl
+  guarded_at : (x : ℕ) (v : code.Sort) → x < length sorts → rest_guarded x ≡ (in_guard (sort_of (get_or sorts x v)) x ts i && rest_guarded (suc x))
+  guarded_at x v l =
+      ap (λ (l : List code.Sort). guarded x (scope_of l) ts i) (drop-cons sorts x v l)
+      ∙ guarded_more x (sort_of (get_or sorts x v)) (scope_of (drop (suc x) sorts))
 
--- j are tested
-module _ (ts : List Term) (i n k : ℕ) (sorts : List ℕ) where
-  abbrev pub Guarding : Bool → ℕ → Type 0
-  Guarding ok j = (ok && guarded (n + j) (sorts_from (n + j) (k - j) sorts) ts i) ≡ guarded n (sorts_from n k sorts) ts i
+  pub guarded_next :
+      (x : ℕ) (v : code.Sort) {b : Bool} → x < length sorts → b ≡ in_guard (sort_of (get_or sorts x v)) x ts i → b ≡ true
+      → rest_guarded (x + 1) ≡ rest_guarded x
+  guarded_next x v l h z = rw add-one (sym (guarded_at x v l ∙ ap (λ (c : Bool). c && rest_guarded (suc x)) (sym h ∙ z)))
 
-  pub guarding_begins : Guarding true 0
-  guarding_begins = let z : n + 0 ≡ n = omega arith in let y : k - 0 ≡ k = omega arith in ap₂ (λ (x m : ℕ). guarded x (sorts_from x m sorts) ts i) z y
+  pub guarded_stops :
+      (x : ℕ) (v : code.Sort) {b : Bool} → x < length sorts → b ≡ in_guard (sort_of (get_or sorts x v)) x ts i → b ≡ false
+      → false ≡ rest_guarded x
+  guarded_stops x v l h z = sym (guarded_at x v l ∙ ap (λ (c : Bool). c && rest_guarded (suc x)) (sym h ∙ z))
 
-  pub guarding_next : (ok : Bool) {b : Bool} (j : ℕ) → j < k → Guarding ok j → b ≡ in_guard (sort_of (get_or sorts (n + j) 0)) (n + j) ts i → Guarding (ok && b)
-      (j + 1)
-  guarding_next ok {b} j l h e =
-      let z : n + (j + 1) ≡ suc (n + j) = omega arith in
-      let y : k - j ≡ suc (k - (j + 1)) = omega arith in
-      let rest : Bool = guarded (suc (n + j)) (sorts_from (suc (n + j)) (k - (j + 1)) sorts) ts i in
-      ap (λ (x : ℕ). (ok && b) && guarded x (sorts_from x (k - (j + 1)) sorts) ts i) z
-      ∙ and_assoc ok b rest
-      ∙ ap (λ (c : Bool). ok && (c && rest)) e
-      ∙ ap (λ (c : Bool). ok && c) (sym (guarded_more (n + j) ts i (sort_of (get_or sorts (n + j) 0)) (sorts_from (suc (n + j)) (k - (j + 1)) sorts)))
-      ∙ ap (λ (m : ℕ). ok && guarded (n + j) (sorts_from (n + j) m sorts) ts i) (sym y)
-      ∙ h
-
-  pub guarding_ends : (ok : Bool) (j : ℕ) → j ≡ k → Guarding ok j → ok ≡ guarded n (sorts_from n k sorts) ts i
-  guarding_ends ok j z h =
-      let y : k - j ≡ 0 = omega arith in
-      sym (and-true ok) ∙ ap (λ (m : ℕ). ok && guarded (n + j) (sorts_from (n + j) m sorts) ts i) (sym y) ∙ h
+  pub guarded_ends : (x : ℕ) → x ≡ length sorts → true ≡ rest_guarded x
+  guarded_ends x z = ap (λ (l : List code.Sort). guarded x (scope_of l) ts i) (sym (ap (λ (n : ℕ). drop n sorts) z ∙ drop-length sorts))
 
 -- ── the guard ──
 module _ (file ars : List ℕ) where
@@ -173,72 +120,83 @@ module _ (file ars : List ℕ) where
       (d, ap (λ (n : ℕ). many (term_at file) n at) (many_length (term_at file) (get_or ars y 0) at d ts ht) ∙ ht))))
       (λ l h. clash (cc))
 
-  module _ (at n k : ℕ) (sorts : List ℕ) where
+  module _ (at n : ℕ) (sorts : List code.Sort) (short : n ≤ length sorts) where
     abbrev pub Wide : List Sort
-    Wide = scope_of (n + k) sorts
+    Wide = scope_of sorts
+
+    wide_split : Wide ≡ scope_of (take n sorts) ++ scope_of (drop n sorts)
+    wide_split = ap scope_of (sym (take-append-drop n sorts)) ∙ map-append sort_of (take n sorts) (drop n sorts)
+
+    bound : length (scope_of (take n sorts)) ≡ n
+    bound = length-map (take n sorts) sort_of ∙ length-take-le n sorts short
 
     pub new_end :
-        {p c i e m : ℕ} {b w : Bool} → gd.At p c i e b ≡ as_guard Wide (guard_at file ars at)
-        → ((ts : List Term) (d : ℕ) → many (term_at file) c p ≡ got ts d → w ≡ guarded n (sorts_from n k sorts) ts i) → m ≡ n + k
-        → GuardRead file ars at sorts n k m e (b && w)
-    new_end {p} {c} {i} {e} {m} {b} {w} h f z = go (guard_at file ars at) refl h
+        {g : Guard} {w : Bool} {o : Opened} → Some g ≡ as_guard Wide (guard_at file ars at)
+        → ((ts : List Term) (d : ℕ) → many (term_at file) g.count g.terms ≡ got ts d → w ≡ guarded n (scope_of (drop n sorts)) ts g.time)
+        → o ≡ opened_of (length sorts) g.end (g.fits && w)
+        → GuardRead file ars at sorts n o
+    new_end {g} {w} {o} h f z = go (guard_at file ars at) refl h
       where
-        go : (r : Read Placed) → guard_at file ars at ≡ r → gd.At p c i e b ≡ as_guard Wide r → GuardRead file ars at sorts n k m e (b && w)
+        go : (r : Read Placed) → guard_at file ars at ≡ r → Some g ≡ as_guard Wide r → GuardRead file ars at sorts n o
         go fault q h = clash (cc)
-        go (got g d) q h =
-            let hp : p ≡ g.place = cc in
-            let hc : c ≡ length g.terms = cc in
-            let hi : i ≡ g.time = cc in
-            let he : d ≡ e = cc in
-            let hb : b ≡ pattern_fits Wide (pattern_of g.symbol g.terms) g.time = cc in
-            let t = cut_got (read_number file at) (λ y e. guard_from file ars y e) q (λ y u hy hg. placed_terms y u d g hg) in
-            let hw : w ≡ guarded n (sorts_from n k sorts) g.terms g.time =
-            f g.terms t.0 (ap₂ (λ (x y : ℕ). many (term_at file) x y) hc hp ∙ t.1)
-            ∙ ap (guarded n (sorts_from n k sorts) g.terms) hi in
+        go (got p d) q h =
+            let a = same_Some _ _ h in
+            let t = cut_got (read_number file at) (λ y e. guard_from file ars y e) q (λ y u hy hg. placed_terms y u d p hg) in
+            let hw : w ≡ guarded n (scope_of (drop n sorts)) p.terms p.time =
+            f p.terms t.0 (ap (λ (x : Guard). many (term_at file) x.count x.terms) a ∙ t.1)
+            ∙ ap (λ (x : Guard). guarded n (scope_of (drop n sorts)) p.terms x.time) a in
             record {
-              guard = timed_of (pattern_of g.symbol g.terms) g.time;
+              guard = timed_of (pattern_of p.symbol p.terms) p.time;
               there = guard_timed_lem Wide file ars at ∙ ap (λ (r : Read Placed). and_then r
                   (λ g e. got (timed_of (pattern_of g.symbol g.terms) g.time) e)) q
-                  ∙ ap (got (timed_of (pattern_of g.symbol g.terms) g.time)) he;
-              count = z;
-              right = ap₂ ◌&&◌
-                  (hb ∙ ap (λ (s : List Sort). pattern_fits s (pattern_of g.symbol g.terms) g.time) (scope_split n k sorts))
-                  (hw ∙ ap (λ (x : ℕ). guarded x (sorts_from n k sorts) g.terms g.time) (sym (from_length 0 n sorts)));
+                  ∙ ap (got (timed_of (pattern_of p.symbol p.terms) p.time)) (sym (ap (λ (x : Guard). x.end) a) ∙ ap (λ (x : Opened). x.end) (sym z));
+              count = ap (λ (x : Opened). x.count) z;
+              right = ap (λ (x : Opened). x.fits) z ∙ ap₂ ◌&&◌
+                  (ap (λ (x : Guard). x.fits) a ∙ ap (λ (s : List Sort). pattern_fits s (pattern_of p.symbol p.terms) p.time) wide_split)
+                  (hw ∙ ap (λ (x : ℕ). guarded x (scope_of (drop n sorts)) p.terms p.time) (sym bound));
             }
 
-    pub new_none : gd.Fault ≡ as_guard Wide (guard_at file ars at) → timed_at file ars at ≡ fault
+    pub new_none : None ≡ as_guard Wide (guard_at file ars at) → timed_at file ars at ≡ fault
     new_none h = guard_timed_lem Wide file ars at ∙ go (guard_at file ars at) h
       where
-        go : (r : Read Placed) → gd.Fault ≡ as_guard Wide r → and_then r (λ g e. got (timed_of (pattern_of g.symbol g.terms) g.time) e) ≡ fault
+        go : (r : Read Placed) → None ≡ as_guard Wide r → and_then r (λ g e. got (timed_of (pattern_of g.symbol g.terms) g.time) e) ≡ fault
         go fault h = refl
         go (got g d) h = clash (cc)
 
-  -- ── the sorts and the guard ──
-  module _ (at k n : ℕ) (old new : List ℕ) where
+  -- ── the sorts and the guard: the new sorts stand behind those in scope ──
+  module _ (at n : ℕ) (old new mid : List code.Sort) (short : n ≤ length old) (wide : take (n + length mid) new ≡ take n old ++ mid) where
     abbrev rest : List Sort → ℕ → Read Head
     rest s e = and_then (timed_at file ars e) (λ g d. got (head_of s g) d)
 
-    sorts_end :
-        {d m e : ℕ} {b : Bool} → SortsRead file at k n old new d → GuardRead file ars d new n k m e b
-        → HeadRead (head_from file ars k at) n old new m e b
-    sorts_end {d} {m} {e} s g = record {
-      head = head_of (sorts_from n k new) g.guard;
-      there = then_got (many (sort_at file) k at) rest s.there ∙ then_got (timed_at file ars d) _ g.there;
-      count = g.count ∙ ap (λ (x : ℕ). n + x) (sym (from_length n k new));
-      scope = ap (λ (x : ℕ). scope_of x new) g.count ∙ scope_split n k new ∙ ap (λ (x : List Sort). x ++ sorts_from n k new) s.kept;
-      right = g.right ∙ ap (λ (x : List Sort). guard_fits x (sorts_from n k new) g.guard) s.kept;
-    }
+    front : length (take n old) ≡ n
+    front = length-take-le n old short
 
-    pub sorts_none : many (sort_at file) k at ≡ fault → head_from file ars k at ≡ fault
-    sorts_none h = then_fault (many (sort_at file) k at) rest h
+    taken : take n (take n old ++ mid) ≡ take n old
+    taken = ap (λ (x : ℕ). take x (take n old ++ mid)) (sym front) ∙ take-append_seam (take n old) mid
 
-    guard_none : {d : ℕ} → SortsRead file at k n old new d → timed_at file ars d ≡ fault → head_from file ars k at ≡ fault
-    guard_none {d} s h = then_got (many (sort_at file) k at) rest s.there ∙ then_fault (timed_at file ars d) _ h
+    dropped : drop n (take n old ++ mid) ≡ mid
+    dropped = ap (λ (x : ℕ). drop x (take n old ++ mid)) (sym front) ∙ drop-append_seam (take n old) mid
+
+    abbrev Front : Read (List Sort)
+    Front = many (sort_at file) (length mid) at
+
+    sorts_end : {e : ℕ} {o : Opened} → got (scope_of mid) e ≡ Front → GuardRead file ars e (take n old ++ mid) n o
+        → HeadRead (head_from file ars (length mid) at) n old new o
+    sorts_end {e} {o} s g =
+        let c : o.count ≡ n + length mid = g.count ∙ length-append (take n old) mid ∙ ap (λ (x : ℕ). x + length mid) front in
+        record {
+          head = head_of (scope_of mid) g.guard;
+          there = then_got Front rest (sym s) ∙ then_got (timed_at file ars e) _ g.there;
+          count = c ∙ ap (λ (x : ℕ). n + x) (sym (length-map mid sort_of));
+          scope = ap scope_of (ap (λ (x : ℕ). take x new) c ∙ wide) ∙ map-append sort_of (take n old) mid;
+          right = g.right ∙ ap₂ (λ (x y : List code.Sort). guard_fits (scope_of x) (scope_of y) g.guard) taken dropped;
+        }
 
     pub sorts_by :
-        (r : Opened) {d : ℕ} → SortsAre file at k n old new (ps.At d) → GuardIs file ars d new n k r → HeadIs (head_from file ars k at) n old new r
-    sorts_by (op.At m e b) s g = sorts_end s g
-    sorts_by op.Fault s g = guard_none s g
+        (r : Option Opened) {e : ℕ} → got (scope_of mid) e ≡ Front → GuardIs file ars e (take n old ++ mid) n r
+        → HeadIs (head_from file ars (length mid) at) n old new r
+    sorts_by (Some o) s g = sorts_end s g
+    sorts_by None s g = then_got Front rest (sym s) ∙ then_fault (timed_at file ars _) _ g
 
   -- ── with the count, and 16 in scope ──
   from_sorts : (k at e : ℕ) (h : Head) → head_from file ars k at ≡ got h e → length h.sorts ≡ k
@@ -258,14 +216,14 @@ module _ (file ars : List ℕ) where
         (counted_got file (sort_at file) most_new at k e (sym h))
 
     scoped_in :
-        {k d m e : ℕ} {b : Bool} {old new : List ℕ} → got k d ≡ below file (most_new + 1) at → n + k ≤ most_scope
-        → HeadRead (head_from file ars k d) n old new m e b → HeadRead (scoped_at file ars n at) n old new m e b
-    scoped_in {k} {d} {m} {e} h l r =
-        let z : n + length r.head.sorts ≤ most_scope = omega (arith, from_sorts k d e r.head r.there) in
+        {k d : ℕ} {o : Opened} {old new : List code.Sort} → got k d ≡ below file (most_new + 1) at → n + k ≤ most_scope
+        → HeadRead (head_from file ars k d) n old new o → HeadRead (scoped_at file ars n at) n old new o
+    scoped_in {k} {d} {o} h l r =
+        let z : n + length r.head.sorts ≤ most_scope = omega (arith, from_sorts k d o.end r.head r.there) in
         record {
           head = r.head;
           there = scoped_from h ∙ ap scoped r.there
-              ∙ ap (λ (b : Bool). pick b (got r.head e) fault) (le_leb (n + length r.head.sorts) most_scope z);
+              ∙ ap (λ (b : Bool). pick b (got r.head o.end) fault) (le_leb (n + length r.head.sorts) most_scope z);
           count = r.count;
           scope = r.scope;
           right = r.right;
@@ -275,10 +233,13 @@ module _ (file ars : List ℕ) where
     scoped_none h q = scoped_from h ∙ ap scoped q
 
     pub scoped_by :
-        (r : Opened) {k d : ℕ} (old new : List ℕ) → got k d ≡ below file (most_new + 1) at → n + k ≤ most_scope
+        (r : Option Opened) {k d : ℕ} (old new : List code.Sort) → got k d ≡ below file (most_new + 1) at → n + k ≤ most_scope
         → HeadIs (head_from file ars k d) n old new r → HeadIs (scoped_at file ars n at) n old new r
-    scoped_by (op.At m e b) old new h l q = scoped_in h l q
-    scoped_by op.Fault old new h l q = scoped_none h q
+    scoped_by (Some o) old new h l q = scoped_in h l q
+    scoped_by None old new h l q = scoped_none h q
+
+    pub scoped_stops : {k d : ℕ} → got k d ≡ below file (most_new + 1) at → fault ≡ many (sort_at file) k d → scoped_at file ars n at ≡ fault
+    scoped_stops {k} {d} h q = scoped_none h (then_fault (many (sort_at file) k d) _ (sym q))
 
     pub scoped_many : {k d : ℕ} → got k d ≡ below file (most_new + 1) at → most_scope < n + k → scoped_at file ars n at ≡ fault
     scoped_many {k} {d} h l = scoped_from h ∙ go (head_from file ars k d) refl

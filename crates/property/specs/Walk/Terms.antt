@@ -1,103 +1,62 @@
 -- The sorts in scope and the terms, as code has them.
-use Rattle.std.specs.Prelude.{ℕ, zero, suc, ◌+◌, ◌≤◌, ◌<◌, List, Bool, true, false, not, ◌≡◌, refl, get_or, eqb}
+use Rattle.std.specs.Prelude.{ℕ, zero, suc, ◌≤◌, ◌<◌, List, [], ◌∷◌, Bool, false, ◌≡◌, refl, length, get_or, eqb, Option, Some, None}
 use Rattle.std.proofs.Math.Path.{ap}
-use Rattle.std.proofs.Common.{sym, ◌∙◌, arith, eq-eqb, ne_eqb}
+use Rattle.std.proofs.Common.{sym, ◌∙◌, arith, subst, eq-eqb, ne_eqb}
+use Rattle.std.proofs.lemmas.Option.{some_pair_parts}
 use Rattle.lists.specs.Choice.{pick, clash}
 use Rattle.number.specs.Reading.{Read, got, fault, and_then, read_number, below, seen}
 use Rattle.number.specs.Reading.Laws.{then_got, then_fault}
-use Rattle.number.specs.declared.Seen.TheVariants as sn
 use Rattle.property.specs.Figures.{term_tags}
-use Rattle.property.specs.Formula.{Sort, msg, tmp, Term, var, public}
+use Rattle.property.specs.Formula.{Sort, Term, var, public}
 use Rattle.property.specs.Fit.{sort_is, in_scope}
 use Rattle.property.specs.Layout.{term_of, term_at}
-use Rattle.property.specs.Walk.{sort_of, sorts_from, scope_of, as_leaf, leaf_of}
-use Rattle.property.specs.declared.terms.Leaf.{Leaf}
-use Rattle.property.specs.declared.terms.Leaf.TheVariants as lf
+use Rattle.property.specs.Walk.{sort_of, scope_of, saw, variable_of, leaf_of}
+use Rattle.property.specs.declared.terms.Sort as code
 
 -- ── the sorts in scope ──
-from_at : (k x y : ℕ) (l : List ℕ) (s : Sort) → y < k → in_scope (sorts_from x k l) y s ≡ sort_is (sort_of (get_or l (x + y) 0)) s
-from_at zero x y l s h = absurd (omega arith)
-from_at (suc k) x zero l s h = let z : x ≡ x + 0 = omega arith in ap (λ (i : ℕ). sort_is (sort_of (get_or l i 0)) s) z
-from_at (suc k) x (suc y) l s h =
-    let z : suc x + y ≡ x + suc y = omega arith in
-    from_at k (suc x) y l s (omega arith) ∙ ap (λ (i : ℕ). sort_is (sort_of (get_or l i 0)) s) z
+pub scope_at : (l : List code.Sort) (x : ℕ) (s : Sort) (v : code.Sort) → x < length l → in_scope (scope_of l) x s ≡ sort_is (sort_of (get_or l x v)) s
+scope_at [] x s v h = absurd (omega arith)
+scope_at (y ∷ l) zero s v h = refl
+scope_at (y ∷ l) (suc x) s v h = scope_at l x s v (omega arith)
 
-from_out : (k x y : ℕ) (l : List ℕ) (s : Sort) → k ≤ y → in_scope (sorts_from x k l) y s ≡ false
-from_out zero x y l s h = refl
-from_out (suc k) x zero l s h = absurd (omega arith)
-from_out (suc k) x (suc y) l s h = from_out k (suc x) y l s (omega arith)
-
-module _ (n : ℕ) (l : List ℕ) (x : ℕ) where
-  pub scope_out : (s : Sort) → n ≤ x → false ≡ in_scope (scope_of n l) x s
-  scope_out s h = sym (from_out n 0 x l s h)
-
-  scope_at : (s : Sort) → x < n → in_scope (scope_of n l) x s ≡ sort_is (sort_of (get_or l x 0)) s
-  scope_at s h = let z : 0 + x ≡ x = omega arith in from_at n 0 x l s h ∙ ap (λ (i : ℕ). sort_is (sort_of (get_or l i 0)) s) z
-
-  pub scope_message : {v : ℕ} → v ≡ get_or l x 0 → x < n → eqb v 0 ≡ in_scope (scope_of n l) x msg
-  scope_message {v} e h = go (eqb v 0) ∙ ap (λ (w : ℕ). sort_is (sort_of w) msg) e ∙ sym (scope_at msg h)
-    where
-      go : (b : Bool) → b ≡ sort_is (pick b msg tmp) msg
-      go true = refl
-      go false = refl
-
-  pub scope_time : {v : ℕ} → v ≡ get_or l x 0 → x < n → not (eqb v 0) ≡ in_scope (scope_of n l) x tmp
-  scope_time {v} e h = go (eqb v 0) ∙ ap (λ (w : ℕ). sort_is (sort_of w) tmp) e ∙ sym (scope_at tmp h)
-    where
-      go : (b : Bool) → not b ≡ sort_is (pick b msg tmp) tmp
-      go true = refl
-      go false = refl
+pub scope_out : (l : List code.Sort) (x : ℕ) (s : Sort) → length l ≤ x → false ≡ in_scope (scope_of l) x s
+scope_out [] x s h = refl
+scope_out (y ∷ l) zero s h = absurd (omega arith)
+scope_out (y ∷ l) (suc x) s h = scope_out l x s (omega arith)
 
 -- ── a term ──
-module _ (tag : ℕ) (r : Read ℕ) where
-  pub leaf_variable : {x e : ℕ} → got x e ≡ r → tag ≡ 0 → lf.Variable x e ≡ as_leaf tag r
-  leaf_variable {x} {e} h z = ap (λ (b : Bool). pick b (lf.Variable x e) (lf.Name e)) (sym (eq-eqb tag 0 z)) ∙ ap (as_leaf tag) h
-
-  pub leaf_name : {x e : ℕ} → got x e ≡ r → (tag ≡ 0 → ⊥) → lf.Name e ≡ as_leaf tag r
-  leaf_name {x} {e} h z = ap (λ (b : Bool). pick b (lf.Variable x e) (lf.Name e)) (sym (ne_eqb tag 0 z)) ∙ ap (as_leaf tag) h
-
-  pub leaf_none : fault ≡ r → lf.Fault ≡ as_leaf tag r
-  leaf_none h = ap (as_leaf tag) h
-
-leaf_made : (tag : ℕ) (r : Read ℕ) → as_leaf tag r ≡ leaf_of (and_then r (λ n d. got (term_of tag n) d))
-leaf_made tag fault = refl
-leaf_made tag (got n d) = go (eqb tag 0)
-  where
-    go : (b : Bool) → pick b (lf.Variable n d) (lf.Name d) ≡ leaf_of (got (pick b (var n) (public n)) d)
-    go true = refl
-    go false = refl
-
 module _ (file : List ℕ) (at : ℕ) where
-  pub term_leaf : {t e : ℕ} {r : Leaf} → got t e ≡ below file term_tags at → r ≡ as_leaf t (read_number file e) → r ≡ leaf_of (term_at file at)
+  abbrev leaf : Read ℕ → Option (Option ℕ × ℕ)
+  leaf r = leaf_of (and_then r (λ t e. and_then (read_number file e) (λ n d. got (term_of t n) d)))
+
+  leaf_got : {t i : ℕ} (r : Read ℕ) → got t i ≡ below file term_tags at → read_number file i ≡ r
+      → leaf_of (and_then r (λ n d. got (term_of t n) d)) ≡ leaf_of (term_at file at)
   unfolding term_at
-  term_leaf {t} {e} h k = k ∙ leaf_made t (read_number file e) ∙ ap leaf_of (sym (then_got (below file term_tags at) _ (sym h)))
+  leaf_got {t} r h k = ap (λ (q : Read ℕ). leaf_of (and_then q (λ n d. got (term_of t n) d))) (sym k) ∙ ap leaf h
 
-  pub term_none : fault ≡ below file term_tags at → lf.Fault ≡ leaf_of (term_at file at)
+  pub term_none : fault ≡ below file term_tags at → None ≡ leaf_of (term_at file at)
   unfolding term_at
-  term_none h = ap leaf_of (sym (then_fault (below file term_tags at) _ (sym h)))
+  term_none h = ap leaf h
 
--- ── a test of a term ──
-module _ (q : Term → Bool) (r : Read Term) where
-  pub test_variable : {x e : ℕ} → lf.Variable x e ≡ leaf_of r → sn.End e (q (var x)) ≡ seen q r
-  test_variable h = go r h
-    where
-      go : {x e : ℕ} (r : Read Term) → lf.Variable x e ≡ leaf_of r → sn.End e (q (var x)) ≡ seen q r
-      go {x} {e} (got (var y) d) h = let a : x ≡ y = cc in let b : e ≡ d = cc in ap (λ (i : ℕ). sn.End i (q (var x))) b ∙ ap (λ (i : ℕ). sn.End d (q (var i))) a
-      go (got (public n) d) h = clash (cc)
-      go fault h = clash (cc)
+  pub term_cut : {t i : ℕ} → got t i ≡ below file term_tags at → fault ≡ read_number file i → None ≡ leaf_of (term_at file at)
+  term_cut h k = leaf_got fault h (sym k)
 
-  pub test_name : {e : ℕ} (b : Bool) → ((n : ℕ) → b ≡ q (public n)) → lf.Name e ≡ leaf_of r → sn.End e b ≡ seen q r
-  test_name b k h = go r h
-    where
-      go : {e : ℕ} (r : Read Term) → lf.Name e ≡ leaf_of r → sn.End e b ≡ seen q r
-      go (got (var y) d) h = clash (cc)
-      go {e} (got (public n) d) h = let a : e ≡ d = cc in ap (λ (i : ℕ). sn.End i b) a ∙ ap (sn.End d) (k n)
-      go fault h = clash (cc)
+  pub term_variable : {t i x e : ℕ} → got t i ≡ below file term_tags at → got x e ≡ read_number file i → t ≡ 0 → Some (Some x, e) ≡ leaf_of (term_at file at)
+  term_variable {t} {i} {x} {e} h k z =
+      ap (λ (b : Bool). leaf_of (got (pick b (var x) (public x)) e)) (sym (eq-eqb t 0 z)) ∙ leaf_got (got x e) h (sym k)
 
-  pub test_none : lf.Fault ≡ leaf_of r → sn.Fault ≡ seen q r
-  test_none h = go r h
-    where
-      go : (r : Read Term) → lf.Fault ≡ leaf_of r → sn.Fault ≡ seen q r
-      go (got (var y) d) h = clash (cc)
-      go (got (public n) d) h = clash (cc)
-      go fault h = refl
+  pub term_name : {t i x e : ℕ} → got t i ≡ below file term_tags at → got x e ≡ read_number file i → (t ≡ 0 → ⊥) → Some (None, e) ≡ leaf_of (term_at file at)
+  term_name {t} {i} {x} {e} h k z =
+      ap (λ (b : Bool). leaf_of (got (pick b (var x) (public x)) e)) (sym (ne_eqb t 0 z)) ∙ leaf_got (got x e) h (sym k)
+
+-- ── a test of a term, which is given its variable ──
+module _ (P : Option ℕ → Bool → Type 0) (q : Term → Bool) (tests : (t : Term) (b : Bool) → P (variable_of t) b → b ≡ q t) where
+  pub tested : (r : Read Term) {v : Option ℕ} {e : ℕ} {b : Bool} → Some (v, e) ≡ leaf_of r → P v b → seen q r ≡ saw e b
+  tested (got t d) {v} {e} {b} h p =
+      let parts : (v ≡ variable_of t) × (e ≡ d) = some_pair_parts v (variable_of t) e d h in
+      ap (λ (i : ℕ). saw i (q t)) (sym parts.1) ∙ ap (saw e) (sym (tests t b (subst (λ (w : Option ℕ). P w b) parts.0 p)))
+  tested fault h p = clash (cc)
+
+pub untested : (q : Term → Bool) (r : Read Term) → None ≡ leaf_of r → seen q r ≡ None
+untested q (got t d) h = clash (cc)
+untested q fault h = refl

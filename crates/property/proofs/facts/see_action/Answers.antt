@@ -4,12 +4,11 @@ use Rattle.property.specs.Walk.{scope_of}
 use mathlib.Core.Path.{sym, ◌∙◌}
 use Rattle.property.proofs.facts.see_action.Goals as goal
 
-pub returns-in-At : goal.returns-in-At
-returns-in-At c =
-    λ ars t. action_end (scope_of c.args.n c.args.sorts.now) c.args.f.now ars c.args.at
-    (sym c.in-At.is ∙ c.see_guard.ensures ars t)
+pub returns-in_err-guard : goal.returns-in_err-guard
+returns-in_err-guard c =
+    λ ars t. rw c.from_residual.ensures
+    (action_none (scope_of c.args.sorts.now) c.args.f.now ars c.args.at (sym c.in_err-guard.was ∙ c.see_guard.ensures ars t))
 
-pub returns-in-Fault : goal.returns-in-Fault
-returns-in-Fault c =
-    λ ars t. action_none (scope_of c.args.n c.args.sorts.now) c.args.f.now ars c.args.at
-    (sym c.in-Fault.is ∙ c.see_guard.ensures ars t)
+pub returns : goal.returns
+returns c =
+    λ ars t. action_end (scope_of c.args.sorts.now) c.args.f.now ars c.args.at (sym c.in_ok-guard.was ∙ c.see_guard.ensures ars t)

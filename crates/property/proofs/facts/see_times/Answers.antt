@@ -5,12 +5,17 @@ use mathlib.Core.List.{[]}
 use mathlib.Core.Path.{sym, ◌∙◌}
 use Rattle.property.proofs.facts.see_times.Goals as goal
 
-pub returns-in-End : goal.returns-in-End
-returns-in-End c =
-    λ q. c.also.ensures ∙ times_end (scope_of c.args.n c.args.sorts.now) c.args.f.now [] c.args.at
-    (sym c.in-End.is ∙ c.see_time.ensures) c.see_time-in-End.ensures q
+pub returns-in_err-i : goal.returns-in_err-i
+returns-in_err-i c =
+    λ q. rw c.from_residual.ensures (times_none (scope_of c.args.sorts.now) c.args.f.now [] c.args.at (sym c.in_err-i.was ∙ c.see_time.ensures) q)
 
-pub returns-in-Fault : goal.returns-in-Fault
-returns-in-Fault c =
-    λ q. times_none (scope_of c.args.n c.args.sorts.now) c.args.f.now [] c.args.at
-    (sym c.in-Fault.is ∙ c.see_time.ensures) q
+pub returns-in_err-e : goal.returns-in_err-e
+returns-in_err-e c =
+    λ q. rw c.from_residual-in_err-e.ensures
+    (times_end (scope_of c.args.sorts.now) c.args.f.now [] c.args.at (sym c.in_ok-i.was ∙ c.see_time.ensures)
+    (sym c.in_err-e.was ∙ c.see_time-2.ensures) q)
+
+pub returns : goal.returns
+returns c =
+    λ q. times_end (scope_of c.args.sorts.now) c.args.f.now [] c.args.at (sym c.in_ok-i.was ∙ c.see_time.ensures)
+    (sym c.in_ok-e.was ∙ c.see_time-2.ensures) q

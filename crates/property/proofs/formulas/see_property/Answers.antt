@@ -3,15 +3,15 @@ use Rattle.property.specs.Walk.Formulas.{property_end, property_left, property_n
 use mathlib.Core.Path.{sym, ◌∙◌}
 use Rattle.property.proofs.formulas.see_property.Goals as goal
 
+pub returns-in_err-e : goal.returns-in_err-e
+returns-in_err-e c =
+    λ ars t. rw c.from_residual.ensures
+    (property_none c.args.f.now ars (sym c.in_err-e.was ∙ c.see_formula.ensures ars t))
+
 pub returns-then-e-f : goal.returns-then-e-f
 returns-then-e-f c =
-    λ ars t. property_end c.args.f.now ars (sym c.in-End.is ∙ c.see_formula.ensures ars t) c.if-e-f.true
+    λ ars t. property_end c.args.f.now ars (sym c.in_ok-e.was ∙ c.see_formula.ensures ars t) c.if-e-f.true
 
-pub returns-else-e-f : goal.returns-else-e-f
-returns-else-e-f c =
-    λ ars t. property_left c.args.f.now ars (sym c.in-End.is ∙ c.see_formula.ensures ars t) c.if-e-f.false
-
-pub returns-in-Fault : goal.returns-in-Fault
-returns-in-Fault c =
-    λ ars t. property_none c.args.f.now ars
-    (sym c.in-Fault.is ∙ c.see_formula.ensures ars t)
+pub returns : goal.returns
+returns c =
+    λ ars t. property_left c.args.f.now ars (sym c.in_ok-e.was ∙ c.see_formula.ensures ars t) c.if-e-f.false

@@ -1,53 +1,26 @@
--- The invariant is that j sorts are read up to i and stand behind those in scope, which stay; each turn adds one.
-use borrow.Author.Rules.{rules}
+-- The invariant is that as many sorts as were passed are read up to i and stand in the slice.
 use Rattle.property.specs.Walk.Heads.{sorting_begins, sorting_next, sorting_ends, sorting_stops}
-use Rattle.property.specs.Walk.{SortIs}
-use lib.ListN.{length}
-use Prim.Native.Nat.{◌+◌, ◌<◌}
-use native.Mathlib.Omega.{arith}
-use mathlib.Core.Path.{◌≡◌, subst}
+use Rattle.property.specs.Walk.{as_sort}
+use Rattle.property.specs.declared.terms.Sort.{Sort}
+use Rattle.std.proofs.Common.{length-set, ◌<◌, ◌≡◌, length, arith}
+use mathlib.Core.Path.{ap, sym, ◌∙◌}
 use Rattle.property.proofs.heads.read_sorts.Goals as goal
 
-pub loop-j-init : goal.loop-j-init
-loop-j-init c = (
-  search rules,
-  sorting_begins c.args.f.now c.args.at c.args.n
-      c.args.sorts.now,
-)
+pub loop-s-init : goal.loop-s-init
+loop-s-init c = sorting_begins c.args.f.now c.args.at c.args.sorts.now
 
-pub overflow_cast-sorts : goal.overflow_cast-sorts
-overflow_cast-sorts c =
-    let h = subst (SortIs c.args.f.now c.loop-j.i) c.in-Value.is c.read_sort.ensures in
-    omega (arith, h.1)
+pub returns-in_err-sort : goal.returns-in_err-sort
+returns-in_err-sort c =
+    let l : c.loop-s.s-index < length c.loop-s.sorts = omega arith in
+    rw (c.from_residual.ensures, length-set)
+    (sorting_stops c.args.f.now c.args.at c.loop-s.sorts l c.loop-s.invariant (ap as_sort (sym c.in_err-sort.was) ∙ c.read_sort.ensures))
 
-pub overflow_add-sorts : goal.overflow_add-sorts
-overflow_add-sorts c =
-    omega (arith, c.requires, c.loop-j.invariant.1.size, c.loop-j-test.true)
-
-pub bounds-sorts-n : goal.bounds-sorts-n
-bounds-sorts-n c =
-    omega (arith, c.requires, c.loop-j.invariant.1.size, c.loop-j-test.true)
-
-pub loop-j-preserved : goal.loop-j-preserved
-loop-j-preserved c =
-    let h = subst (SortIs c.args.f.now c.loop-j.i) c.in-Value.is c.read_sort.ensures in
-    let room : c.args.n + c.loop-j.j < length c.loop-j.sorts = omega (arith, c.requires, c.loop-j.invariant.1.size, c.loop-j-test.true) in
-    (search rules, sorting_next c.args.f.now c.args.at c.args.n c.args.sorts.now room c.loop-j.invariant.1 h)
-
-pub shape_of-sorts-in-Fault : goal.shape_of-sorts-in-Fault
-shape_of-sorts-in-Fault c =
-    c.loop-j.invariant.1.size
-
-pub returns-in-Fault : goal.returns-in-Fault
-returns-in-Fault c =
-    sorting_stops c.args.f.now c.args.at c.args.n c.args.sorts.now c.loop-j-test.true c.loop-j.invariant.1
-    (subst (SortIs c.args.f.now c.loop-j.i) c.in-Fault.is c.read_sort.ensures)
-
-pub shape_of-sorts : goal.shape_of-sorts
-shape_of-sorts c =
-    c.loop-j.invariant.1.size
+pub loop-s-preserved : goal.loop-s-preserved
+loop-s-preserved c =
+    let l : c.loop-s.s-index < length c.loop-s.sorts = omega arith in
+    sorting_next c.args.f.now c.args.at c.loop-s.sorts c.in_ok-sort.sort l c.loop-s.invariant (ap as_sort (sym c.in_ok-sort.was) ∙ c.read_sort.ensures)
 
 pub returns : goal.returns
 returns c =
-    let m : c.loop-j.j ≡ c.args.k = omega arith in
-    sorting_ends c.args.f.now c.args.at c.args.n c.args.sorts.now m c.loop-j.invariant.1
+    let m : c.loop-s.s-index ≡ length c.loop-s.sorts = omega arith in
+    sorting_ends c.args.f.now c.args.at c.loop-s.sorts m c.loop-s.invariant

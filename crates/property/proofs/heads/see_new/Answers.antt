@@ -3,12 +3,12 @@ use Rattle.property.specs.Walk.Heads.{new_end, new_none}
 use mathlib.Core.Path.{refl, sym, ◌∙◌}
 use Rattle.property.proofs.heads.see_new.Goals as goal
 
-pub returns-in-At : goal.returns-in-At
-returns-in-At c =
-    λ ars t. new_end c.args.f.now ars c.args.at c.args.n c.args.k c.args.sorts.now
-    (sym c.in-At.is ∙ c.see_guard.ensures ars t) c.all_in_guard.ensures refl
+pub returns-in_err-guard : goal.returns-in_err-guard
+returns-in_err-guard c =
+    λ ars t. rw c.from_residual.ensures
+    (new_none c.args.f.now ars c.args.at c.args.n c.args.sorts.now c.requires (sym c.in_err-guard.was ∙ c.see_guard.ensures ars t))
 
-pub returns-in-Fault : goal.returns-in-Fault
-returns-in-Fault c =
-    λ ars t. new_none c.args.f.now ars c.args.at c.args.n c.args.k c.args.sorts.now
-    (sym c.in-Fault.is ∙ c.see_guard.ensures ars t)
+pub returns : goal.returns
+returns c =
+    λ ars t. new_end c.args.f.now ars c.args.at c.args.n c.args.sorts.now c.requires
+    (sym c.in_ok-guard.was ∙ c.see_guard.ensures ars t) c.all_in_guard.ensures refl
