@@ -85,7 +85,13 @@ fn see_times(f: &[u8], at: usize, sorts: &[Sort]) -> Option<(usize, bool)>
 }
 
 // What stands behind an atom's tag.
-pub fn see_atom(f: &[u8], arities: &[u8], tag: usize, at: usize, sorts: &[Sort]) -> Option<(usize, bool)>
+pub fn see_atom(
+    f: &[u8],
+    arities: &[u8],
+    tag: usize,
+    at: usize,
+    sorts: &[Sort],
+) -> Option<(usize, bool)>
     ensures { Promises (Tabled arities.now) (λ (ars : List ℕ). result ≡ seen (atom_fits (scope_of sorts.now)) (atom_at f.now ars tag at)) }
 {
     if tag < figures::BEFORE {

@@ -12,7 +12,13 @@ use crate::{facts, figures, heads};
 
 // A formula of at most so many levels. The sorts of the variables in scope are lent.
 #[cycle(see_body_see_formula_see_pair_see_quantifier)]
-fn see_formula(f: &[u8], arities: &[u8], levels: usize, at: usize, sorts: &[Sort]) -> Option<(usize, bool)>
+fn see_formula(
+    f: &[u8],
+    arities: &[u8],
+    levels: usize,
+    at: usize,
+    sorts: &[Sort],
+) -> Option<(usize, bool)>
     requires { (length sorts.now ≤ most_scope) × Asks (Tabled arities.now) }
     ensures { Promises (Tabled arities.now) (λ (ars : List ℕ). result ≡ seen (fit (scope_of sorts.now)) (formula_at f.now ars levels (length sorts.now) at)) }
 {
@@ -50,7 +56,13 @@ fn see_body(
 
 // Two formulas.
 #[cycle(see_body_see_formula_see_pair_see_quantifier)]
-fn see_pair(f: &[u8], arities: &[u8], levels: usize, at: usize, sorts: &[Sort]) -> Option<(usize, bool)>
+fn see_pair(
+    f: &[u8],
+    arities: &[u8],
+    levels: usize,
+    at: usize,
+    sorts: &[Sort],
+) -> Option<(usize, bool)>
     requires { (length sorts.now ≤ most_scope) × Asks (Tabled arities.now) }
     ensures { Promises (Tabled arities.now) (λ (ars : List ℕ). ((q : Bool) → result ≡ seen (fit (scope_of sorts.now)) (pair_at (formula_at f.now ars levels (length sorts.now)) q at))) }
 {
@@ -61,7 +73,13 @@ fn see_pair(f: &[u8], arities: &[u8], levels: usize, at: usize, sorts: &[Sort]) 
 
 // What stands before a quantifier's body, and the body.
 #[cycle(see_body_see_formula_see_pair_see_quantifier)]
-fn see_quantifier(f: &[u8], arities: &[u8], levels: usize, at: usize, sorts: &[Sort]) -> Option<(usize, bool)>
+fn see_quantifier(
+    f: &[u8],
+    arities: &[u8],
+    levels: usize,
+    at: usize,
+    sorts: &[Sort],
+) -> Option<(usize, bool)>
     requires { (length sorts.now ≤ most_scope) × Asks (Tabled arities.now) }
     ensures { Promises (Tabled arities.now) (λ (ars : List ℕ). ((q : Bool) → result ≡ seen (fit (scope_of sorts.now)) (quant_at f.now ars (formula_at f.now ars levels) (length sorts.now) q at))) }
 {

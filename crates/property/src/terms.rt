@@ -39,7 +39,12 @@ pub fn see_term(f: &[u8], at: usize) -> Option<(Option<usize>, usize)>
 }
 
 // k terms, and whether the test, which is given a term's variable, passes one of them.
-pub fn any_term<F: Fn(Option<usize>) -> bool>(f: &[u8], at: usize, k: usize, test: F) -> Option<(usize, bool)>
+pub fn any_term<F: Fn(Option<usize>) -> bool>(
+    f: &[u8],
+    at: usize,
+    k: usize,
+    test: F,
+) -> Option<(usize, bool)>
     requires { F.IsAlwaysCallable test }
     ensures { (q : Term → Bool) → ((t : Term) (b : Bool) → F.post test (variable_of t) b → b ≡ q t) → result ≡ seen (any_by q) (many (term_at f.now) k at) }
 {

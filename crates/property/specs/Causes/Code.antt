@@ -1,13 +1,14 @@
 -- What the code answers of a property file.
 use Rattle.std.specs.Prelude.{ℕ, ◌≤◌, ◌<◌, List, [], ◌∷◌, map, Bool, true, false, not, cond, ◌≡◌, refl, length}
-use Rattle.std.specs.Prelude.{Some, None}
+use Rattle.std.specs.Prelude.{Some, None, Result, Ok}
 use Rattle.std.proofs.Common.{ap, sym, ◌∙◌, subst, arith}
 use Rattle.lists.specs.Choice.{pick, clash}
 use Rattle.lists.specs.All.{All}
 use Rattle.rewriting.specs.Table.{Ruling, passed, refused, or_refuse}
+use Rattle.rewriting.specs.Answers.{answered}
+use Rattle.rewriting.specs.declared.Refusal.{Refusal}
 use Rattle.number.specs.Reading.{Read, seen}
 use Rattle.number.specs.Reading.Laws.{cut_seen, cut_fault}
-use Rattle.number.specs.declared.Seen.TheVariants as sn
 use Rattle.term.specs.Arity.{undeclared}
 use Rattle.protocol.specs.Figures.{symbol_count}
 use Rattle.protocol.specs.Protocol.{Own, Protocol, fact_arities}
@@ -16,7 +17,7 @@ use Rattle.protocol.specs.Protocol.Exact.{few_arities}
 use Rattle.prepared.specs.Prepared.{arities_of, Body}
 use Rattle.property.specs.Formula.{Formula}
 use Rattle.property.specs.Fit.{fit}
-use Rattle.property.specs.Walk.{Tabled}
+use Rattle.property.specs.Walk.{Tabled, saw}
 use Rattle.property.specs.Causes.{property_item, fit_ruling, property_ruling}
 use Rattle.property.specs.Causes.Laws.{Passing, passed_passing, passing_reads, passing_test}
 use Rattle.property.specs.Formula.Limits.{FormulaWithin}
@@ -25,8 +26,6 @@ use Rattle.property.specs.Layout.Exact.{property_form}
 use Rattle.property.specs.Reads.{Reads}
 use Rattle.property.specs.Reads.Laws.{reads_wider}
 use Rattle.octets.specs.Head.{Bytes}
-use Rattle.property.specs.declared.ruling.PropertyRuling.{PropertyRuling}
-use Rattle.property.specs.declared.ruling.PropertyRuling.TheVariants as pr
 
 -- ── the table of arities that a prepared protocol has ──
 small_arities : (os : List Own) → All OwnWithin os → All (λ a. a < undeclared) (fact_arities os)
@@ -44,10 +43,6 @@ body_tabled {p} {P} b = record {
 }
 
 -- ── the ruling ──
-abbrev pub ruling_of : PropertyRuling → Ruling (Unit {0})
-ruling_of pr.Good = passed tt
-ruling_of (pr.Refused n k) = refused n k
-
 -- of the formula only that it passes
 abbrev pub plainly : Ruling Formula → Ruling (Unit {0})
 plainly (passed f) = passed tt
@@ -64,23 +59,23 @@ module _ (r : Read Formula) where
   abbrev Whole : Ruling (Unit {0})
   Whole = plainly (property_ruling r)
 
-  seen_ruled : {e : ℕ} {b : Bool} → sn.End e b ≡ seen (fit []) r → pick b (passed tt) (refused 5 0) ≡ Whole
+  seen_ruled : {e : ℕ} {b : Bool} → saw e b ≡ seen (fit []) r → pick b (passed tt) (refused 5 0) ≡ Whole
   seen_ruled {e} {b} h =
       cut_seen (fit []) r (sym h) (λ f g c. sym (by_fit f b c) ∙ ap (λ (o : Read Formula). plainly (property_ruling o)) (sym g))
 
-  pub ruled_good : {e : ℕ} {b : Bool} → sn.End e b ≡ seen (fit []) r → b ≡ true → passed tt ≡ Whole
+  pub ruled_good : {e : ℕ} {b : Bool} → saw e b ≡ seen (fit []) r → b ≡ true → passed tt ≡ Whole
   ruled_good h z = ap (λ (c : Bool). pick c (passed tt) (refused 5 0)) (sym z) ∙ seen_ruled h
 
-  pub ruled_unfit : {e : ℕ} {b : Bool} → sn.End e b ≡ seen (fit []) r → b ≡ false → refused 5 0 ≡ Whole
+  pub ruled_unfit : {e : ℕ} {b : Bool} → saw e b ≡ seen (fit []) r → b ≡ false → refused 5 0 ≡ Whole
   ruled_unfit h z = ap (λ (c : Bool). pick c (passed tt) (refused 5 0)) (sym z) ∙ seen_ruled h
 
-  pub ruled_fault : sn.Fault ≡ seen (fit []) r → refused 3 property_item ≡ Whole
+  pub ruled_fault : None ≡ seen (fit []) r → refused 3 property_item ≡ Whole
   ruled_fault h = ap (λ (o : Read Formula). plainly (property_ruling o)) (sym (cut_fault (fit []) r (sym h)))
 
 -- ── where it is good ──
 -- a property to be judged: some formula passes
-pub good_passing : (r : Read Formula) (o : PropertyRuling) → ruling_of o ≡ plainly (property_ruling r) → o ≡ pr.Good → (f : Formula) × Passing r f
-good_passing r o h g = go (property_ruling r) refl (sym (ap ruling_of g) ∙ h)
+pub good_passing : (r : Read Formula) (o : Result (Unit {0}) Refusal) → answered o ≡ plainly (property_ruling r) → o ≡ Ok tt → (f : Formula) × Passing r f
+good_passing r o h g = go (property_ruling r) refl (sym (ap answered g) ∙ h)
   where
     go : (q : Ruling Formula) → property_ruling r ≡ q → passed tt ≡ plainly q → (f : Formula) × Passing r f
     go (passed f) e i = (f, passed_passing r f e)

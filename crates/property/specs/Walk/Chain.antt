@@ -1,7 +1,7 @@
 -- For crate number: what code has seen of one reading after another, and of several, with a test of each.
 use Rattle.std.specs.Prelude.{ℕ, List, [], ◌∷◌, Bool, true, false, not, ◌&&◌, ◌||◌, ◌≡◌, None}
 use Rattle.std.proofs.Math.Path.{refl}
-use Rattle.std.proofs.Common.{ap, ap₂, sym, ◌∙◌}
+use Rattle.std.proofs.Common.{ap, sym, ◌∙◌}
 use Rattle.lists.specs.Lists.{any_by, all_by}
 use Rattle.number.specs.Reading.{Read, got, fault, and_then, seen}
 use Rattle.number.specs.Reading.Laws.{cut_seen, cut_fault}

@@ -14,7 +14,7 @@ use Rattle.property.specs.Figures.{false_tag, and_tag, exists_tag, every_tag, fo
 use Rattle.property.specs.Formula.{Sort, Atom, Formula, absurdity}
 use Rattle.property.specs.Fit.{atom_fits, pattern_fits, guarded, fit}
 use Rattle.property.specs.Layout.{Head, signed, asserts, paired, quantified, head_at, atom_at, scoped_at, pair_at, quant_at, body_at, formula_at, property}
-use Rattle.property.specs.Walk.{scope_of, Saw, saw, also, guard_fits, HeadRead, HeadIs}
+use Rattle.property.specs.Walk.{scope_of, Saw, saw, also, guard_fits, HeadRead}
 use Rattle.property.specs.Walk.Chain.{chain_end, chain_fault}
 use Rattle.property.specs.declared.terms.Sort as code
 use Rattle.property.specs.declared.heads.Opened.{Opened}

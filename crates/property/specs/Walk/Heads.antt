@@ -13,7 +13,7 @@ use Rattle.number.specs.Reading.Laws.{cut_got, then_got, then_fault}
 use Rattle.number.specs.Reading.Many.{many_snoc, many_stop, many_length, counted_got, counted_fault}
 use Rattle.property.specs.Figures.{most_new, most_scope}
 use Rattle.property.specs.Formula.{Sort, msg, tmp, Term, pattern_of}
-use Rattle.property.specs.Fit.{is_var, pattern_fits, guarded}
+use Rattle.property.specs.Fit.{pattern_fits, guarded}
 use Rattle.property.specs.Layout.{timed_of, Head, head_of, term_at, sort_at, timed_at, head_at, scoped_at}
 use Rattle.property.specs.Walk.{sort_of, scope_of, Placed, placed_of, guard_from, guard_at, as_guard, as_sort, as_sorts, in_guard}
 use Rattle.property.specs.Walk.{guard_fits, GuardRead, GuardIs, head_from, HeadRead, HeadIs, saw, opened_of}

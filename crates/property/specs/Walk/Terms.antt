@@ -1,11 +1,10 @@
 -- The sorts in scope and the terms, as code has them.
-use Rattle.std.specs.Prelude.{ℕ, zero, suc, ◌≤◌, ◌<◌, List, [], ◌∷◌, Bool, false, ◌≡◌, refl, length, get_or, eqb, Option, Some, None}
+use Rattle.std.specs.Prelude.{ℕ, zero, suc, ◌≤◌, ◌<◌, List, [], ◌∷◌, Bool, false, ◌≡◌, refl, length, get_or, Option, Some, None}
 use Rattle.std.proofs.Math.Path.{ap}
 use Rattle.std.proofs.Common.{sym, ◌∙◌, arith, subst, eq-eqb, ne_eqb}
 use Rattle.std.proofs.lemmas.Option.{some_pair_parts}
 use Rattle.lists.specs.Choice.{pick, clash}
 use Rattle.number.specs.Reading.{Read, got, fault, and_then, read_number, below, seen}
-use Rattle.number.specs.Reading.Laws.{then_got, then_fault}
 use Rattle.property.specs.Figures.{term_tags}
 use Rattle.property.specs.Formula.{Sort, Term, var, public}
 use Rattle.property.specs.Fit.{sort_is, in_scope}

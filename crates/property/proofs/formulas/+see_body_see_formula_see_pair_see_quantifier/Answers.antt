@@ -1,14 +1,12 @@
 -- Together, by recursion over the levels left: each clause of `formula_at` and `fit` is the answer of the call for that tag.
-use Rattle.property.specs.Walk.Formulas.{pair_end, pair_fault, copied, quant_room, quant_end, quant_fault, body_false}
-use Rattle.property.specs.Walk.Formulas.{body_atom, body_pair, body_quant, level_none, level_tag, level_fault}
+use Rattle.property.specs.Walk.Formulas.{copied, quant_room, quant_end}
+use Rattle.property.specs.Walk.Formulas.{body_atom, level_none, level_tag, level_fault}
 use Rattle.property.specs.Walk.{scope_of, HeadIs}
 use Rattle.property.specs.Layout.{scoped_at, formula_at}
 use Rattle.number.specs.Reading.{as_read}
-use Rattle.property.specs.declared.terms.Sort.{Sort}
 use Rattle.property.specs.Fit.{fit}
 use Rattle.number.specs.Reading.{seen}
-use Rattle.std.proofs.Common.{List, ◌++◌, ℕ, ◌≤◌, take, length}
-use Rattle.std.proofs.Math.Seq.{take-append_seam}
+use Rattle.std.proofs.Common.{ℕ, ◌≤◌, take, length}
 use Rattle.std.proofs.lemmas.List.{length-take-le}
 use native.Mathlib.Omega.{arith}
 use mathlib.Core.Path.{ap, sym, ◌∙◌, subst}

@@ -1,7 +1,7 @@
 -- The invariant is that all is asked of the new variables from x on.
 use Rattle.property.specs.Walk.Heads.{guarded_next, guarded_stops, guarded_ends}
-use Rattle.std.proofs.Common.{◌≡◌, ◌<◌, length, arith}
-use mathlib.Core.Path.{sym, ◌∙◌}
+use Rattle.std.proofs.Common.{◌≡◌, length, arith}
+use mathlib.Core.Path.{◌∙◌}
 use Rattle.property.proofs.heads.all_in_guard.Goals as goal
 
 pub returns-then-not-in_guard : goal.returns-then-not-in_guard

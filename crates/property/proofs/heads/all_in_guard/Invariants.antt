@@ -3,7 +3,7 @@ use Rattle.property.specs.Walk.Heads.{rest_guarded}
 use Rattle.property.specs.Layout.{term_at}
 use Rattle.property.specs.Formula.{Term}
 use Rattle.number.specs.Reading.{got, many}
-use Rattle.std.proofs.Common.{ℕ, List, ◌≡◌, ◌≤◌, length}
+use Rattle.std.proofs.Common.{ℕ, List, ◌≡◌}
 use Rattle.property.proofs.heads.all_in_guard.Given as goal
 
 abbrev pub invariant-loop-x : goal.invariant-loop-x

@@ -2,7 +2,6 @@
 use Rattle.property.specs.Walk.Heads.{sort_message, sort_time, sort_other, sort_none}
 use Rattle.number.specs.Reading.{as_read}
 use mathlib.Core.Path.{ap, sym, ◌∙◌}
-use Rattle.property.specs.Walk.{as_sort}
 use Rattle.property.proofs.heads.read_sort.Goals as goal
 
 pub returns-in_err-v : goal.returns-in_err-v

@@ -1,7 +1,6 @@
 -- The invariant is that as many sorts as were passed are read up to i and stand in the slice.
 use Rattle.property.specs.Walk.Heads.{sorting_begins, sorting_next, sorting_ends, sorting_stops}
 use Rattle.property.specs.Walk.{as_sort}
-use Rattle.property.specs.declared.terms.Sort.{Sort}
 use Rattle.std.proofs.Common.{length-set, ◌<◌, ◌≡◌, length, arith}
 use mathlib.Core.Path.{ap, sym, ◌∙◌}
 use Rattle.property.proofs.heads.read_sorts.Goals as goal

@@ -9,17 +9,17 @@ pub see_property-requires : goal.see_property-requires
 see_property-requires c =
     (fact_arities c.requires.0.symbols, body_tabled c.requires.1)
 
-pub returns-then-fits : goal.returns-then-fits
-returns-then-fits c =
-    λ P b. ruled_good (property c.args.f.now (fact_arities P.symbols)) (sym c.in-End.is ∙ c.see_property.ensures
-    (fact_arities P.symbols) (body_tabled b)) c.if-fits.true
+pub returns-in-Some-default-true : goal.returns-in-Some-default-true
+returns-in-Some-default-true c =
+    λ P b. ruled_good (property c.args.f.now (fact_arities P.symbols)) (sym c.in-Some-default-true.is ∙ c.see_property.ensures
+    (fact_arities P.symbols) (body_tabled b)) c.in-Some-default-true.field-0-1-test
 
-pub returns-else-fits : goal.returns-else-fits
-returns-else-fits c =
-    λ P b. ruled_unfit (property c.args.f.now (fact_arities P.symbols)) (sym c.in-End.is ∙ c.see_property.ensures
-    (fact_arities P.symbols) (body_tabled b)) c.if-fits.false
+pub returns-in-Some-default-false : goal.returns-in-Some-default-false
+returns-in-Some-default-false c =
+    λ P b. ruled_unfit (property c.args.f.now (fact_arities P.symbols)) (sym c.in-Some-default-false.is ∙ c.see_property.ensures
+    (fact_arities P.symbols) (body_tabled b)) c.in-Some-default-false.field-0-1-test
 
-pub returns-in-Fault : goal.returns-in-Fault
-returns-in-Fault c =
+pub returns-in-None : goal.returns-in-None
+returns-in-None c =
     λ P b. ruled_fault (property c.args.f.now (fact_arities P.symbols))
-    (sym c.in-Fault.is ∙ c.see_property.ensures (fact_arities P.symbols) (body_tabled b))
+    (sym c.in-None.is ∙ c.see_property.ensures (fact_arities P.symbols) (body_tabled b))

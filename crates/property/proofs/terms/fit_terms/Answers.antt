@@ -10,7 +10,7 @@ use mathlib.Core.Path.{sym, ◌∙◌}
 use Rattle.property.proofs.terms.fit_terms.Goals as goal
 
 pub returns-in_err-e : goal.returns-in_err-e
-returns-in_err-e c = 
+returns-in_err-e c =
     rw c.from_residual.ensures
     (all_fault (term_fits (scope_of c.args.sorts.now)) (many (term_at c.args.f.now) c.args.k c.args.at)
     (sym c.in_err-e.was ∙ c.any_term.ensures (λ (t : Term). not (term_fits (scope_of c.args.sorts.now) t))
