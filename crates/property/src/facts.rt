@@ -25,14 +25,11 @@ pub struct Guard {
 fn arity_of(arities: &[u8], symbol: usize) -> Option<usize>
     ensures { result ≡ declared (get_or arities.now symbol undeclared) }
 {
-    if arities.len() <= symbol {
-        return None;
-    }
-    let k = arities[symbol];
+    let k = *arities.get(symbol)?;
     if k == term::UNDECLARED {
         return None;
     }
-    Some(k as usize)
+    Some(usize::from(k))
 }
 
 // A fact and its time variable.
