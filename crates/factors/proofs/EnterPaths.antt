@@ -1,14 +1,15 @@
--- What `open_row`, `open_power`, `find_place`, `enter` and `enter_at` ask and promise.
-use Prim.Native.Nat.{ℕ, ◌+◌, ◌-◌, ◌*◌, ◌≤◌, ◌<◌}
+-- What `find_place`, `hinted`, `is_behind`, `enter`, `append` and `enter_at` ask and promise.
+use Prim.Native.Nat.{ℕ, ◌+◌, ◌-◌, ◌≤◌, ◌<◌}
 use mathlib.Core.Path.{◌≡◌, refl, sym, ap, ap₂, ◌∙◌, subst}
 use mathlib.Core.Bool.{Bool, true, false}
 use mathlib.Core.List.{List, [], ◌∷◌}
 use native.Mathlib.Decide.{dec_lt}
 use native.Mathlib.Omega.{arith}
-use lib.ListN.{length, take, drop, get_or, set, length-set, length-drop}
+use lib.ListN.{length, take, drop, get_or, set, length-drop}
 use lib.Seq.{get_or-set_same, get_or-set_other, length-take-le}
-use borrow.Author.Tests.{lt-ltb, le-ltb}
-use lib.IntN.{ℤ, pos, ◌+ℤ◌, nat_abs}
+use borrow.Author.Tests.{lt-ltb, le-ltb, eqb-false}
+use lib.Dec.{eqb}
+use lib.IntN.{ℤ, ◌+ℤ◌, nat_abs}
 use mir.Syntax.{w32}
 use mir.Val.{SFits, to_z, of_z}
 use Rattle.term.specs.Sizes.{most_symbols}
@@ -31,87 +32,62 @@ use Rattle.factors.specs.declared.Way.TheVariants as way
 use Rattle.factors.specs.Whole.{add_abs, small_fits, back}
 use Rattle.factors.specs.Mass.{size, mass}
 use Rattle.factors.specs.Mass.Laws.{size_mass, sign_abs}
-use Rattle.factors.specs.Rows.{Table, start_of, end_of, Bounds, Rising, bytes_at, order_at, meeting, Found, Moved}
-use Rattle.factors.specs.Rows.Laws.{part_two, rows_bounds, rows_rising, rows_abs, start_opened, end_opened}
-use Rattle.factors.specs.Rows.Laws.{power_opened, rows_in, size_in_lem, rows_same, size_same}
+use Rattle.std.specs.Prelude.{Result, Ok, Err}
+use Rattle.factors.specs.declared.Entry.{Entry}
+use Rattle.factors.specs.Rows.{entry, power_of, Table, Rows, Bounds, Rising, bytes_at, order_at, meeting, Found, FoundAt}
+use Rattle.factors.specs.Rows.Laws.{part_two, rows_bounds, rows_rising, rows_abs, rows_as, Opened, Raised, rows_in, size_in_lem, rows_same, size_same}
+use Rattle.std.specs.List.{CopiedTo, SameBelow}
+use Rattle.std.proofs.lemmas.List.{get_or-take}
 use Rattle.factors.specs.Laid.Laws.{one_bytes, one_within, some_symbol}
 use Rattle.factors.specs.Way.{way_of}
 use Rattle.factors.specs.Way.Laws.{way_end}
 use Rattle.factors.specs.Asked.{Enter, OneTerm, Entered}
 
--- ── moving up by s, for elements of any type ──
-pub record Moving {A : Type 0} (d : A) (s : ℕ) (old new : List A) (j n : ℕ) : Type 0 where
-  pub long : length new ≡ length old
-  pub low : j ≤ n
-  pub still : (m : ℕ) → m < j + s → get_or new m d ≡ get_or old m d
-  pub up : (m : ℕ) → j ≤ m → m < n → get_or new (m + s) d ≡ get_or old m d
-
-module _ {A : Type 0} (d : A) (s : ℕ) (some : 0 < s) (old : List A) (n : ℕ) where
-  pub moving_first : Moving d s old old n n
-  moving_first = record { long = refl; low = omega arith; still = λ m h. refl; up = λ m h k. absurd (omega arith) }
-
-  pub moving_next :
-      (new : List A) (j : ℕ) (x : A) → x ≡ get_or new (j - 1) d → 0 < j → n + s ≤ length old → Moving d s old new j n
-      → Moving d s old (set new (j - 1 + s) x) (j - 1) n
-  moving_next new j x e h k M = record {
-    long = length-set new (j - 1 + s) x ∙ M.long;
-    low = omega (arith, M.low);
-    still = λ m l. get_or-set_other new (j - 1 + s) m x d (λ z. omega arith) ∙ M.still m (omega arith);
-    up = λ m l g. elim (dec_lt m j) [
-      | yes p ↦ (let q : m ≡ j - 1 = omega arith in
-          rw q (get_or-set_same new (j - 1 + s) x d (omega (arith, M.long, M.low)) ∙ e ∙ M.still (j - 1) (omega arith)))
-      | no p ↦ get_or-set_other new (j - 1 + s) (m + s) x d (λ z. omega arith) ∙ M.up m (omega arith) g
-    ];
-  }
-
-  pub moved : (new : List A) (i j : ℕ) → i ≤ j → j ≤ i → Moving d s old new j n → Moved d s old new i n
-  moved new i j h k M = record { below = λ m l. M.still m (omega arith); above = λ m l g. M.up m (omega arith) g }
-
 -- ── finding a place ──
 -- the place is lo at least and hi at most: the entries below lo come before these bytes, the one at hi, if there is one, behind them
-pub record Between (key src Q : List ℕ) (n lo hi : ℕ) : Type 0 where
+pub record Between (key src : List ℕ) (T : List Entry) (lo hi : ℕ) : Type 0 where
   pub low : lo ≤ hi
-  pub high : hi ≤ n
-  pub before : (k : ℕ) → k < lo → order_at key src Q k ≡ Greater
-  pub behind : hi < n → order_at key src Q hi ≡ Less
+  pub high : hi ≤ length T
+  pub before : (k : ℕ) → k < lo → order_at key src T k ≡ Greater
+  pub behind : hi < length T → order_at key src T hi ≡ Less
 
 -- what is left of that after a look at an entry
-pub record Narrowed (key src Q : List ℕ) (n lo hi lo₁ hi₁ : ℕ) : Type 0 where
-  pub between : Between key src Q n lo₁ hi₁
+pub record Narrowed (key src : List ℕ) (T : List Entry) (lo hi lo₁ hi₁ : ℕ) : Type 0 where
+  pub between : Between key src T lo₁ hi₁
   pub fewer : hi₁ - lo₁ < hi - lo
 
-module _ (key src Q : List ℕ) (n : ℕ) where
-  pub between_all : Between key src Q n 0 n
+module _ (key src : List ℕ) (T : List Entry) where
+  pub between_all : Between key src T 0 (length T)
   between_all = record { low = omega arith; high = omega arith; before = λ k h. absurd (omega arith); behind = λ h. absurd (omega arith) }
 
-  pub found_between : (lo hi : ℕ) → hi ≤ lo → Between key src Q n lo hi → Found key src Q n lo false
+  pub found_between : (lo hi : ℕ) → hi ≤ lo → Between key src T lo hi → Found key src T lo false
   found_between lo hi h B =
       let z : lo ≡ hi = omega (arith, B.low) in
       record { within = omega (arith, B.high); before = B.before; here = rw z B.behind; end = λ e. clash (cc) }
 
-  module _ (R : Rising src Q n) (j : ℕ) (l : j < n) (o : Ordering) (e : o ≡ order_at key src Q j) where
+  module _ (R : Rising src T) (j : ℕ) (l : j < length T) (o : Ordering) (e : o ≡ order_at key src T j) where
     -- the entries below one that comes before these bytes come before them
-    below_greater : o ≡ Greater → (k : ℕ) → k < j → order_at key src Q k ≡ Greater
+    below_greater : o ≡ Greater → (k : ℕ) → k < j → order_at key src T k ≡ Greater
     below_greater g k h =
-        let b : compare_bytes (bytes_at src Q j) key ≡ Less = compare_flip key (bytes_at src Q j) ∙ ap flipped (sym e ∙ g) in
-        compare_flip (bytes_at src Q k) key ∙ ap flipped (compare_trans (bytes_at src Q k) (bytes_at src Q j) key (R k j h l) b)
+        let b : compare_bytes (bytes_at src T j) key ≡ Less = compare_flip key (bytes_at src T j) ∙ ap flipped (sym e ∙ g) in
+        compare_flip (bytes_at src T k) key ∙ ap flipped (compare_trans (bytes_at src T k) (bytes_at src T j) key (R k j h l) b)
 
-    below_same : o ≡ Equal → (k : ℕ) → k < j → order_at key src Q k ≡ Greater
+    below_same : o ≡ Equal → (k : ℕ) → k < j → order_at key src T k ≡ Greater
     below_same g k h =
-        let s : key ≡ bytes_at src Q j = compare_same key (bytes_at src Q j) (sym e ∙ g) in
-        ap (λ (x : List ℕ). compare_bytes x (bytes_at src Q k)) s ∙ compare_flip (bytes_at src Q k) (bytes_at src Q j) ∙ ap flipped (R k j h l)
+        let s : key ≡ bytes_at src T j = compare_same key (bytes_at src T j) (sym e ∙ g) in
+        ap (λ (x : List ℕ). compare_bytes x (bytes_at src T k)) s ∙ compare_flip (bytes_at src T k) (bytes_at src T j) ∙ ap flipped (R k j h l)
 
-    pub found_same : o ≡ Equal → Found key src Q n j true
+    pub found_same : o ≡ Equal → Found key src T j true
     found_same g = record { within = omega arith; before = below_same g; here = λ h. sym e ∙ g; end = λ z. l }
 
-    module _ (lo hi : ℕ) (B : Between key src Q n lo hi) (a : lo ≤ j) (b : j < hi) where
-      pub narrowed_less : o ≡ Less → (lo₁ hi₁ : ℕ) → lo₁ ≡ lo → hi₁ ≡ j → Narrowed key src Q n lo hi lo₁ hi₁
+    module _ (lo hi : ℕ) (B : Between key src T lo hi) (a : lo ≤ j) (b : j < hi) where
+      pub narrowed_less : o ≡ Less → (lo₁ hi₁ : ℕ) → lo₁ ≡ lo → hi₁ ≡ j → Narrowed key src T lo hi lo₁ hi₁
       narrowed_less g lo₁ hi₁ p q = record {
         between = rw (p, q) (record { low = a; high = omega arith; before = B.before; behind = λ h. sym e ∙ g });
         fewer = omega arith;
       }
 
-      pub narrowed_greater : o ≡ Greater → (lo₁ hi₁ : ℕ) → lo₁ ≡ j + 1 → hi₁ ≡ hi → Narrowed key src Q n lo hi lo₁ hi₁
+      pub narrowed_greater : o ≡ Greater → (lo₁ hi₁ : ℕ) → lo₁ ≡ j + 1 → hi₁ ≡ hi → Narrowed key src T lo hi lo₁ hi₁
       narrowed_greater g lo₁ hi₁ p q = record {
         between = rw (p, q) (record {
           low = omega arith;
@@ -121,6 +97,14 @@ module _ (key src Q : List ℕ) (n : ℕ) where
         });
         fewer = omega arith;
       }
+
+-- from an answer
+module _ {key src : List ℕ} {T : List Entry} {r : Result ℕ ℕ} where
+  pub found_ok : (i : ℕ) → r ≡ Ok i → FoundAt key src T r → Found key src T i true
+  found_ok i e f = rw e at f
+
+  pub found_err : (i : ℕ) → r ≡ Err i → FoundAt key src T r → Found key src T i false
+  found_err i e f = rw e at f
 
 -- ── the hinted entry ──
 -- two parts of two bytes each
@@ -133,12 +117,12 @@ module _ (s : List ℕ) (a e x y : ℕ) (k : e - a ≡ 2) (j : y - x ≡ 2) (h :
       ap (compare_bytes (take (e - a) (drop a s))) (sym z) ∙ compare_refl (take (e - a) (drop a s))
 
 pub same_leaf :
-    (src Q : List ℕ) (n a e h : ℕ) → Bounds src Q n → Rising src Q n → e ≤ length src → h < n → end_of Q h - start_of Q h ≡ 2 → e - a ≡ 2
-    → get_or src (start_of Q h) 0 ≡ get_or src a 0 → get_or src (start_of Q h + 1) 0 ≡ get_or src (a + 1) 0
-    → Found (take (e - a) (drop a src)) src Q n h true
-same_leaf src Q n a e h B R i l j k p q =
-    found_same (take (e - a) (drop a src)) src Q n R h l Equal
-    (sym (two_same src a e (start_of Q h) (end_of Q h) k j i (B h l).1 p q)) refl
+    (src : List ℕ) (T : List Entry) (a e h : ℕ) → Bounds src T → Rising src T → e ≤ length src → h < length T → (entry T h).end - (entry T h).start ≡ 2
+    → e - a ≡ 2 → get_or src (entry T h).start 0 ≡ get_or src a 0 → get_or src ((entry T h).start + 1) 0 ≡ get_or src (a + 1) 0
+    → Found (take (e - a) (drop a src)) src T h true
+same_leaf src T a e h B R i l j k p q =
+    found_same (take (e - a) (drop a src)) src T R h l Equal
+    (sym (two_same src a e (entry T h).start (entry T h).end k j i (B h l).1 p q)) refl
 
 -- ── behind the last entry ──
 -- two parts of two bytes each
@@ -164,134 +148,193 @@ module _ (s : List ℕ) (a e x y : ℕ) (k : e - a ≡ 2) (j : y - x ≡ 2) (h :
         lt-ltb (get_or s (x + 1) 0) (get_or s (a + 1) 0) l,
       ))
 
-module _ (src Q : List ℕ) (n a e : ℕ) where
+module _ (src : List ℕ) (T : List Entry) (a e : ℕ) where
   abbrev leaf_bytes_lem : List ℕ
   leaf_bytes_lem = take (e - a) (drop a src)
 
-  pub behind_none : n ≡ 0 → Found leaf_bytes_lem src Q n n false
+  pub behind_none : length T ≡ 0 → Found leaf_bytes_lem src T (length T) false
   behind_none z =
       record { within = omega arith; before = λ k h. absurd (omega arith); here = λ h. absurd (omega arith); end = λ q. clash (cc) }
 
-  module _ (B : Bounds src Q n) (R : Rising src Q n) (i : e ≤ length src) (some : n ≡ 0 → ⊥) (j : end_of Q (n - 1) - start_of Q (n - 1) ≡ 2)
-      (k : e - a ≡ 2) where
-    behind_last : order_at leaf_bytes_lem src Q (n - 1) ≡ Greater → Found leaf_bytes_lem src Q n n false
+  module _ (B : Bounds src T) (R : Rising src T) (i : e ≤ length src) (some : false ≡ eqb (length T) 0)
+      (j : (entry T (length T - 1)).end - (entry T (length T - 1)).start ≡ 2) (k : e - a ≡ 2) where
+    abbrev last : ℕ
+    last = length T - 1
+
+    before_end : last < length T
+    before_end = let z = eqb-false (length T) 0 (sym some) in omega (arith, z)
+
+    behind_last : order_at leaf_bytes_lem src T last ≡ Greater → Found leaf_bytes_lem src T (length T) false
     behind_last g =
-        let l : n - 1 < n = omega arith in
-        found_between leaf_bytes_lem src Q n n n (omega arith)
-        (narrowed_greater leaf_bytes_lem src Q n R (n - 1) l Greater (sym g) 0 n (between_all leaf_bytes_lem src Q n) (omega arith) l refl n n (omega arith) refl
+        let l = before_end in
+        found_between leaf_bytes_lem src T (length T) (length T) (omega arith)
+        (narrowed_greater leaf_bytes_lem src T R last l Greater (sym g) 0 (length T) (between_all leaf_bytes_lem src T) (omega arith) l refl (length T) (length T) (omega arith) refl
         ).between
 
-    abbrev last : ℕ
-    last = start_of Q (n - 1)
-
-    pub behind_first : get_or src last 0 < get_or src a 0 → Found leaf_bytes_lem src Q n n false
+    pub behind_first : get_or src (entry T last).start 0 < get_or src a 0 → Found leaf_bytes_lem src T (length T) false
     behind_first l =
-        behind_last (first_greater src a e last (end_of Q (n - 1)) k j i (B (n - 1) (omega arith)).1 l)
+        behind_last (first_greater src a e (entry T last).start (entry T last).end k j i (B last before_end).1 l)
 
-    pub behind_second : get_or src last 0 ≡ get_or src a 0 → get_or src (last + 1) 0 < get_or src (a + 1) 0 → Found leaf_bytes_lem src Q n n false
+    pub behind_second : get_or src (entry T last).start 0 ≡ get_or src a 0 → get_or src ((entry T last).start + 1) 0 < get_or src (a + 1) 0
+        → Found leaf_bytes_lem src T (length T) false
     behind_second q l =
-        behind_last (second_greater src a e last (end_of Q (n - 1)) k j i (B (n - 1) (omega arith)).1 q l)
+        behind_last (second_greater src a e (entry T last).start (entry T last).end k j i (B last before_end).1 q l)
 
 -- ── entering ──
-module _ (key src Q : List ℕ) (P : List ℤ) (n a : ℕ) where
-  module _ (l : Exps) (t : Term) (X : Enter key src Q P n a l t) where
+-- the front of a table
+module _ (T : List Entry) (n : ℕ) where
+  front_as : (j : ℕ) → j < n → entry (take n T) j ≡ entry T j
+  front_as j h = get_or-take n T j _ h
+
+  -- an entry put in at i, those behind it moved up
+  pub opened :
+      (T₁ : List Entry) (i : ℕ) (x : Entry) → i ≤ n → i < length T₁ → CopiedTo T T₁ i (i + 1) (n - i) → SameBelow T T₁ (i + 1)
+      → Opened T (set T₁ i x) i n x
+  opened T₁ i x w h C S = record {
+    here = get_or-set_same T₁ i x _ h;
+    below = λ j l. get_or-set_other T₁ i j x _ (λ z. omega arith) ∙ S j _ (omega arith);
+    above = λ j l g.
+        let q : i + (j + 1 - (i + 1)) ≡ j = omega arith in
+        get_or-set_other T₁ i (j + 1) x _ (λ z. omega arith) ∙ C (j + 1) _ (omega arith) (omega arith) ∙ ap (entry T) q;
+  }
+
+  -- an entry's exponent changed
+  pub raised : (i : ℕ) (v : ℤ) → i < length T → Raised T (set T i (record { start = (entry T i).start; end = (entry T i).end; power = v })) i n v
+  raised i v h =
+      let e = get_or-set_same T i (record { start = (entry T i).start; end = (entry T i).end; power = v }) _ h in
+      record {
+        start = ap (λ (x : Entry). x.start) e;
+        end = ap (λ (x : Entry). x.end) e;
+        power = ap (λ (x : Entry). x.power) e;
+        other = λ j f l. get_or-set_other T i j _ _ f;
+      }
+
+module _ (key src : List ℕ) (T : List Entry) (n a : ℕ) where
+  module _ (l : Exps) (t : Term) (X : Enter key src T n a l t) where
     few : n < most_symbols
     few = omega (arith, X.few, size_mass l, X.table.many)
 
-  pub enter_few : Asks₂ (Enter key src Q P n a) → (2 * n + 2 ≤ length Q) × (n < length P)
-  enter_few J =
-      let X = J.2 in
-      let h = few J.0 J.1 X in
-      (omega (arith, X.room.spans), omega (arith, X.room.powers))
+    front_long : length (take n T) ≡ n
+    front_long = let f = few in length-take-le n T (omega (arith, X.room))
 
-  pub enter_within : Asks₂ (Enter key src Q P n a) → a + length key ≤ length src
+    front_rows : Rows src (take n T) 0 l
+    front_rows = rows_as src T (take n T) 0 l (λ j h g. front_as T n j (omega (arith, X.table.many))) X.table.rows
+
+  pub enter_few : Asks₂ (Enter key src T n a) → n < length T
+  enter_few J = let h = few J.0 J.1 J.2 in omega (arith, J.2.room)
+
+  pub enter_front : Asks₂ (Enter key src T n a) → length (take n T) ≡ n
+  enter_front J = front_long J.0 J.1 J.2
+
+  pub enter_within : Asks₂ (Enter key src T n a) → a + length key ≤ length src
   enter_within J = stands_within J.2.there (encode_some J.1)
 
   -- its end is a number of 32 bits
-  pub enter_fits : Asks₂ (Enter key src Q P n a) → a + length key < longest
+  pub enter_fits : Asks₂ (Enter key src T n a) → a + length key < longest
   enter_fits J = omega (arith, enter_within J, J.2.short)
 
-  pub enter_asks : Asks₂ (Enter key src Q P n a) → (2 * n ≤ length Q) × Bounds src Q n × Rising src Q n
+  pub enter_asks : Asks₂ (Enter key src T n a) → Bounds src (take n T) × Rising src (take n T)
   enter_asks J =
-      let f = enter_few J in (
-        omega arith,
-        λ j h. rows_bounds src Q P 0 J.0 J.2.table.rows j (omega arith) (omega (arith, J.2.table.many)),
-        λ i j h g. rows_rising src Q P 0 J.0 J.2.asc J.2.table.rows i j (omega arith) h (omega (arith, J.2.table.many)),
+      let R = front_rows J.0 J.1 J.2 in
+      let f = enter_front J in (
+        λ j h. rows_bounds src (take n T) 0 J.0 R j (omega arith) (omega (arith, f, J.2.table.many)),
+        λ i j h g. rows_rising src (take n T) 0 J.0 J.2.asc R i j (omega arith) h (omega (arith, f, J.2.table.many)),
       )
 
-  module _ (minus : Bool) (i : ℕ) (same : Bool) (F : Found key src Q n i same) (u : ℤ) (eu : u ≡ sign minus) where
+  module _ (minus : Bool) (i : ℕ) (same : Bool) (F : Found key src (take n T) i same) (u : ℤ) (eu : u ≡ sign minus) where
+    -- what was found in the front
+    order_as : (j : ℕ) → j < n → order_at key src T j ≡ order_at key src (take n T) j
+    order_as j h =
+        ap (λ (x : Entry). compare_bytes key (take (x.end - x.start) (drop x.start src))) (sym (front_as T n j h))
+
+    module _ (J : Asks₂ (Enter key src T n a)) where
+      pub place_within : i ≤ n
+      place_within = let f = enter_front J in omega (arith, F.within)
+
+      pub place_inside : same ≡ true → i < n
+      place_inside h = let f = enter_front J in omega (arith, F.end h)
+
+      earlier : (j : ℕ) → j < i → order_at key src T j ≡ Greater
+      earlier j h = order_as j (omega (arith, place_within)) ∙ F.before j h
+
     new_back : to_z w32 (of_z w32 u) ≡ sign minus
     new_back = rw eu (back (sign minus) (omega (arith, sign_abs minus)))
 
     -- it stands there already
     module _ (h : same ≡ true) where
-      module _ (l : Exps) (t : Term) (X : Enter key src Q P n a l t) where
-        small : nat_abs (get_or P i (pos 0)) ≤ mass l
-        small = rows_abs src Q P 0 l X.table.rows i (omega arith) (omega (arith, F.end h, X.table.many))
+      module _ (l : Exps) (t : Term) (X : Enter key src T n a l t) where
+        inside : i < n
+        inside = place_inside (l, t, X) h
 
-        old_back : to_z w32 (of_z w32 (get_or P i (pos 0))) ≡ get_or P i (pos 0)
+        small : nat_abs (power_of T i) ≤ mass l
+        small = let j = inside in rows_abs src T 0 l X.table.rows i (omega arith) (omega (arith, j, X.table.many))
+
+        old_back : to_z w32 (of_z w32 (power_of T i)) ≡ power_of T i
         old_back = back _ (omega (arith, small, X.few))
 
-        sum_small : nat_abs (get_or P i (pos 0) +ℤ sign minus) < 2147483648
-        sum_small = omega (arith, small, add_abs (get_or P i (pos 0)) (sign minus), sign_abs minus, X.few)
+        sum_small : nat_abs (power_of T i +ℤ sign minus) < 2147483648
+        sum_small = omega (arith, small, add_abs (power_of T i) (sign minus), sign_abs minus, X.few)
 
-        pub row_fits : SFits w32 (to_z w32 (of_z w32 (get_or P i (pos 0))) +ℤ to_z w32 (of_z w32 u))
+        pub row_fits : SFits w32 (to_z w32 (of_z w32 (power_of T i)) +ℤ to_z w32 (of_z w32 u))
         row_fits = rw (old_back, new_back) (small_fits _ sum_small)
 
-        row_back : to_z w32 (of_z w32 (to_z w32 (of_z w32 (get_or P i (pos 0))) +ℤ to_z w32 (of_z w32 u))) ≡ get_or P i (pos 0) +ℤ sign minus
+        row_back : to_z w32 (of_z w32 (to_z w32 (of_z w32 (power_of T i)) +ℤ to_z w32 (of_z w32 u))) ≡ power_of T i +ℤ sign minus
         row_back = rw (old_back, new_back) (back _ sum_small)
 
         pub entered_same :
-            Table src Q (set P i (to_z w32 (of_z w32 (to_z w32 (of_z w32 (get_or P i (pos 0))) +ℤ to_z w32 (of_z w32 u))))) n (enter t (sign minus) l)
+            Table src (set T i (record {
+              start = (entry T i).start;
+              end = (entry T i).end;
+              power = to_z w32 (of_z w32 (to_z w32 (of_z w32 (power_of T i)) +ℤ to_z w32 (of_z w32 u)));
+            })) n (enter t (sign minus) l)
         entered_same =
-            let here : order_at key src Q i ≡ Equal = F.here (F.end h) ∙ ap meeting h in
-            let f = enter_few (l, t, X) in
+            let g = inside in
+            let m = enter_few (l, t, X) in
+            let here : order_at key src T i ≡ Equal = order_as i g ∙ F.here (F.end h) ∙ ap meeting h in
             let q : 0 + size l ≡ n = omega (arith, X.table.many) in
             record {
-              rows = rows_same src Q P key n i (sign minus) t X.bytes F.before here _ row_back (omega (arith, F.end h)) 0 l (omega arith) (F.end h) q
-                  X.table.rows;
-              many = size_same src Q P key n i (sign minus) t X.bytes F.before here 0 l (omega arith) (F.end h) q X.table.rows ∙ X.table.many;
+              rows = rows_same src T key n i (sign minus) t X.bytes (earlier (l, t, X)) here _ _ row_back (raised T n i _ (omega arith)) 0 l (omega arith)
+                  g q X.table.rows;
+              many = size_same src T key n i (sign minus) t X.bytes (earlier (l, t, X)) here 0 l (omega arith) g q X.table.rows ∙ X.table.many;
             }
 
     -- it is new
-    module _ (h : same ≡ false) (Q₁ : List ℕ) (P₁ : List ℤ) (MQ : Moved 0 2 Q Q₁ (2 * i) (2 * n)) (MP : Moved (pos 0) 1 P P₁ i n)
-        (lQ : length Q₁ ≡ length Q) (lP : length P₁ ≡ length P) where
-      pub entered_new :
-          (l : Exps) (t : Term) → Enter key src Q P n a l t
-          → Table src (set (set Q₁ (2 * i) a) (2 * i + 1) (a + length key)) (set P₁ i (to_z w32 (of_z w32 u))) (n + 1) (enter t (sign minus) l)
+    module _ (h : same ≡ false) (T' : List Entry) (O : Opened T T' i n (record { start = a; end = a + length key; power = to_z w32 (of_z w32 u) })) where
+      pub entered_new : (l : Exps) (t : Term) → Enter key src T n a l t → Table src T' (n + 1) (enter t (sign minus) l)
       entered_new l t X =
-          let here : i < n → order_at key src Q i ≡ Less = λ z. F.here z ∙ ap meeting h in
-          let f = enter_few (l, t, X) in
-          let h_q : 2 * i + 1 < length Q₁ = omega (arith, lQ, F.within) in
-          let OS = start_opened Q Q₁ i n a (a + length key) MQ h_q in
-          let OE = end_opened Q Q₁ i n a (a + length key) MQ h_q in
-          let OP = power_opened P P₁ i n (sign minus) MP (omega (arith, lP, F.within)) in
+          let w = place_within (l, t, X) in
+          let f = front_long l t X in
+          let here : i < n → order_at key src T i ≡ Less = λ z. order_as i z ∙ F.here (omega arith) ∙ ap meeting h in
           let q : 0 + size l ≡ n = omega (arith, X.table.many) in
+          let O' : Opened T T' i n (record { start = a; end = a + length key; power = sign minus }) =
+          subst (λ (v : ℤ). Opened T T' i n (record { start = a; end = a + length key; power = v })) new_back O in
           record {
-            rows = rw new_back (rows_in src Q P key n i (sign minus) t X.bytes F.before here a (a + length key) X.there _ _ OS OE OP 0 l
-                (omega arith) F.within q X.table.rows);
-            many = size_in_lem src Q P key n i (sign minus) t X.bytes F.before here 0 l (omega arith) F.within q X.table.rows ∙ ap (λ j. j + 1)
+            rows = rows_in src T key n i (sign minus) t X.bytes (earlier (l, t, X)) here a (a + length key) X.there T' O' 0 l (omega arith) w q X.table.rows;
+            many = size_in_lem src T key n i (sign minus) t X.bytes (earlier (l, t, X)) here 0 l (omega arith) w q X.table.rows ∙ ap (λ j. j + 1)
                 X.table.many;
           }
 
 -- ── a new last entry ──
-moved_none : {A : Type 0} (d : A) (s : ℕ) (l : List A) (i : ℕ) → Moved d s l l i i
-moved_none d s l i = record { below = λ j h. refl; above = λ j h k. absurd (omega arith) }
-
 pub appended :
-    (src Q : List ℕ) (P : List ℤ) (n a e : ℕ) (minus : Bool) (u : ℤ) → u ≡ sign minus → a ≤ e → e ≤ length src
-    → Found (take (e - a) (drop a src)) src Q n n false → (l : Exps) (t : Term) → Enter (take (e - a) (drop a src)) src Q P n a l t
-    → Table src (set (set Q (2 * n) a) (2 * n + 1) e) (set P n (to_z w32 (of_z w32 u))) (n + 1) (enter t (sign minus) l)
-appended src Q P n a e minus u eu h g F l t X =
+    (src : List ℕ) (T : List Entry) (n a e : ℕ) (minus : Bool) (u : ℤ) → u ≡ sign minus → a ≤ e → e ≤ length src
+    → Found (take (e - a) (drop a src)) src (take n T) n false → (l : Exps) (t : Term) → Enter (take (e - a) (drop a src)) src T n a l t
+    → Table src (set T n (record { start = a; end = e; power = to_z w32 (of_z w32 u) })) (n + 1) (enter t (sign minus) l)
+appended src T n a e minus u eu h g F l t X =
     let q : a + length (take (e - a) (drop a src)) ≡ e =
     omega (arith, length-take-le (e - a) (drop a src) (rw length-drop (omega arith))) in
-    subst (λ (z : ℕ). Table src (set (set Q (2 * n) a) (2 * n + 1) z) (set P n (to_z w32 (of_z w32 u))) (n + 1) (enter t (sign minus) l)) q
-    (entered_new (take (e - a) (drop a src)) src Q P n a minus n false F u eu refl Q P (moved_none 0 2 Q (2 * n)) (moved_none (pos 0) 1 P n) refl refl l t X)
+    let m = enter_few (take (e - a) (drop a src)) src T n a (l, t, X) in
+    subst (λ (z : ℕ). Table src (set T n (record { start = a; end = z; power = to_z w32 (of_z w32 u) })) (n + 1) (enter t (sign minus) l)) q
+    (entered_new (take (e - a) (drop a src)) src T n a minus n false F u eu refl _
+    (record {
+      here = get_or-set_same T n _ _ m;
+      below = λ j l. get_or-set_other T n j _ _ (λ z. omega arith);
+      above = λ j l g. absurd (omega arith);
+    }) l t X)
 
 -- ── the term at a place ──
-module _ (arities src Q : List ℕ) (P : List ℤ) (n at : ℕ) where
-  module _ (key : List ℕ) (K : (l : Exps) (t : Term) → OneTerm arities src Q P n at l t → key ≡ encode t) where
-    entering : (l : Exps) (t : Term) → OneTerm arities src Q P n at l t → Enter key src Q P n at l t
+module _ (arities src : List ℕ) (T : List Entry) (n at : ℕ) where
+  module _ (key : List ℕ) (K : (l : Exps) (t : Term) → OneTerm arities src T n at l t → key ≡ encode t) where
+    entering : (l : Exps) (t : Term) → OneTerm arities src T n at l t → Enter key src T n at l t
     entering l t X =
         let k = K l t X in
         record {
@@ -304,50 +347,50 @@ module _ (arities src Q : List ℕ) (P : List ℤ) (n at : ℕ) where
           short = X.short;
         }
 
-    pub one_asks : Asks₂ (OneTerm arities src Q P n at) → Asks₂ (Enter key src Q P n at)
+    pub one_asks : Asks₂ (OneTerm arities src T n at) → Asks₂ (Enter key src T n at)
     one_asks J = (J.0, J.1, entering J.0 J.1 J.2)
 
-    pub one_short : Asks₂ (OneTerm arities src Q P n at) → at + length key ≤ length src
-    one_short J = enter_within key src Q P n at (one_asks J)
+    pub one_short : Asks₂ (OneTerm arities src T n at) → at + length key ≤ length src
+    one_short J = enter_within key src T n at (one_asks J)
 
     pub one_entered :
-        (minus : Bool) (Q' : List ℕ) (P' : List ℤ) (m : ℕ) → Promises₂ (Enter key src Q P n at)
-        (λ (l : Exps) (t : Term). Table src Q' P' m (enter t (sign minus) l))
-        → (r : Onward) → ((l : Exps) (t : Term) → OneTerm arities src Q P n at l t → r.at ≡ at + length (encode t)) → r.n ≡ m → r.more ≡ 0
-        → Promises₂ (OneTerm arities src Q P n at)
-        (λ (l : Exps) (t : Term). Entered src Q' P' (at + length (encode t)) r (enter t (sign minus) l))
-    one_entered minus Q' P' m D r e₁ e₂ e₃ l t X = record { table = rw e₂ (D l t (entering l t X)); next = e₁ l t X; none = e₃ }
+        (minus : Bool) (T' : List Entry) (m : ℕ) → Promises₂ (Enter key src T n at)
+        (λ (l : Exps) (t : Term). Table src T' m (enter t (sign minus) l))
+        → (r : Onward) → ((l : Exps) (t : Term) → OneTerm arities src T n at l t → r.at ≡ at + length (encode t)) → r.put.n ≡ m → r.more ≡ 0
+        → Promises₂ (OneTerm arities src T n at)
+        (λ (l : Exps) (t : Term). Entered src T' (at + length (encode t)) r (enter t (sign minus) l))
+    one_entered minus T' m D r e₁ e₂ e₃ l t X = record { table = rw e₂ (D l t (entering l t X)); next = e₁ l t X; none = e₃ }
 
   -- its bytes by a walk
   module _ (bytes : Bytes src) (key : List ℕ) (E : key ≡ bytes_of (term src arities at)) where
-    pub walked : (l : Exps) (t : Term) → OneTerm arities src Q P n at l t → key ≡ encode t
+    pub walked : (l : Exps) (t : Term) → OneTerm arities src T n at l t → key ≡ encode t
     walked l t X = E ∙ one_bytes X.one bytes
 
-    pub walked_end : (l : Exps) (t : Term) → OneTerm arities src Q P n at l t → at + length key ≡ at + length (encode t)
+    pub walked_end : (l : Exps) (t : Term) → OneTerm arities src T n at l t → at + length key ≡ at + length (encode t)
     walked_end l t X = ap (λ (k : List ℕ). at + length k) (walked l t X)
 
   -- its bytes where it is a leaf
   module _ (e : ℕ) (w : way_of (symbol_at src arities at) ≡ way.Leaf e) where
-    leaf_end : (l : Exps) (t : Term) → OneTerm arities src Q P n at l t → e ≡ at + length (encode t)
+    leaf_end : (l : Exps) (t : Term) → OneTerm arities src T n at l t → e ≡ at + length (encode t)
     leaf_end l t X = way_end e t X.one w
 
-    leaf_key : (l : Exps) (t : Term) → OneTerm arities src Q P n at l t → take (e - at) (drop at src) ≡ encode t
+    leaf_key : (l : Exps) (t : Term) → OneTerm arities src T n at l t → take (e - at) (drop at src) ≡ encode t
     leaf_key l t X = stands_part (subst (λ (z : ℕ). Stands src at (encode t) z) (sym (leaf_end l t X)) X.one.there)
 
-    leaf_within : Asks₂ (OneTerm arities src Q P n at) → (at ≤ e) × (e ≤ length src)
+    leaf_within : Asks₂ (OneTerm arities src T n at) → (at ≤ e) × (e ≤ length src)
     leaf_within J =
         let X = J.2 in
         let z = leaf_end J.0 J.1 X in
         (omega arith, omega (arith, one_within X.one))
 
     pub leaf_asks :
-        Asks₂ (OneTerm arities src Q P n at) → (at ≤ e) × (e ≤ length src) × Asks₂ (Enter (take (e - at) (drop at src)) src Q P n at)
+        Asks₂ (OneTerm arities src T n at) → (at ≤ e) × (e ≤ length src) × Asks₂ (Enter (take (e - at) (drop at src)) src T n at)
     leaf_asks J = let w = leaf_within J in (w.0, w.1, one_asks _ leaf_key J)
 
     pub leaf_entered :
-        (minus : Bool) (Q' : List ℕ) (P' : List ℤ) (m : ℕ) → Promises₂ (Enter (take (e - at) (drop at src)) src Q P n at)
-        (λ (l : Exps) (t : Term). Table src Q' P' m (enter t (sign minus) l))
-        → (r : Onward) → r.at ≡ e → r.n ≡ m → r.more ≡ 0
-        → Promises₂ (OneTerm arities src Q P n at)
-        (λ (l : Exps) (t : Term). Entered src Q' P' (at + length (encode t)) r (enter t (sign minus) l))
-    leaf_entered minus Q' P' m D r e₁ e₂ e₃ = one_entered _ leaf_key minus Q' P' m D r (λ l t X. e₁ ∙ leaf_end l t X) e₂ e₃
+        (minus : Bool) (T' : List Entry) (m : ℕ) → Promises₂ (Enter (take (e - at) (drop at src)) src T n at)
+        (λ (l : Exps) (t : Term). Table src T' m (enter t (sign minus) l))
+        → (r : Onward) → r.at ≡ e → r.put.n ≡ m → r.more ≡ 0
+        → Promises₂ (OneTerm arities src T n at)
+        (λ (l : Exps) (t : Term). Entered src T' (at + length (encode t)) r (enter t (sign minus) l))
+    leaf_entered minus T' m D r e₁ e₂ e₃ = one_entered _ leaf_key minus T' m D r (λ l t X. e₁ ∙ leaf_end l t X) e₂ e₃

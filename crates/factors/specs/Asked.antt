@@ -1,5 +1,5 @@
 -- What the functions of this crate are asked, and how they leave the table.
-use Rattle.std.specs.Prelude.{ℕ, ◌+◌, ◌*◌, ◌≤◌, ◌<◌, ◌≡◌, Bool, List, length, ℤ}
+use Rattle.std.specs.Prelude.{ℕ, ◌+◌, ◌≤◌, ◌<◌, ◌≡◌, Bool, List, length}
 use Rattle.octets.specs.Limits.{longest}
 use Rattle.term.specs.Sizes.{most_symbols}
 use Rattle.octets.specs.Head.{Stands}
@@ -7,33 +7,33 @@ use Rattle.term.specs.Term.{Term, Terms, count, encode, encodes, symbols, symbol
 use Rattle.message.specs.Product.{Exps}
 use Rattle.message.specs.Gather.{pour, pours}
 use Rattle.message.specs.Gather.{Asc}
+use Rattle.factors.specs.declared.Entry.{Entry}
 use Rattle.factors.specs.declared.Filled.{Filled}
 use Rattle.factors.specs.declared.Onward.{Onward}
 use Rattle.factors.specs.Mass.{mass}
 use Rattle.factors.specs.Rows.{Table}
 use Rattle.factors.specs.Laid.{Laid, OneAt}
 
--- the two arrays have room for that many
-pub record Room (Q : List ℕ) (P : List ℤ) : Type 0 where
-  pub spans : 2 * most_symbols ≤ length Q
-  pub powers : most_symbols ≤ length P
+-- the table has room for that many
+abbrev pub Room : List Entry → Type 0
+Room T = most_symbols ≤ length T
 
 -- ── entering a factor ──
 -- the factor t, whose bytes are the key, stands in src from a on
-pub record Enter (key src Q : List ℕ) (P : List ℤ) (n a : ℕ) (l : Exps) (t : Term) : Type 0 where
-  pub table : Table src Q P n l
+pub record Enter (key src : List ℕ) (T : List Entry) (n a : ℕ) (l : Exps) (t : Term) : Type 0 where
+  pub table : Table src T n l
   pub asc : Asc l
-  pub room : Room Q P
+  pub room : Room T
   pub few : mass l < most_symbols
   pub bytes : key ≡ encode t
   pub there : Stands src a (encode t) (a + length key)
   pub short : length src < longest
 
 -- ── the k terms ts at a place, their factors to be entered ──
-pub record Collect (arities src Q : List ℕ) (P : List ℤ) (n at k : ℕ) (l : Exps) (ts : Terms) : Type 0 where
-  pub table : Table src Q P n l
+pub record Collect (arities src : List ℕ) (T : List Entry) (n at k : ℕ) (l : Exps) (ts : Terms) : Type 0 where
+  pub table : Table src T n l
   pub asc : Asc l
-  pub room : Room Q P
+  pub room : Room T
   pub few : mass l + symbolss ts ≤ most_symbols
   pub laid : Laid arities src at ts
   pub many : count ts ≡ k
@@ -41,30 +41,30 @@ pub record Collect (arities src Q : List ℕ) (P : List ℤ) (n at k : ℕ) (l :
   pub short : length src < longest
 
 -- the table has the factors l, and the walk stands at e
-pub record Collected (src Q : List ℕ) (P : List ℤ) (e : ℕ) (r : Filled) (l : Exps) : Type 0 where
-  pub table : Table src Q P r.n l
+pub record Collected (src : List ℕ) (T : List Entry) (e : ℕ) (r : Filled) (l : Exps) : Type 0 where
+  pub table : Table src T r.n l
   pub next : r.at ≡ e
 
 -- ── one term at a place ──
-pub record OneTerm (arities src Q : List ℕ) (P : List ℤ) (n at : ℕ) (l : Exps) (t : Term) : Type 0 where
-  pub table : Table src Q P n l
+pub record OneTerm (arities src : List ℕ) (T : List Entry) (n at : ℕ) (l : Exps) (t : Term) : Type 0 where
+  pub table : Table src T n l
   pub asc : Asc l
-  pub room : Room Q P
+  pub room : Room T
   pub few : mass l + symbols t ≤ most_symbols
   pub one : OneAt arities src at (at + length (encode t)) t
   pub short : length src < longest
 
 -- the table has the factors l, the walk stands at e, and nothing is left
-pub record Entered (src Q : List ℕ) (P : List ℤ) (e : ℕ) (r : Onward) (l : Exps) : Type 0 where
-  pub table : Table src Q P r.n l
+pub record Entered (src : List ℕ) (T : List Entry) (e : ℕ) (r : Onward) (l : Exps) : Type 0 where
+  pub table : Table src T r.put.n l
   pub next : r.at ≡ e
   pub none : r.more ≡ 0
 
 -- the table has the factors `now`, and the terms `rest` stand where the walk is: with these they become those of t
-pub record Gone (arities src Q : List ℕ) (P : List ℤ) (at : ℕ) (minus : Bool) (r : Onward) (l : Exps) (t : Term) : Type 0 where
+pub record Gone (arities src : List ℕ) (T : List Entry) (at : ℕ) (minus : Bool) (r : Onward) (l : Exps) (t : Term) : Type 0 where
   pub now : Exps
   pub rest : Terms
-  pub table : Table src Q P r.n now
+  pub table : Table src T r.put.n now
   pub asc : Asc now
   pub laid : Laid arities src r.at rest
   pub many : count rest ≡ r.more

@@ -14,7 +14,7 @@ decreases-one_term l =
 
 abbrev pub invariant-collect-loop-left : goal.invariant-collect-loop-left
 invariant-collect-loop-left l =
-    Walk l.arities l.src l.initial.spans l.initial.powers l.n l.at l.k l.minus l.spans l.powers l.m l.i l.left
+    Walk l.arities l.src l.initial.entries l.n l.at l.k l.minus l.entries l.put.n l.i l.left
 
 abbrev pub decreases-collect-loop-left : goal.decreases-collect-loop-left
 decreases-collect-loop-left l =

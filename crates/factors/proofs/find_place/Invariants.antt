@@ -5,7 +5,7 @@ use Rattle.factors.proofs.find_place.Given as goal
 
 abbrev pub invariant-loop-lo : goal.invariant-loop-lo
 invariant-loop-lo l =
-    Between l.key l.src l.spans l.n l.lo l.hi × (l.lo < l.hi → (l.lo ≤ l.j) × (l.j < l.hi))
+    Between l.key l.src l.entries l.lo l.hi × (l.lo < l.hi → (l.lo ≤ l.j) × (l.j < l.hi))
 
 abbrev pub decreases-loop-lo : goal.decreases-loop-lo
 decreases-loop-lo l =

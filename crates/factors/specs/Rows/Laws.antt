@@ -1,11 +1,10 @@
 -- Entering a factor into a table.
-use Rattle.std.specs.Prelude.{ℕ, ◌+◌, ◌-◌, ◌*◌, ◌≤◌, ◌<◌, ◌≡◌, length, take, drop, get_or, set, ℤ, pos, ◌+ℤ◌, nat_abs}
-use Rattle.std.proofs.Common.{sym, ap₂, ◌∙◌, length-set, get_or-set_same}
+use Rattle.std.specs.Prelude.{ℕ, ◌+◌, ◌-◌, ◌≤◌, ◌<◌, ◌≡◌, length, take, drop, get_or, ℤ, ◌+ℤ◌, nat_abs}
+use Rattle.std.proofs.Common.{sym, ap₂, ◌∙◌}
 use Rattle.std.proofs.Math.Path.{ap}
 use mathlib.Core.List.{List, [], ◌∷◌}
 use Rattle.std.proofs.Math.Decide.{dec_lt}
 use native.Mathlib.Omega.{arith}
-use Rattle.std.proofs.Math.Seq.{get_or-set_other}
 use Rattle.octets.specs.Compare.{compare_bytes}
 use Rattle.octets.specs.Head.{Stands, head_of, stands_part, stands_within}
 use Rattle.std.specs.declared.cmp.Ordering.{Ordering}
@@ -16,7 +15,8 @@ use Rattle.message.specs.Product.{Exps, empty, part, order, Above}
 use Rattle.message.specs.Gather.{enter}
 use Rattle.message.specs.Gather.{Asc}
 use Rattle.factors.specs.Mass.{size, mass}
-use Rattle.factors.specs.Rows.{start_of, end_of, bytes_at, Rows, order_at, Moved}
+use Rattle.factors.specs.declared.Entry.{Entry}
+use Rattle.factors.specs.Rows.{entry, power_of, bytes_at, Rows, order_at}
 
 -- a part of two bytes
 pub part_two :
@@ -30,54 +30,24 @@ terms_order :
     → compare_bytes key (take (d - c) (drop c src)) ≡ o → order t u ≡ o
 terms_order t u K Q h = sym (ap₂ compare_bytes K (stands_part Q)) ∙ h
 
--- what stands at the entries: x at i, those from i on moved up
-pub record Opened {A : Type 0} (old new : ℕ → A) (i n : ℕ) (x : A) : Type 0 where
-  pub here : new i ≡ x
-  pub below : (j : ℕ) → j < i → new j ≡ old j
-  pub above : (j : ℕ) → i ≤ j → j < n → new (j + 1) ≡ old j
+-- a new entry x at i, those from i on moved up by one
+pub record Opened (T T' : List Entry) (i n : ℕ) (x : Entry) : Type 0 where
+  pub here : entry T' i ≡ x
+  pub below : (j : ℕ) → j < i → entry T' j ≡ entry T j
+  pub above : (j : ℕ) → i ≤ j → j < n → entry T' (j + 1) ≡ entry T j
 
-abbrev pub power_of : List ℤ → ℕ → ℤ
-power_of P i = get_or P i (pos 0)
+-- the exponent of entry i is v, the others stand
+pub record Raised (T T' : List Entry) (i n : ℕ) (v : ℤ) : Type 0 where
+  pub start : (entry T' i).start ≡ (entry T i).start
+  pub end : (entry T' i).end ≡ (entry T i).end
+  pub power : power_of T' i ≡ v
+  pub other : (j : ℕ) → (j ≡ i → ⊥) → j < n → entry T' j ≡ entry T j
 
-pub power_opened :
-    (P mid : List ℤ) (i n : ℕ) (x : ℤ) → Moved (pos 0) 1 P mid i n → i < length mid → Opened (power_of P) (power_of (set mid i x)) i n x
-power_opened P mid i n x M h = record {
-  here = get_or-set_same mid i x (pos 0) h;
-  below = λ j l. get_or-set_other mid i j x (pos 0) (λ z. omega arith) ∙ M.below j l;
-  above = λ j l g. get_or-set_other mid i (j + 1) x (pos 0) (λ z. omega arith) ∙ M.above j l g;
-}
-
-module _ (Q mid : List ℕ) (i n a e : ℕ) (M : Moved 0 2 Q mid (2 * i) (2 * n)) (h : 2 * i + 1 < length mid) where
-  abbrev new : List ℕ
-  new = set (set mid (2 * i) a) (2 * i + 1) e
-
-  -- another element than the two
-  other : (j : ℕ) → (j ≡ 2 * i → ⊥) → (j ≡ 2 * i + 1 → ⊥) → get_or new j 0 ≡ get_or mid j 0
-  other j f g =
-      get_or-set_other (set mid (2 * i) a) (2 * i + 1) j e 0 g ∙ get_or-set_other mid (2 * i) j a 0 f
-
-  up : (j m : ℕ) → m ≡ j + 2 → 2 * i ≤ j → j < 2 * n → get_or new m 0 ≡ get_or Q j 0
-  up j m q l g = rw q (other (j + 2) (λ z. omega arith) (λ z. omega arith) ∙ M.above j l g)
-
-  pub start_opened : Opened (start_of Q) (start_of new) i n a
-  start_opened = record {
-    here = get_or-set_other (set mid (2 * i) a) (2 * i + 1) (2 * i) e 0 (λ z. omega arith) ∙ get_or-set_same mid (2 * i) a 0 (omega arith);
-    below = λ j l. other (2 * j) (λ z. omega arith) (λ z. omega arith) ∙ M.below (2 * j) (omega arith);
-    above = λ j l g. up (2 * j) (2 * (j + 1)) (omega arith) (omega arith) (omega arith);
-  }
-
-  pub end_opened : Opened (end_of Q) (end_of new) i n e
-  end_opened = record {
-    here = get_or-set_same (set mid (2 * i) a) (2 * i + 1) e 0 (rw length-set h);
-    below = λ j l. other (2 * j + 1) (λ z. omega arith) (λ z. omega arith) ∙ M.below (2 * j + 1) (omega arith);
-    above = λ j l g. up (2 * j + 1) (2 * (j + 1) + 1) (omega arith) (omega arith) (omega arith);
-  }
-
-module _ (src Q : List ℕ) (P : List ℤ) where
+module _ (src : List ℕ) (T : List Entry) where
   -- ── what the entries are ──
   pub rows_bounds :
-      (base : ℕ) (l : Exps) → Rows src Q P base l → (j : ℕ) → base ≤ j → j < base + size l
-      → (start_of Q j ≤ end_of Q j) × (end_of Q j ≤ length src)
+      (base : ℕ) (l : Exps) → Rows src T base l → (j : ℕ) → base ≤ j → j < base + size l
+      → ((entry T j).start ≤ (entry T j).end) × ((entry T j).end ≤ length src)
   unfolding Rows size
   rows_bounds base empty R j h g = absurd (omega arith)
   rows_bounds base (part t k l) R j h g = elim (dec_lt base j) [
@@ -85,7 +55,7 @@ module _ (src Q : List ℕ) (P : List ℤ) where
     | no p ↦ (let z : j ≡ base = omega arith in rw z (omega (arith, R.0.ends), stands_within R.0 (encode_some t)))
   ]
 
-  pub rows_abs : (base : ℕ) (l : Exps) → Rows src Q P base l → (j : ℕ) → base ≤ j → j < base + size l → nat_abs (get_or P j (pos 0)) ≤ mass l
+  pub rows_abs : (base : ℕ) (l : Exps) → Rows src T base l → (j : ℕ) → base ≤ j → j < base + size l → nat_abs (power_of T j) ≤ mass l
   unfolding Rows size mass
   rows_abs base empty R j h g = absurd (omega arith)
   rows_abs base (part t k l) R j h g = elim (dec_lt base j) [
@@ -95,8 +65,8 @@ module _ (src Q : List ℕ) (P : List ℤ) where
 
   -- ── the entries ascend ──
   rows_after :
-      (v : Term) (base : ℕ) (l : Exps) → Above v l → Rows src Q P base l → (j : ℕ) → base ≤ j → j < base + size l
-      → compare_bytes (encode v) (bytes_at src Q j) ≡ Less
+      (v : Term) (base : ℕ) (l : Exps) → Above v l → Rows src T base l → (j : ℕ) → base ≤ j → j < base + size l
+      → compare_bytes (encode v) (bytes_at src T j) ≡ Less
   unfolding Rows size
   rows_after v base empty A R j h g = absurd (omega arith)
   rows_after v base (part t k l) A R j h g = elim (dec_lt base j) [
@@ -105,46 +75,53 @@ module _ (src Q : List ℕ) (P : List ℤ) where
   ]
 
   pub rows_rising :
-      (base : ℕ) (l : Exps) → Asc l → Rows src Q P base l → (i j : ℕ) → base ≤ i → i < j → j < base + size l
-      → compare_bytes (bytes_at src Q i) (bytes_at src Q j) ≡ Less
+      (base : ℕ) (l : Exps) → Asc l → Rows src T base l → (i j : ℕ) → base ≤ i → i < j → j < base + size l
+      → compare_bytes (bytes_at src T i) (bytes_at src T j) ≡ Less
   unfolding Rows size
   rows_rising base empty A R i j b h g = absurd (omega arith)
   rows_rising base (part t k l) A R i j b h g = elim (dec_lt base i) [
     | yes p ↦ rows_rising (base + 1) l A.1 R.2 i j (omega arith) h (omega arith)
     | no p ↦
         (let z : i ≡ base = omega arith in
-        rw z (ap (λ (x : List ℕ). compare_bytes x (bytes_at src Q j)) (stands_part R.0) ∙ rows_after t (base + 1) l A.0 R.2 j (omega arith)
+        rw z (ap (λ (x : List ℕ). compare_bytes x (bytes_at src T j)) (stands_part R.0) ∙ rows_after t (base + 1) l A.0 R.2 j (omega arith)
         (omega arith)))
   ]
 
-  module _ (key : List ℕ) (n i : ℕ) (k : ℤ) (t : Term) (K : key ≡ encode t) (before : (j : ℕ) → j < i → order_at key src Q j ≡ Greater) where
+  -- ── the same entries in another table ──
+  pub rows_as :
+      (T' : List Entry) (base : ℕ) (l : Exps) → ((j : ℕ) → base ≤ j → j < base + size l → entry T' j ≡ entry T j) → Rows src T base l → Rows src T' base l
+  unfolding Rows size
+  rows_as T' base empty e R = tt
+  rows_as T' base (part t k l) e R =
+      (rw (e base (omega arith) (omega arith)) R.0, ap (λ (x : Entry). x.power) (e base (omega arith) (omega arith)) ∙ R.1, rows_as T' (base + 1) l (λ j h g. e j (omega arith) (omega arith)) R.2)
+
+  module _ (key : List ℕ) (n i : ℕ) (k : ℤ) (t : Term) (K : key ≡ encode t) (before : (j : ℕ) → j < i → order_at key src T j ≡ Greater) where
     -- ── a new entry ──
-    module _ (here : i < n → order_at key src Q i ≡ Less) where
-      module _ (a e : ℕ) (there : Stands src a (encode t) e) (Q' : List ℕ) (P' : List ℤ)
-          (OS : Opened (start_of Q) (start_of Q') i n a) (OE : Opened (end_of Q) (end_of Q') i n e) (OP : Opened (power_of P) (power_of P') i n k) where
-        rows_up : (base : ℕ) (l : Exps) → i ≤ base → base + size l ≤ n → Rows src Q P base l → Rows src Q' P' (base + 1) l
+    module _ (here : i < n → order_at key src T i ≡ Less) where
+      module _ (a e : ℕ) (there : Stands src a (encode t) e) (T' : List Entry) (O : Opened T T' i n (record { start = a; end = e; power = k })) where
+        rows_up : (base : ℕ) (l : Exps) → i ≤ base → base + size l ≤ n → Rows src T base l → Rows src T' (base + 1) l
         unfolding Rows size
         rows_up base empty h g R = tt
         rows_up base (part u j l) h g R = (
-          rw (OS.above base h (omega arith), OE.above base h (omega arith)) R.0,
-          OP.above base h (omega arith) ∙ R.1,
+          rw (O.above base h (omega arith)) R.0,
+          ap (λ (x : Entry). x.power) (O.above base h (omega arith)) ∙ R.1,
           rows_up (base + 1) l (omega arith) (omega arith) R.2,
         )
 
-        pub rows_in : (base : ℕ) (l : Exps) → base ≤ i → i ≤ n → base + size l ≡ n → Rows src Q P base l → Rows src Q' P' base (enter t k l)
+        pub rows_in : (base : ℕ) (l : Exps) → base ≤ i → i ≤ n → base + size l ≡ n → Rows src T base l → Rows src T' base (enter t k l)
         unfolding Rows size enter
-        rows_in base empty h g q R = let z : base ≡ i = omega arith in rw z (rw (OS.here, OE.here) there, OP.here, tt)
+        rows_in base empty h g q R = let z : base ≡ i = omega arith in rw z (rw O.here there, ap (λ (x : Entry). x.power) O.here, tt)
         rows_in base (part u j l) h g q R = elim (dec_lt base i) [
           | yes p ↦
               (let o : order t u ≡ Greater = terms_order t u K R.0 (before base p) in
-              rw o (rw (OS.below base p, OE.below base p) R.0, OP.below base p ∙ R.1, rows_in (base + 1) l (omega arith) g (omega arith) R.2))
+              rw o (rw (O.below base p) R.0, ap (λ (x : Entry). x.power) (O.below base p) ∙ R.1, rows_in (base + 1) l (omega arith) g (omega arith) R.2))
           | no p ↦
               (let z : base ≡ i = omega arith in
               let o : order t u ≡ Less = terms_order t u K R.0 (rw z (here (omega arith))) in
-              rw o (rw (z, OS.here, OE.here) there, rw z OP.here, rows_up base (part u j l) (omega arith) (omega arith) R))
+              rw o (rw (z, O.here) there, rw z (ap (λ (x : Entry). x.power) O.here), rows_up base (part u j l) (omega arith) (omega arith) R))
         ]
 
-      pub size_in_lem : (base : ℕ) (l : Exps) → base ≤ i → i ≤ n → base + size l ≡ n → Rows src Q P base l → size (enter t k l) ≡ size l + 1
+      pub size_in_lem : (base : ℕ) (l : Exps) → base ≤ i → i ≤ n → base + size l ≡ n → Rows src T base l → size (enter t k l) ≡ size l + 1
       unfolding Rows size enter
       size_in_lem base empty h g q R = omega arith
       size_in_lem base (part u j l) h g q R = elim (dec_lt base i) [
@@ -158,29 +135,28 @@ module _ (src Q : List ℕ) (P : List ℤ) where
       ]
 
     -- ── an entry that stands there already ──
-    module _ (here : order_at key src Q i ≡ Equal) where
-      module _ (v : ℤ) (ev : v ≡ get_or P i (pos 0) +ℤ k) (il : i < length P) where
-        rows_far : (base : ℕ) (l : Exps) → i < base → Rows src Q P base l → Rows src Q (set P i v) base l
-        unfolding Rows
-        rows_far base empty h R = tt
-        rows_far base (part u j l) h R =
-            (R.0, get_or-set_other P i base v (pos 0) (λ z. omega arith) ∙ R.1, rows_far (base + 1) l (omega arith) R.2)
-
-        pub rows_same : (base : ℕ) (l : Exps) → base ≤ i → i < n → base + size l ≡ n → Rows src Q P base l → Rows src Q (set P i v) base (enter t k l)
+    module _ (here : order_at key src T i ≡ Equal) where
+      module _ (T' : List Entry) (v : ℤ) (ev : v ≡ power_of T i +ℤ k) (C : Raised T T' i n v) where
+        pub rows_same : (base : ℕ) (l : Exps) → base ≤ i → i < n → base + size l ≡ n → Rows src T base l → Rows src T' base (enter t k l)
         unfolding Rows size enter
         rows_same base empty h g q R = absurd (omega arith)
         rows_same base (part u j l) h g q R = elim (dec_lt base i) [
           | yes p ↦
               (let o : order t u ≡ Greater = terms_order t u K R.0 (before base p) in
-              rw o (R.0, get_or-set_other P i base v (pos 0) (λ z. omega arith) ∙ R.1, rows_same (base + 1) l (omega arith) g (omega arith) R.2))
+              let c : entry T' base ≡ entry T base = C.other base (λ z. omega arith) (omega arith) in
+              rw o (rw c R.0, ap (λ (x : Entry). x.power) c ∙ R.1, rows_same (base + 1) l (omega arith) g (omega arith) R.2))
           | no p ↦
               (let z : base ≡ i = omega arith in
               let o : order t u ≡ Equal = terms_order t u K R.0 (rw z here) in
               let w : v ≡ j +ℤ k = ev ∙ ap (λ y. y +ℤ k) (sym (rw z at (sym R.1))) in
-              rw o (R.0, rw z (get_or-set_same P i v (pos 0) il) ∙ w, rows_far (base + 1) l (omega arith) R.2))
+              rw o (
+                rw (z, C.start, C.end) (rw z at R.0),
+                rw z C.power ∙ w,
+                rows_as T' (base + 1) l (λ m a b. C.other m (λ z. omega arith) (omega arith)) R.2,
+              ))
         ]
 
-      pub size_same : (base : ℕ) (l : Exps) → base ≤ i → i < n → base + size l ≡ n → Rows src Q P base l → size (enter t k l) ≡ size l
+      pub size_same : (base : ℕ) (l : Exps) → base ≤ i → i < n → base + size l ≡ n → Rows src T base l → size (enter t k l) ≡ size l
       unfolding Rows size enter
       size_same base empty h g q R = absurd (omega arith)
       size_same base (part u j l) h g q R = elim (dec_lt base i) [
