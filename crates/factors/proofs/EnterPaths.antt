@@ -35,9 +35,8 @@ use Rattle.factors.specs.Mass.Laws.{size_mass, sign_abs}
 use Rattle.std.specs.Prelude.{Result, Ok, Err}
 use Rattle.factors.specs.declared.Entry.{Entry}
 use Rattle.factors.specs.Rows.{entry, power_of, Table, Rows, Bounds, Rising, bytes_at, order_at, meeting, Found, FoundAt}
-use Rattle.factors.specs.Rows.Laws.{part_two, rows_bounds, rows_rising, rows_abs, rows_as, Opened, Raised, rows_in, size_in_lem, rows_same, size_same}
+use Rattle.factors.specs.Rows.Laws.{part_two, rows_bounds, rows_rising, rows_abs, Opened, Raised, rows_in, size_in_lem, rows_same, size_same, front_as, table_front}
 use Rattle.std.specs.List.{CopiedTo, SameBelow}
-use Rattle.std.proofs.lemmas.List.{get_or-take}
 use Rattle.factors.specs.Laid.Laws.{one_bytes, one_within, some_symbol}
 use Rattle.factors.specs.Way.{way_of}
 use Rattle.factors.specs.Way.Laws.{way_end}
@@ -181,11 +180,7 @@ module _ (src : List ℕ) (T : List Entry) (a e : ℕ) where
         behind_last (second_greater src a e (entry T last).start (entry T last).end k j i (B last before_end).1 q l)
 
 -- ── entering ──
--- the front of a table
 module _ (T : List Entry) (n : ℕ) where
-  front_as : (j : ℕ) → j < n → entry (take n T) j ≡ entry T j
-  front_as j h = get_or-take n T j _ h
-
   -- an entry put in at i, those behind it moved up
   pub opened :
       (T₁ : List Entry) (i : ℕ) (x : Entry) → i ≤ n → i < length T₁ → CopiedTo T T₁ i (i + 1) (n - i) → SameBelow T T₁ (i + 1)
@@ -218,7 +213,7 @@ module _ (key src : List ℕ) (T : List Entry) (n a : ℕ) where
     front_long = let f = few in length-take-le n T (omega (arith, X.room))
 
     front_rows : Rows src (take n T) 0 l
-    front_rows = rows_as src T (take n T) 0 l (λ j h g. front_as T n j (omega (arith, X.table.many))) X.table.rows
+    front_rows = let f = few in (table_front src T n l (omega (arith, X.room)) X.table).rows
 
   pub enter_few : Asks₂ (Enter key src T n a) → n < length T
   enter_few J = let h = few J.0 J.1 J.2 in omega (arith, J.2.room)

@@ -6,7 +6,6 @@ use mathlib.Core.List.{List, []}
 use native.Mathlib.Omega.{arith}
 use lib.ListN.{length, take, set, length-append}
 use lib.Seq.{length-take-le}
-use lib.IntN.{ℤ}
 use Rattle.term.specs.Sizes.{term_room}
 use Rattle.lists.specs.Asks.{Asks, Asks₂, Promises, Promises₂}
 use Rattle.octets.specs.Splice.{splice}
@@ -17,8 +16,10 @@ use Rattle.message.specs.Product.{empty, Exps}
 use Rattle.message.specs.Gather.{gather, multiplied, pours}
 use Rattle.factors.specs.declared.Filled.{Filled}
 use Rattle.factors.specs.Mass.{size, mass}
-use Rattle.factors.specs.Mass.Laws.{mass_pours}
+use Rattle.factors.specs.Mass.Laws.{mass_pours, size_mass}
+use Rattle.factors.specs.declared.Entry.{Entry}
 use Rattle.factors.specs.Rows.{Rows}
+use Rattle.factors.specs.Rows.Laws.{table_front}
 use Rattle.factors.specs.Laid.{OneAt}
 use Rattle.factors.specs.Laid.Laws.{one_after, one_within, laid_one}
 use Rattle.factors.specs.Asked.{Room, Collect, Collected}
@@ -36,12 +37,12 @@ both_sides : (ts : Terms) → sides (side false (gather ts)) (side true (gather 
 unfolding written
 both_sides ts = ap₂ sides (side_ups (gather ts)) (side_downs (gather ts))
 
-module _ (arities out : List ℕ) (at k e : ℕ) (Q : List ℕ) (P : List ℤ) (R : Room Q P) where
+module _ (arities out : List ℕ) (at k e : ℕ) (T : List Entry) (R : Room T) where
   front_long : (ts : Terms) → Prod arities out at k e ts → length (take e out) ≡ e
   front_long ts X = length-take-le e out X.inside
 
   -- the factors as they stand in the front of the output
-  start : (ts : Terms) → Prod arities out at k e ts → Collect arities (take e out) Q P 0 at k empty ts
+  start : (ts : Terms) → Prod arities out at k e ts → Collect arities (take e out) T 0 at k empty ts
   unfolding Rows size mass
   start ts X = record {
     table = record { rows = tt; many = refl };
@@ -58,30 +59,36 @@ module _ (arities out : List ℕ) (at k e : ℕ) (Q : List ℕ) (P : List ℤ) (
     short = omega (arith, front_long ts X, X.short);
   }
 
-  pub collect_asks : Asks (Prod arities out at k e) → Asks₂ (Collect arities (take e out) Q P 0 at k)
+  pub collect_asks : Asks (Prod arities out at k e) → Asks₂ (Collect arities (take e out) T 0 at k)
   collect_asks J = (empty, J.0, start J.0 J.1)
 
-  module _ (Q₁ : List ℕ) (P₁ : List ℤ) (r : Filled) (D : Promises₂ (Collect arities (take e out) Q P 0 at k)
-      (λ (l : Exps) (ts : Terms). Collected (take e out) Q₁ P₁ (at + length (encodes ts)) r (pours false ts l)))
-      (lQ : length Q₁ ≡ length Q) (lP : length P₁ ≡ length P) where
-    held : (ts : Terms) → Prod arities out at k e ts → Both out Q₁ P₁ r.n e (gather ts)
+  module _ (T₁ : List Entry) (r : Filled) (D : Promises₂ (Collect arities (take e out) T 0 at k)
+      (λ (l : Exps) (ts : Terms). Collected (take e out) T₁ (at + length (encodes ts)) r (pours false ts l)))
+      (lT : length T₁ ≡ length T) where
+    -- they are no more than the table holds
+    pub few : Asks (Prod arities out at k e) → r.n ≤ length T₁
+    unfolding mass
+    few (ts, X) =
+        let C = (D empty ts (start ts X)).table in
+        omega (arith, C.many, size_mass (gather ts), mass_pours false ts empty, X.few, R, lT)
+
+    held : (ts : Terms) → Prod arities out at k e ts → Both out (take r.n T₁) e (gather ts)
     unfolding mass
     held ts X = record {
       ready = record {
         src = take e out;
         front = rw (front_long ts X);
         behind = omega (arith, front_long ts X);
-        table = (D empty ts (start ts X)).table;
-        room = record { spans = rw lQ R.spans; powers = rw lP R.powers };
+        table = table_front (take e out) T₁ r.n _ (few (ts, X)) (D empty ts (start ts X)).table;
         few = omega (arith, mass_pours false ts empty, X.few);
       };
       fits = rw (both_sides ts) X.fits;
     }
 
-    pub table_asks : Asks (Prod arities out at k e) → Asks (Both out Q₁ P₁ r.n e)
+    pub table_asks : Asks (Prod arities out at k e) → Asks (Both out (take r.n T₁) e)
     table_asks J = (_, held J.0 J.1)
 
-    pub table_wrote : (out' : List ℕ) (i : ℕ) → Promises (Both out Q₁ P₁ r.n e)
+    pub table_wrote : (out' : List ℕ) (i : ℕ) → Promises (Both out (take r.n T₁) e)
         (λ (l : Exps). Wrote i out e out' i (sides (side false l) (side true l))) → Promises (Prod arities out at k e)
         (λ (ts : Terms). Wrote i out e out' i (written ts))
     table_wrote out' i B ts X = wrote_same (both_sides ts) (B _ (held ts X))

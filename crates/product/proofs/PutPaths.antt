@@ -35,12 +35,12 @@ module _ (out₀ : List ℕ) (o a e m : ℕ) (pre : (a ≤ e) × (e ≤ o) × (o
   pub many_place : o ≤ length out₀
   many_place = omega (arith, pre.2)
 
-  module _ (out : List ℕ) (p i : ℕ) (I : (length out ≡ length out₀) × (i ≤ m) × Wrote p out₀ o out p (repeated i x)) (h : i < m) where
+  module _ (out : List ℕ) (p i : ℕ) (I : (length out ≡ length out₀) × Wrote p out₀ o out p (repeated i x)) (h : i < m) where
     pub many_room : p + 1 + (e - a) ≤ length out
-    many_room = omega (arith, pre.2, I.0, I.2.ends, repeated_room i m x h, long)
+    many_room = omega (arith, pre.2, I.0, I.1.ends, repeated_room i m x h, long)
 
     pub many_behind : o ≤ p
-    many_behind = omega (arith, I.2.ends)
+    many_behind = omega (arith, I.1.ends)
 
     -- the tag is written behind the factor
     tag_kept : bytes_in (set out p 12) a e ≡ x
@@ -49,14 +49,14 @@ module _ (out₀ : List ℕ) (o a e m : ℕ) (pre : (a ≤ e) × (e ≤ o) × (o
         part_same out (set out p 12) p a e (below_kept (omega (arith, many_room)) (wrote_one (p + 1) p 12 out (omega arith) (omega (arith, many_room))))
         pre.0
         (omega (arith, pre.1, many_behind)) (omega (arith, pre.1, many_behind, many_room)) (omega (arith, pre.1, many_behind, many_room, l))
-        ∙ kept_part out out₀ o p a e (repeated i x) (pre.0, pre.1) many_place I.0 I.2
+        ∙ kept_part out out₀ o p a e (repeated i x) (pre.0, pre.1) many_place I.0 I.1
 
     pub many_more :
         (out' : List ℕ) (r : ℕ) → r ≡ p + 1 + (e - a) → out' ≡ splice (set out p 12) (p + 1) (bytes_in (set out p 12) a e)
         → Wrote r out₀ o out' r (repeated (i + 1) x)
     many_more out' r n q =
         wrote_same (sym (repeated_more i x))
-        (wrote_then (widen r (omega arith) I.2)
+        (wrote_then (widen r (omega arith) I.1)
         (tagged r out out' p r 12 x (omega arith) (omega (arith, many_room))
         (copied r (set out p 12) out' x (p + 1) r (omega (arith, many_room, length-set out p 12, long)) (omega (arith, long)) (omega (arith, long))
         (q ∙ ap (splice (set out p 12) (p + 1)) tag_kept))))
@@ -64,7 +64,7 @@ module _ (out₀ : List ℕ) (o a e m : ℕ) (pre : (a ≤ e) × (e ≤ o) × (o
   -- ── once, and two bytes ──
   module _ (one : m ≡ 1) (two : e - a ≡ 2) where
     pub short_room : o + 1 + 2 ≤ length out₀
-    short_room = omega (arith, many_room out₀ o 0 (refl, omega arith, many_first) (omega arith))
+    short_room = omega (arith, many_room out₀ o 0 (refl, many_first) (omega arith))
 
     short_bytes : repeated m x ≡ 12 ∷ get_or out₀ a 0 ∷ get_or out₀ (a + 1) 0 ∷ []
     unfolding repeated

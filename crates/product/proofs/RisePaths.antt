@@ -5,7 +5,7 @@ use mathlib.Core.Bool.{Bool, true, false}
 use mathlib.Core.List.{List}
 use native.Mathlib.Decide.{dec_lt}
 use native.Mathlib.Omega.{arith}
-use lib.ListN.{length, get_or}
+use lib.ListN.{length}
 use lib.IntN.{ℤ, pos, negsuc, ◌-ℤ◌, neg_ℤ, nat_abs, +ℤ_idl}
 use lib.Dec.{T}
 use lib.Signed.{lt_z, non_neg}
@@ -14,7 +14,10 @@ use mir.Val.{Fits, SFits, to_z, of_z}
 use borrow.Author.Tests.{ltb-true, ltb-false}
 use Rattle.lists.specs.Choice.{clash}
 use Rattle.factors.specs.Whole.{back, small_fits}
-use Rattle.product.specs.Side.{signed_limit, rise, Next, Small}
+use Rattle.std.proofs.Common.{Some, None}
+use Rattle.factors.specs.declared.Entry.{Entry}
+use Rattle.factors.specs.Rows.{power_of}
+use Rattle.product.specs.Side.{signed_limit, rise, NextIs, Small}
 
 -- ── rises ──
 neg_abs : (k : ℤ) → nat_abs (neg_ℤ k) ≡ nat_abs k
@@ -87,27 +90,27 @@ module _ (p : ℤ) (h : nat_abs p < signed_limit) where
       go (negsuc n) h = refl
 
 -- ── next_row ──
-module _ (P : List ℤ) (i n : ℕ) (m : Bool) (pre : (i ≤ n) × (n ≤ length P) × Small P n) where
+module _ (T : List Entry) (i : ℕ) (m : Bool) (small : Small T) where
   abbrev pub Zeros : ℕ → Type 0
-  Zeros j = (k : ℕ) → i ≤ k → k < j → rise m (get_or P k (pos 0)) ≡ 0
+  Zeros j = (k : ℕ) → i ≤ k → k < j → rise m (power_of T k) ≡ 0
 
-  module _ (j : ℕ) (l : j < n) where
-    at_back : to_z w32 (of_z w32 (get_or P j (pos 0))) ≡ get_or P j (pos 0)
-    at_back = back _ (omega (arith, pre.2 j l))
+  module _ (j : ℕ) (l : j < length T) where
+    at_back : to_z w32 (of_z w32 (power_of T j)) ≡ power_of T j
+    at_back = back _ (omega (arith, small j l))
 
-    pub rises_asks : nat_abs (to_z w32 (of_z w32 (get_or P j (pos 0)))) < signed_limit
-    rises_asks = rw at_back (pre.2 j l)
+    pub rises_asks : nat_abs (to_z w32 (of_z w32 (power_of T j))) < signed_limit
+    rises_asks = rw at_back (small j l)
 
-    module _ (c : ℕ) (e : c ≡ rise m (to_z w32 (of_z w32 (get_or P j (pos 0))))) where
-      pub rises_is : c ≡ rise m (get_or P j (pos 0))
+    module _ (c : ℕ) (e : c ≡ rise m (to_z w32 (of_z w32 (power_of T j)))) where
+      pub rises_is : c ≡ rise m (power_of T j)
       rises_is = e ∙ ap (rise m) at_back
 
       module _ (f : i ≤ j) (Z : Zeros j) where
-        pub next_here : 0 < c → Next P i n m j
-        next_here h = record { from = f; within = omega arith; none = Z; here = λ g. omega (arith, rises_is) }
+        pub next_here : 0 < c → NextIs T i m (Some j)
+        next_here h = (record { from = f; within = omega arith; none = Z; here = λ g. omega (arith, rises_is) }, l)
 
         pub next_more : c ≤ 0 → Zeros (j + 1)
         next_more h k g g₂ = elim (dec_lt k j) [ yes q ↦ Z k g q | no q ↦ (let z : k ≡ j = omega arith in rw z (omega (arith, rises_is))) ]
 
-  pub next_end : (j : ℕ) → i ≤ j → j ≤ n → n ≤ j → Zeros j → Next P i n m j
-  next_end j f g l Z = record { from = f; within = g; none = Z; here = λ h. absurd (omega arith) }
+  pub next_end : i ≤ length T → Zeros (length T) → NextIs T i m None
+  next_end f Z = record { from = f; within = omega arith; none = Z; here = λ h. absurd (omega arith) }

@@ -1,5 +1,5 @@
 -- What the functions inside are asked.
-use Rattle.std.specs.Prelude.{ℕ, ◌+◌, ◌≤◌, ◌<◌, ◌≡◌, Bool, true, false, List, length, take, get_or, ℤ}
+use Rattle.std.specs.Prelude.{ℕ, ◌+◌, ◌≤◌, ◌<◌, ◌≡◌, Bool, true, false, List, length, take, get_or}
 use Rattle.octets.specs.Limits.{longest}
 use Rattle.term.specs.Sizes.{most_symbols, term_room}
 use Rattle.term.specs.Tags.{exp_tag}
@@ -11,29 +11,28 @@ use Rattle.message.specs.Gather.{powered}
 use Rattle.factors.specs.Mass.{mass}
 use Rattle.factors.specs.Rows.{Table}
 use Rattle.factors.specs.Laid.{Laid, OneAt}
-use Rattle.factors.specs.Asked.{Room}
+use Rattle.factors.specs.declared.Entry.{Entry}
 use Rattle.product.specs.Chain.{row, sides, written}
 use Rattle.product.specs.Side.{side}
 use Rattle.product.specs.Tower.{bottom, exponents}
 
 -- ── writing from a table ──
--- the factors l stand in the front of out, none behind o; their table has room, and they are few
-pub record Ready (out Q : List ℕ) (P : List ℤ) (n o : ℕ) (l : Exps) : Type 0 where
+-- the factors l stand in the front of out, none behind o, and they are few
+pub record Ready (out : List ℕ) (T : List Entry) (o : ℕ) (l : Exps) : Type 0 where
   pub src : List ℕ
   pub front : take (length src) out ≡ src
   pub behind : length src ≤ o
-  pub table : Table src Q P n l
-  pub room : Room Q P
+  pub table : Table src T (length T) l
   pub few : mass l ≤ most_symbols
 
 -- and one side of them fits from o on, behind so many tags
-pub record Lay (out Q : List ℕ) (P : List ℤ) (n : ℕ) (m : Bool) (o tags : ℕ) (l : Exps) : Type 0 where
-  pub ready : Ready out Q P n o l
+pub record Lay (out : List ℕ) (T : List Entry) (m : Bool) (o tags : ℕ) (l : Exps) : Type 0 where
+  pub ready : Ready out T o l
   pub fits : o + tags + length (row (side m l)) ≤ length out
 
 -- and both sides of them fit
-pub record Both (out Q : List ℕ) (P : List ℤ) (n o : ℕ) (l : Exps) : Type 0 where
-  pub ready : Ready out Q P n o l
+pub record Both (out : List ℕ) (T : List Entry) (o : ℕ) (l : Exps) : Type 0 where
+  pub ready : Ready out T o l
   pub fits : o + length (sides (side false l) (side true l)) ≤ length out
 
 -- ── the product of the k terms from a place up to e ──

@@ -12,13 +12,13 @@ ghost use Rattle.term.specs.Sizes.{term_room};
 ghost use Rattle.term.specs.Reader.{symbol_at};
 ghost use Rattle.product.specs.Writing.{bytes_in};
 ghost use Rattle.product.specs.Chain.{repeated, copies, row, sides, written};
-ghost use Rattle.product.specs.Side.{signed_limit, rise, Next, Small, side};
+ghost use Rattle.product.specs.Side.{signed_limit, rise, NextIs, Small, side};
 ghost use Rattle.product.specs.Tower.{is_exp, is_factor, towered};
 ghost use Rattle.factors.specs.Way.{way_of};
 ghost use Rattle.product.specs.Asked.{Whole, WholePower};
 ghost use Rattle.product.specs.Inner.{Lay, Both, Prod, Power, Behind, Tower};
 
-use factors::Way;
+use factors::{Entry, Way};
 use term::Symbol;
 
 // The tags that are written, as bytes.
@@ -46,21 +46,17 @@ fn rises(p: i32, minus: bool) -> usize
     0
 }
 
-// The first entry from i on that stands on the side, or n.
-fn next_row(powers: &[i32], i: usize, n: usize, minus: bool) -> usize
-    requires { (i ≤ n) × (n ≤ length powers.now) × Small powers.now n }
-    ensures { Next powers.now i n minus result }
+// The first entry from i on that stands on the side.
+fn next_row(entries: &[Entry], i: usize, minus: bool) -> Option<usize>
+    requires { (i ≤ length entries.now) × Small entries.now }
+    ensures { NextIs entries.now i minus result }
 {
-    let mut j = i;
-    while j < n {
-        let p = powers[j];
-        let c = rises(p, minus);
-        if 0 < c {
-            return j;
+    for j in i..entries.len() {
+        if 0 < rises(entries[j].power, minus) {
+            return Some(j);
         }
-        j += 1;
     }
-    j
+    None
 }
 
 // Writes the bytes from a up to e m times behind them, each behind the tag of mul.
@@ -70,12 +66,10 @@ fn put_many(out: &mut [u8], o: usize, a: usize, e: usize, m: usize) -> usize
 {
     let len = e - a;
     let mut p = o;
-    let mut i = 0;
-    while i < m {
+    for _ in 0..m {
         out[p] = MUL;
         octets::copy_within(out, a, p + 1, len);
         p = p + 1 + len;
-        i += 1;
     }
     p
 }
@@ -110,64 +104,50 @@ fn put_factor(out: &mut [u8], o: usize, a: usize, e: usize, n: usize, more: bool
 }
 
 // Writes the entries that stand on the side as a product, from o on: behind the factors, which stand in the same slice.
-fn write_rows(
-    out: &mut [u8],
-    o: usize,
-    spans: &[u32],
-    powers: &[i32],
-    n: usize,
-    minus: bool,
-) -> usize
-    requires { Asks (Lay out.old spans.now powers.now n minus o 0) }
-    ensures { Promises (Lay out.old spans.now powers.now n minus o 0) (λ (l : Exps). Wrote result out.old o out.new result (row (side minus l))) }
+fn write_rows(out: &mut [u8], o: usize, entries: &[Entry], minus: bool) -> usize
+    requires { Asks (Lay out.old entries.now minus o 0) }
+    ensures { Promises (Lay out.old entries.now minus o 0) (λ (l : Exps). Wrote result out.old o out.new result (row (side minus l))) }
 {
-    let mut i = next_row(powers, 0, n, minus);
+    let mut next = next_row(entries, 0, minus);
     let mut p = o;
-    while i < n {
-        let a = spans[factors::SPAN * i] as usize;
-        let e = spans[factors::SPAN * i + 1] as usize;
-        let power = powers[i];
-        let c = rises(power, minus);
-        let j = next_row(powers, i + 1, n, minus);
-        let more = j < n;
-        p = put_factor(out, p, a, e, c, more);
-        i = j;
+    while let Some(i) = next {
+        let entry = entries[i];
+        let c = rises(entry.power, minus);
+        next = next_row(entries, i + 1, minus);
+        p = put_factor(
+            out,
+            p,
+            entry.start as usize,
+            entry.end as usize,
+            c,
+            next.is_some(),
+        );
     }
     p
 }
 
 // The same behind a tag.
-fn write_tagged(
-    out: &mut [u8],
-    o: usize,
-    tag: u8,
-    spans: &[u32],
-    powers: &[i32],
-    n: usize,
-    minus: bool,
-) -> usize
-    requires { Asks (Lay out.old spans.now powers.now n minus o 1) }
-    ensures { Promises (Lay out.old spans.now powers.now n minus o 1) (λ (l : Exps). Wrote result out.old o out.new result (tag ∷ row (side minus l))) }
+fn write_tagged(out: &mut [u8], o: usize, tag: u8, entries: &[Entry], minus: bool) -> usize
+    requires { Asks (Lay out.old entries.now minus o 1) }
+    ensures { Promises (Lay out.old entries.now minus o 1) (λ (l : Exps). Wrote result out.old o out.new result (tag ∷ row (side minus l))) }
 {
     out[o] = tag;
-    write_rows(out, o + 1, spans, powers, n, minus)
+    write_rows(out, o + 1, entries, minus)
 }
 
 // Writes the table's product as P, inv(N) or mul(P, inv(N)), and nothing where no factor is left.
-fn write_table(out: &mut [u8], o: usize, spans: &[u32], powers: &[i32], n: usize) -> usize
-    requires { Asks (Both out.old spans.now powers.now n o) }
-    ensures { Promises (Both out.old spans.now powers.now n o) (λ (l : Exps). Wrote result out.old o out.new result (sides (side false l) (side true l))) }
+fn write_table(out: &mut [u8], o: usize, entries: &[Entry]) -> usize
+    requires { Asks (Both out.old entries.now o) }
+    ensures { Promises (Both out.old entries.now o) (λ (l : Exps). Wrote result out.old o out.new result (sides (side false l) (side true l))) }
 {
-    let d = next_row(powers, 0, n, true);
-    if n <= d {
-        return write_rows(out, o, spans, powers, n, false);
+    if next_row(entries, 0, true).is_none() {
+        return write_rows(out, o, entries, false);
     }
-    let u = next_row(powers, 0, n, false);
-    if n <= u {
-        return write_tagged(out, o, INV, spans, powers, n, true);
+    if next_row(entries, 0, false).is_none() {
+        return write_tagged(out, o, INV, entries, true);
     }
-    let i = write_tagged(out, o, MUL, spans, powers, n, false);
-    write_tagged(out, i, INV, spans, powers, n, true)
+    let i = write_tagged(out, o, MUL, entries, false);
+    write_tagged(out, i, INV, entries, true)
 }
 
 // Writes the product of the k terms from a place up to e behind them, and nothing where no factor is left: returns where that ends.
@@ -175,10 +155,13 @@ fn write_product(out: &mut [u8], at: usize, k: usize, e: usize, arities: &[u8]) 
     requires { Asks (Prod arities.now out.old at k e) }
     ensures { Promises (Prod arities.now out.old at k e) (λ (ts : Terms). Wrote result out.old e out.new result (written ts)) }
 {
-    let mut spans = [0u32; factors::SPAN * term::MOST_SYMBOLS];
-    let mut powers = [0i32; term::MOST_SYMBOLS];
-    let f = factors::collect(&mut spans, &mut powers, 0, &out[..e], at, k, arities, false);
-    write_table(out, e, &spans, &powers, f.n)
+    let mut entries = [Entry {
+        start: 0,
+        end: 0,
+        power: 0,
+    }; term::MOST_SYMBOLS];
+    let f = factors::collect(&mut entries, 0, &out[..e], at, k, arities, false);
+    write_table(out, e, &entries[..f.n])
 }
 
 // The term from o up to e becomes the product of its factors, made behind it and moved down: returns where that ends.
@@ -223,7 +206,10 @@ fn power_at(
 fn is_exp(src: &[u8], arities: &[u8], at: usize) -> bool
     ensures { result ≡ is_exp (symbol_at src.now arities.now at) }
 {
-    matches!(term::symbol_at(src, arities, at), Some(Symbol::Op(term::EXP, _, _)))
+    matches!(
+        term::symbol_at(src, arities, at),
+        Some(Symbol::Op(term::EXP, _, _))
+    )
 }
 
 // Where the base of the tower of exps at a place begins: behind their tags.
@@ -232,6 +218,7 @@ fn base_of(src: &[u8], arities: &[u8], at: usize) -> usize
     ensures { Promises₂ (Behind arities.now src.now at) (λ (e : ℕ) (t : Term). Tower arities.now src.now at result e t) }
 {
     let mut b = at;
+    // A while: nothing tells beforehand how many tags there are.
     while is_exp(src, arities, b) {
         b += 1;
     }
@@ -250,7 +237,10 @@ fn behind(src: &[u8], arities: &[u8], at: usize) -> usize
 fn is_factor(src: &[u8], arities: &[u8], at: usize) -> bool
     ensures { result ≡ is_factor (way_of (symbol_at src.now arities.now at)) }
 {
-    matches!(factors::way_at(src, arities, at), Way::Leaf(_) | Way::Factor)
+    matches!(
+        factors::way_at(src, arities, at),
+        Way::Leaf(_) | Way::Factor
+    )
 }
 
 // The tower of exps from o up to e becomes the power of its base, the exponents multiplied out once: returns where that ends.
@@ -262,7 +252,7 @@ pub fn exponent(out: &mut [u8], o: usize, e: usize, arities: &[u8]) -> usize
     let b = base_of(out, arities, o);
     let z = behind(out, arities, b);
     let k = b - o;
-    if (k == 1) & is_factor(out, arities, z) {
+    if k == 1 && is_factor(out, arities, z) {
         return e;
     }
     power_at(out, o, b, z, k, e, arities)

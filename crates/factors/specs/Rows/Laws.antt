@@ -1,6 +1,7 @@
 -- Entering a factor into a table.
 use Rattle.std.specs.Prelude.{ℕ, ◌+◌, ◌-◌, ◌≤◌, ◌<◌, ◌≡◌, length, take, drop, get_or, ℤ, ◌+ℤ◌, nat_abs}
-use Rattle.std.proofs.Common.{sym, ap₂, ◌∙◌}
+use Rattle.std.proofs.Common.{sym, ap₂, ◌∙◌, length-take-le}
+use Rattle.std.proofs.lemmas.List.{get_or-take}
 use Rattle.std.proofs.Math.Path.{ap}
 use mathlib.Core.List.{List, [], ◌∷◌}
 use Rattle.std.proofs.Math.Decide.{dec_lt}
@@ -16,7 +17,7 @@ use Rattle.message.specs.Gather.{enter}
 use Rattle.message.specs.Gather.{Asc}
 use Rattle.factors.specs.Mass.{size, mass}
 use Rattle.factors.specs.declared.Entry.{Entry}
-use Rattle.factors.specs.Rows.{entry, power_of, bytes_at, Rows, order_at}
+use Rattle.factors.specs.Rows.{entry, power_of, bytes_at, Rows, Table, order_at}
 
 -- a part of two bytes
 pub part_two :
@@ -168,3 +169,14 @@ module _ (src : List ℕ) (T : List Entry) where
             let o : order t u ≡ Equal = terms_order t u K R.0 (rw z here) in
             rw o)
       ]
+
+-- ── the front of a table ──
+pub front_as : (T : List Entry) (n j : ℕ) → j < n → entry (take n T) j ≡ entry T j
+front_as T n j h = get_or-take n T j _ h
+
+pub table_front :
+    (src : List ℕ) (T : List Entry) (n : ℕ) (l : Exps) → n ≤ length T → Table src T n l → Table src (take n T) (length (take n T)) l
+table_front src T n l h X = record {
+  rows = rows_as src T (take n T) 0 l (λ j a b. front_as T n j (omega (arith, X.many))) X.rows;
+  many = X.many ∙ sym (length-take-le n T h);
+}

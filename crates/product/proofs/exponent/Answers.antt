@@ -1,7 +1,5 @@
 -- The exponents lie one behind the other, as power_at takes them; one exp to a factor is its own power.
 use Rattle.product.proofs.ExponentPaths.{tower_asks, base_asks, base_after, factor_done, power_asked, tower_done}
-use borrow.Author.Tests.{eqb-true}
-use mathlib.Core.Bool.{and-eq-true_iff}
 use mathlib.Core.Path.{sym, ◌∙◌}
 use Rattle.product.proofs.exponent.Goals as goal
 
@@ -17,10 +15,10 @@ pub overflow_sub-k : goal.overflow_sub-k
 overflow_sub-k c =
     let r = c.args in base_after r.arities.now r.out.now r.o r.e _ c.base_of-b.ensures c.requires
 
-pub returns-then-k-is_factor : goal.returns-then-k-is_factor
-returns-then-k-is_factor c =
-    let r = c.args in let t = (and-eq-true_iff _ _).0 c.if-k-is_factor.true in factor_done r.arities.now r.out.now r.o r.e _ c.base_of-b.ensures _
-    c.behind-z.ensures (eqb-true _ 1 t.0) (sym c.is_factor.ensures ∙ t.1)
+pub returns-then-is_factor : goal.returns-then-is_factor
+returns-then-is_factor c =
+    let r = c.args in factor_done r.arities.now r.out.now r.o r.e _ c.base_of-b.ensures _
+    c.behind-z.ensures c.if-k-eq1.true (sym c.is_factor.ensures ∙ c.if-is_factor.true)
 
 pub power_at-requires : goal.power_at-requires
 power_at-requires c =

@@ -1,110 +1,69 @@
--- The invariant is that what is written and the rows from i on are the whole side; each turn writes a factor as often as it rises.
-use Rattle.product.proofs.LayPaths.{lay_held, next_asks, laying_first, laying_done, lay_put, laying_next}
+-- The invariant is that what is written and the rows from the next on are the whole side; each turn writes a factor as often as it rises.
+use Rattle.product.proofs.LayPaths.{lay_held, next_place, next_some, next_there, place_end, laying_first, laying_done, lay_put, laying_next}
 use Rattle.product.proofs.RisePaths.{rises_asks}
-use Prim.Native.Nat.{◌+◌, ◌*◌}
 use native.Mathlib.Omega.{arith}
 use mathlib.Core.Path.{refl, ◌∙◌}
 use Rattle.product.proofs.write_rows.Goals as goal
 
-pub next_row-i-requires : goal.next_row-i-requires
-next_row-i-requires c =
-    let r = c.args in let h = lay_held r.spans.now r.powers.now r.n r.minus r.out.now r.o 0 c.requires in
-    next_asks r.spans.now r.powers.now r.n 0 (omega arith) h
+pub next_row-next-requires : goal.next_row-next-requires
+next_row-next-requires c =
+    let r = c.args in (omega arith, lay_held r.entries.now r.minus r.out.now r.o 0 c.requires)
 
-pub loop-i-init : goal.loop-i-init
-loop-i-init c =
-    let r = c.args in (
-      refl,
-      λ l L. laying_first r.spans.now r.powers.now r.n r.minus r.o r.out.now _
-          c.next_row-i.ensures l L,
-    )
+pub loop-next-init : goal.loop-next-init
+loop-next-init c =
+    let r = c.args in
+    let N = c.next_row-next.ensures in record {
+      long = refl;
+      inside = λ i e. next_there r.entries.now 0 r.minus _ i N e;
+      laying = λ l L. laying_first r.entries.now r.minus r.o r.out.now _ (next_place r.entries.now 0 r.minus _ N) l L;
+    }
 
-pub overflow_mul-a : goal.overflow_mul-a
-overflow_mul-a c =
-    let r = c.args in let h = lay_held r.spans.now r.powers.now r.n r.minus r.out.now r.o 0 c.requires in omega
-    (arith, h.spans, h.powers)
-
-pub offset_bounds-spans-i : goal.offset_bounds-spans-i
-offset_bounds-spans-i c =
-    let r = c.args in let h = lay_held r.spans.now r.powers.now r.n r.minus r.out.now r.o 0 c.requires in omega
-    (arith, h.spans, h.powers)
-
-pub bounds-spans-i : goal.bounds-spans-i
-bounds-spans-i c =
-    let r = c.args in let h = lay_held r.spans.now r.powers.now r.n r.minus r.out.now r.o 0 c.requires in omega
-    (arith, h.spans, h.powers)
-
-pub overflow_cast-a : goal.overflow_cast-a
-overflow_cast-a c =
-    omega (arith, c.type_inv.spans (2 * c.loop-i.i))
-
-pub overflow_mul-e : goal.overflow_mul-e
-overflow_mul-e c =
-    let r = c.args in let h = lay_held r.spans.now r.powers.now r.n r.minus r.out.now r.o 0 c.requires in omega
-    (arith, h.spans, h.powers)
-
-pub overflow_add-e : goal.overflow_add-e
-overflow_add-e c =
-    let r = c.args in let h = lay_held r.spans.now r.powers.now r.n r.minus r.out.now r.o 0 c.requires in omega
-    (arith, h.spans, h.powers)
-
-pub offset_bounds-spans-i-in-loop-i : goal.offset_bounds-spans-i-in-loop-i
-offset_bounds-spans-i-in-loop-i c =
-    let r = c.args in let h = lay_held r.spans.now r.powers.now r.n r.minus r.out.now r.o 0 c.requires in omega
-    (arith, h.spans, h.powers)
-
-pub bounds-spans-i-in-loop-i : goal.bounds-spans-i-in-loop-i
-bounds-spans-i-in-loop-i c =
-    let r = c.args in let h = lay_held r.spans.now r.powers.now r.n r.minus r.out.now r.o 0 c.requires in omega
-    (arith, h.spans, h.powers)
-
-pub overflow_cast-e : goal.overflow_cast-e
-overflow_cast-e c =
-    omega (arith, c.type_inv.spans (2 * c.loop-i.i + 1))
-
-pub offset_bounds-powers-i : goal.offset_bounds-powers-i
-offset_bounds-powers-i c =
-    let r = c.args in let h = lay_held r.spans.now r.powers.now r.n r.minus r.out.now r.o 0 c.requires in omega
-    (arith, h.spans, h.powers)
-
-pub bounds-powers-i : goal.bounds-powers-i
-bounds-powers-i c =
-    let r = c.args in let h = lay_held r.spans.now r.powers.now r.n r.minus r.out.now r.o 0 c.requires in omega
-    (arith, h.spans, h.powers)
+pub bounds-entries-i : goal.bounds-entries-i
+bounds-entries-i c =
+    c.loop-next.invariant.inside _ c.in-Some.is
 
 pub rises-c-requires : goal.rises-c-requires
 rises-c-requires c =
-    let r = c.args in let h = lay_held r.spans.now r.powers.now r.n r.minus r.out.now r.o 0 c.requires in rises_asks r.powers.now 0
-    r.n r.minus (next_asks r.spans.now r.powers.now r.n 0 (omega arith) h) _ c.loop-i-test.true
+    let r = c.args in
+    rises_asks r.entries.now 0 r.minus (lay_held r.entries.now r.minus r.out.now r.o 0 c.requires) _ (c.loop-next.invariant.inside _ c.in-Some.is)
 
-pub next_row-j-requires : goal.next_row-j-requires
-next_row-j-requires c =
-    let r = c.args in let h = lay_held r.spans.now r.powers.now r.n r.minus r.out.now r.o 0 c.requires in next_asks r.spans.now
-    r.powers.now r.n _ (omega arith) h
+pub next_row-next-requires-in-Some : goal.next_row-next-requires-in-Some
+next_row-next-requires-in-Some c =
+    let r = c.args in
+    let h = c.loop-next.invariant.inside _ c.in-Some.is in (omega (arith, h), lay_held r.entries.now r.minus r.out.now r.o 0 c.requires)
 
 pub put_factor-p-requires : goal.put_factor-p-requires
 put_factor-p-requires c =
-    let r = c.args in let h = lay_held r.spans.now r.powers.now r.n r.minus r.out.now r.o 0 c.requires in let g = c.loop-i in
-    lay_put r.spans.now r.powers.now r.n r.minus r.o r.out.now g.out g.invariant.0 g.p g.i c.loop-i-test.true h _
-    c.rises-c.ensures _ c.next_row-j.ensures _ c.requires.1 (g.invariant.1 _ c.requires.1)
+    let r = c.args in
+    let g = c.loop-next in
+    let N = c.next_row-next-in-Some.ensures in
+    lay_put r.entries.now r.minus r.o r.out.now g.out g.invariant.long g.p _ (g.invariant.inside _ c.in-Some.is)
+    (lay_held r.entries.now r.minus r.out.now r.o 0 c.requires) _ c.rises-c.ensures _ (next_place r.entries.now _ r.minus _ N) _
+    (c.is_some.ensures ∙ next_some r.entries.now _ r.minus _ N) _ c.requires.1 (rw c.in-Some.is at (g.invariant.laying _ c.requires.1))
 
-pub loop-i-smaller : goal.loop-i-smaller
-loop-i-smaller c =
-    let z = c.next_row-j.ensures.from in omega (arith, c.next_row-j.ensures.within)
+pub loop-next-smaller : goal.loop-next-smaller
+loop-next-smaller c =
+    let r = c.args in
+    let h = c.loop-next.invariant.inside _ c.in-Some.is in
+    let N = next_place r.entries.now _ r.minus _ c.next_row-next-in-Some.ensures in rw c.in-Some.is (omega (arith, N.from, N.within, h))
 
-pub loop-i-preserved : goal.loop-i-preserved
-loop-i-preserved c =
-    let r = c.args in let h = lay_held r.spans.now r.powers.now r.n r.minus r.out.now r.o 0 c.requires in let g = c.loop-i in (
-      c.put_factor-p.auto.out ∙ g.invariant.0,
-      λ l L. laying_next r.spans.now r.powers.now r.n r.minus r.o r.out.now g.out g.invariant.0 g.p g.i c.loop-i-test.true h _
-          c.rises-c.ensures _ c.next_row-j.ensures l L (g.invariant.1 l L) _ _ c.put_factor-p.ensures,
-    )
+pub loop-next-preserved : goal.loop-next-preserved
+loop-next-preserved c =
+    let r = c.args in
+    let g = c.loop-next in
+    let N = c.next_row-next-in-Some.ensures in record {
+      long = c.put_factor-p.auto.out ∙ g.invariant.long;
+      inside = λ i e. next_there r.entries.now _ r.minus _ i N e;
+      laying = λ l L. laying_next r.entries.now r.minus r.o r.out.now g.out g.invariant.long g.p _ (g.invariant.inside _ c.in-Some.is)
+          (lay_held r.entries.now r.minus r.out.now r.o 0 c.requires) _ c.rises-c.ensures _ (next_place r.entries.now _ r.minus _ N) _
+          (c.is_some.ensures ∙ next_some r.entries.now _ r.minus _ N) l L (rw c.in-Some.is at (g.invariant.laying l L)) _ _ c.put_factor-p.ensures;
+    }
 
 pub shape_of-out : goal.shape_of-out
 shape_of-out c =
-    c.loop-i.invariant.0
+    c.loop-next.invariant.long
 
 pub returns : goal.returns
 returns c =
-    let r = c.args in λ l L. laying_done r.spans.now r.powers.now r.n r.minus r.o r.out.now _ _ _
-    l L (c.loop-i.invariant.1 l L) c.loop-i-test.false
+    let r = c.args in λ l L. laying_done r.entries.now r.minus r.o r.out.now _ _ _
+    l L (c.loop-next.invariant.laying l L) (place_end r.entries.now _ c.in_default.not-Some)

@@ -7,12 +7,12 @@ use Rattle.product.proofs.write_tagged.Goals as goal
 
 pub bounds-out-o : goal.bounds-out-o
 bounds-out-o c =
-    let r = c.args in let z = tag_inside r.spans.now r.powers.now r.n r.minus r.out.now r.o r.tag
+    let r = c.args in let z = tag_inside r.entries.now r.minus r.out.now r.o r.tag
     c.requires in omega arith
 
 pub write_rows-requires : goal.write_rows-requires
 write_rows-requires c =
-    let r = c.args in tagged_asks r.spans.now r.powers.now r.n r.minus r.out.now r.o r.tag c.requires
+    let r = c.args in tagged_asks r.entries.now r.minus r.out.now r.o r.tag c.requires
 
 pub shape_of-out : goal.shape_of-out
 shape_of-out c =
@@ -20,5 +20,5 @@ shape_of-out c =
 
 pub returns : goal.returns
 returns c =
-    let r = c.args in tagged_wrote r.spans.now r.powers.now r.n r.minus r.out.now r.o
+    let r = c.args in tagged_wrote r.entries.now r.minus r.out.now r.o
     r.tag _ _ c.write_rows.ensures
