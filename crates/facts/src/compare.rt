@@ -49,10 +49,9 @@ fn compare(
 {
     let a = nodes::write_fact(out, 0, p, s, nodes, x, wx);
     let b = nodes::write_fact(out, a.end, p, s, nodes, y, wy);
-    let same = same_parts(out, a.end, b.end);
     Both {
         symbols: a.symbol == b.symbol,
-        bytes: same,
+        bytes: same_parts(out, a.end, b.end),
     }
 }
 
@@ -110,8 +109,7 @@ pub fn same_argument(
     let l = nodes::fact_place(p, nodes, y);
     let f = PlacedFact { id: x, place: k };
     let g = PlacedFact { id: y, place: l };
-    let b = compare(out, p, s, nodes, f, Wanted::One(i), g, Wanted::One(j));
-    b.bytes
+    compare(out, p, s, nodes, f, Wanted::One(i), g, Wanted::One(j)).bytes
 }
 
 // Writes the bytes of a public name from o on.

@@ -22,10 +22,8 @@ pub fn mark_bytes(file: &[u8], from: u32) -> u32
     ensures { result ≡ mark_from from file.now }
 {
     let mut h = from;
-    let mut i = 0;
-    while i < file.len() {
-        h = (h * BASE + file[i] as u32) % LIMIT;
-        i += 1;
+    for b in file {
+        h = (h * BASE + *b as u32) % LIMIT;
     }
     h
 }
@@ -47,7 +45,7 @@ pub fn keep_fact(out: &mut [u8], p: &[u8], s: &[u8], nodes: &[usize], x: FactId)
     let mark = mark_bytes(&out[..a.end], a.symbol as u32);
     KeptFact {
         symbol: a.symbol,
-        mark: mark,
+        mark,
         end: a.end,
     }
 }
@@ -57,6 +55,5 @@ pub fn fact_mark(out: &mut [u8], p: &[u8], s: &[u8], nodes: &[usize], x: FactId)
     requires { Asks₂ (WholeFact p.now s.now nodes.now x) × Room out.old 0 }
     ensures { Promises₂ (WholeFact p.now s.now nodes.now x) (λ (P : Protocol) (m : Node). result ≡ mark_of (fact_at P x.list x.number m)) }
 {
-    let a = keep_fact(out, p, s, nodes, x);
-    a.mark
+    keep_fact(out, p, s, nodes, x).mark
 }

@@ -58,10 +58,7 @@ pub fn write_fact(
     let first = steps::nodes::ROW * x.id.node + steps::nodes::FIRST_PLACE;
     let starts = &nodes[first..first + steps::nodes::PLACES];
     let end = writing::wanted_into(out, o, p, x.place, wanted, s, starts);
-    WrittenFact {
-        symbol: symbol,
-        end: end,
-    }
+    WrittenFact { symbol, end }
 }
 
 // The same, the place to be found.
@@ -78,9 +75,5 @@ pub fn node_fact(
     ensures { Promises₂ (FactIn p.now s.now nodes.now x wanted) (λ (P : Protocol) (m : Node). FactWritten wanted out.old o out.new result (fact_at P x.list x.number m)) }
 {
     let place = fact_place(p, nodes, x);
-    let f = PlacedFact {
-        id: x,
-        place: place,
-    };
-    write_fact(out, o, p, s, nodes, f, wanted)
+    write_fact(out, o, p, s, nodes, PlacedFact { id: x, place }, wanted)
 }

@@ -1,5 +1,10 @@
 // The bytes of a fact at a place of a prepared protocol, with the values of a node filled in: of canonical forms, or as it stands.
-ghost use Rattle.std.specs.Prelude.{List, length};
+ghost use Rattle.std.specs.Prelude.{◌≡◌, ◌<◌, List, length, get_or};
+ghost use Rattle.number.specs.Reading.{below};
+ghost use Rattle.protocol.specs.Figures.{symbol_count};
+ghost use Rattle.protocol.specs.Places.{value_of, term_place};
+ghost use Rattle.prepared.specs.Sections.{prepared_length};
+ghost use Rattle.prepared.specs.Prepared.{slots_of, arities_of};
 ghost use Rattle.steps.specs.Facts.{filled_fact};
 ghost use Rattle.protocol.specs.Protocol.{Fact};
 ghost use Rattle.lists.specs.Asks.{Asks₂, Promises₂};
@@ -19,6 +24,16 @@ pub enum Wanted {
     Plain,
 }
 
+// The arguments of the fact at a place of p: where the first stands, and how many there are.
+fn arguments(p: &[u8], place: usize) -> (usize, usize)
+    requires { (length p.now ≡ prepared_length) × (value_of (below p.now (length (arities_of p.now)) place) < symbol_count) }
+    ensures at { result.0 ≡ term_place p.now (slots_of p.now) (arities_of p.now) place 0 }
+    ensures count { result.1 ≡ get_or (arities_of p.now) (value_of (below p.now (length (arities_of p.now)) place)) 0 }
+{
+    let symbol = finding::symbol_of(p, place);
+    (finding::term_at(p, place, 0), finding::arity_of(p, symbol))
+}
+
 // Writes the canonical bytes of the fact at a place of p, filled in with the values, into the part of the output that starts at o; the
 // place behind them. The value of variable i lies in s from the i-th of `starts` up to the next.
 pub fn fact_into(
@@ -32,11 +47,8 @@ pub fn fact_into(
     requires { Asks₂ (WantedJob p.now s.now starts.now place (length out.old) o Wanted.All) }
     ensures { Promises₂ (WantedJob p.now s.now starts.now place (length out.old) o Wanted.All) (λ (vs : List Term) (f : Fact). Put out.old o out.new result (wanted_bytes Wanted.All (filled_fact vs f))) }
 {
-    let y = finding::symbol_of(p, place);
-    let k = finding::arity_of(p, y);
-    let at = finding::term_at(p, place, 0);
-    let n = canonical::canonical_into(out, o, p, at, k, &p[..sections::ARITIES], s, starts);
-    n.o
+    let (at, k) = arguments(p, place);
+    canonical::canonical_into(out, o, p, at, k, &p[..sections::ARITIES], s, starts).o
 }
 
 // Writes the bytes of that fact as it stands.
@@ -51,11 +63,8 @@ pub fn plain_into(
     requires { Asks₂ (WantedJob p.now s.now starts.now place (length out.old) o Wanted.Plain) }
     ensures { Promises₂ (WantedJob p.now s.now starts.now place (length out.old) o Wanted.Plain) (λ (vs : List Term) (f : Fact). Put out.old o out.new result (wanted_bytes Wanted.Plain (filled_fact vs f))) }
 {
-    let y = finding::symbol_of(p, place);
-    let k = finding::arity_of(p, y);
-    let at = finding::term_at(p, place, 0);
-    let n = canonical::filled_into(out, o, p, at, k, &p[..sections::ARITIES], s, starts);
-    n.o
+    let (at, k) = arguments(p, place);
+    canonical::filled_into(out, o, p, at, k, &p[..sections::ARITIES], s, starts).o
 }
 
 // Writes the canonical bytes of argument j of that fact.
@@ -72,8 +81,7 @@ pub fn argument_into(
     ensures { Promises₂ (WantedJob p.now s.now starts.now place (length out.old) o (Wanted.One j)) (λ (vs : List Term) (f : Fact). Put out.old o out.new result (wanted_bytes (Wanted.One j) (filled_fact vs f))) }
 {
     let at = finding::term_at(p, place, j);
-    let n = canonical::canonical_into(out, o, p, at, 1, &p[..sections::ARITIES], s, starts);
-    n.o
+    canonical::canonical_into(out, o, p, at, 1, &p[..sections::ARITIES], s, starts).o
 }
 
 // Writes the bytes that are wanted.

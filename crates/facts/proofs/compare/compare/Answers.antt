@@ -10,8 +10,8 @@ write_fact-b-requires c =
     let (P, m, n, f) = c.requires.2 in
     (c.requires.1, (P, n, f.second), next_room _ _ _ _ c.requires.3 (c.write_fact-a.ensures P m f.first).put (search rules))
 
-pub same_parts-same-requires : goal.same_parts-same-requires
-same_parts-same-requires c =
+pub same_parts-requires : goal.same_parts-requires
+same_parts-requires c =
     let (P, m, n, f) = c.requires.2 in
     parts_inside _ _ _ _ _ _ _ c.requires.3 (c.write_fact-a.ensures P m f.first).put (c.write_fact-b.ensures P n f.second).put (search rules)
     (search rules)
@@ -23,5 +23,5 @@ returns c =
     let b = c.write_fact-b.ensures P n f.second in
     record {
       symbols = ap₂ eqb a.symbols b.symbols;
-      bytes = parts_test _ _ _ _ _ _ _ c.requires.3 a.put b.put (search rules) (search rules) _ c.same_parts-same.ensures;
+      bytes = parts_test _ _ _ _ _ _ _ c.requires.3 a.put b.put (search rules) (search rules) _ c.same_parts.ensures;
     }

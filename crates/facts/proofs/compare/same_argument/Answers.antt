@@ -17,4 +17,4 @@ fact_place-l-requires c =
 pub returns : goal.returns
 returns c =
     λ P m n f. same_argument_means c.args.x c.args.i m f.first c.args.y c.args.j n f.second _
-    (arguments_test P c.args.x c.args.i m c.args.y c.args.j n _ (c.compare-b.ensures P m n f))
+    (arguments_test P c.args.x c.args.i m c.args.y c.args.j n _ (c.compare.ensures P m n f))

@@ -13,10 +13,10 @@ pub slice_bounds-canonical_into-end : goal.slice_bounds-canonical_into-end
 slice_bounds-canonical_into-end c =
     sym (slots_length c.args.p.now (omega (arith, c.requires.2.job.long)))
 
-pub canonical_into-n-requires : goal.canonical_into-n-requires
-canonical_into-n-requires c =
+pub canonical_into-requires : goal.canonical_into-requires
+canonical_into-requires c =
     argument_ready _ _ _ _ (λ k. (c.type_inv.p k).fits) _ _ c.term_at-at.ensures _ _ c.requires
 
 pub returns : goal.returns
 returns c =
-    argument_done _ _ _ _ (λ k. (c.type_inv.p k).fits) _ _ c.term_at-at.ensures _ _ _ _ _ c.canonical_into-n.ensures
+    argument_done _ _ _ _ (λ k. (c.type_inv.p k).fits) _ _ c.term_at-at.ensures _ _ _ _ _ c.canonical_into.ensures
