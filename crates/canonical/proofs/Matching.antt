@@ -10,7 +10,9 @@ use lib.Dec.{eqb}
 use lib.ListN.{length, drop, get_or, set, length-set, length-append}
 use lib.Seq.{get_or-set_same, get_or-set_other}
 use borrow.Author.Tests.{eqb-true, eqb-false, eq-eqb, ne_eqb}
+use Rattle.std.proofs.lemmas.Option.{same_Some}
 use Rattle.lists.specs.Choice.{by_size}
+use Rattle.lists.specs.Tests.{some_none}
 use Rattle.lists.specs.Asks.{Asks₂, Asks₃, Promises, Promises₂, Promises₃}
 use Rattle.octets.specs.Compare.{is_equal, compare_bytes}
 use Rattle.octets.specs.Head.{Head, head_at}
@@ -23,7 +25,8 @@ use Rattle.message.specs.Substitution.Laws.{subs_count}
 use Rattle.factors.specs.Laid.{Laid, OneAt, also}
 use Rattle.factors.specs.Laid.Laws.{first_of, others_of, args_of, laid_also, also_count, also_bytes}
 use Rattle.canonical.specs.Inner.{Here}
-use Rattle.canonical.specs.Matching.{Patterns, Left, Solves, Further, Stepped, Solution, Fits}
+use Rattle.canonical.specs.declared.Span.{Span}
+use Rattle.canonical.specs.Matching.{Patterns, span_of, Met, Left, Solves, Further, Stepped, Solution, Fits}
 use Rattle.canonical.proofs.Parts.{same_term, other_term, here_within}
 
 -- ── some terms and others behind them ──
@@ -101,8 +104,8 @@ data Next : Terms → Terms → Type 0 where
 as_here : {arities src : List ℕ} {at e : ℕ} {t : Term} → OneAt arities src at e t → Here arities src at e t
 as_here O = record { formed = O.formed; range = O.range; stands = O.there }
 
-module _ (arities out : List ℕ) (e : ℕ) (patterns : List ℕ) (i at : ℕ) (from to : List ℕ) (more : i < length patterns) where
-  next : (ps ts : Terms) (θ : ℕ → Term) → Left arities out e patterns i at from to ps ts θ → Next ps ts
+module _ (arities out : List ℕ) (e : ℕ) (patterns : List ℕ) (i at : ℕ) (S : List (Option Span)) (more : i < length patterns) where
+  next : (ps ts : Terms) (θ : ℕ → Term) → Left arities out e patterns i at S ps ts θ → Next ps ts
   next nil ts θ L = absurd (omega (arith, L.pattern_ends))
   next (leaf variable n & ps) nil θ L = absurd (omega (arith, L.many))
   next (leaf variable n & ps) (t & ts) θ L = a_variable n ps t ts
@@ -112,12 +115,12 @@ module _ (arities out : List ℕ) (e : ℕ) (patterns : List ℕ) (i at : ℕ) (
   next (app f qs & ps) (t & ts) θ L = a_function f qs ps t ts
 
   -- the argument's place
-  argument_inside : (t : Term) (ps ts : Terms) (θ : ℕ → Term) → Left arities out e patterns i at from to ps (t & ts) θ → Here arities out at
+  argument_inside : (t : Term) (ps ts : Terms) (θ : ℕ → Term) → Left arities out e patterns i at S ps (t & ts) θ → Here arities out at
       (at + length (encode t)) t
   argument_inside t ps ts θ L = as_here (first_of L.argument)
 
   -- ── the bytes of the pattern ──
-  variable_bytes : (n : ℕ) (ps ts : Terms) (θ : ℕ → Term) → Left arities out e patterns i at from to (leaf variable n & ps) ts θ
+  variable_bytes : (n : ℕ) (ps ts : Terms) (θ : ℕ → Term) → Left arities out e patterns i at S (leaf variable n & ps) ts θ
       → (get_or patterns i 0 ≡ 0) × (get_or patterns (i + 1) 0 ≡ n) × (i + 1 < length patterns)
   variable_bytes n ps ts θ L =
       let s : n < 2 = L.shaped.0 in
@@ -131,25 +134,25 @@ module _ (arities out : List ℕ) (e : ℕ) (patterns : List ℕ) (i at : ℕ) (
       let l : n < 128 = omega arith in
       omega (arith, length-append (groups 0) (groups n), ap length (groups_one 0 (omega arith)), ap length (groups_one n l))
 
-  function_byte : (f : ℕ) (qs ps ts : Terms) (θ : ℕ → Term) → Left arities out e patterns i at from to (app f qs & ps) ts θ → get_or patterns i 0 ≡ f
+  function_byte : (f : ℕ) (qs ps ts : Terms) (θ : ℕ → Term) → Left arities out e patterns i at S (app f qs & ps) ts θ → get_or patterns i 0 ≡ f
   function_byte f qs ps ts θ L =
       (byte_at patterns i f (encodes qs ++ (encodes ps ++ _)) L.shaped.0.1
       (L.pattern.there.there ∙ append_assoc (groups f ++ encodes qs) (encodes ps) _ ∙ append_assoc (groups f) (encodes qs) _)).here
 
   -- ── a function ──
   module _ (function : get_or patterns i 0 ≢ 0) where
-    pub function_inside : Asks₃ (Left arities out e patterns i at from to) → at < length out
+    pub function_inside : Asks₃ (Left arities out e patterns i at S) → at < length out
     function_inside (ps, ts, θ, L) = go ps ts L (next ps ts θ L)
       where
-        go : (ps ts : Terms) → Left arities out e patterns i at from to ps ts θ → Next ps ts → at < length out
+        go : (ps ts : Terms) → Left arities out e patterns i at S ps ts θ → Next ps ts → at < length out
         go _ _ L (a_variable n ps t ts) = absurd (function (variable_bytes n ps (t & ts) θ L).0)
         go _ _ L (a_function f qs ps t ts) = let w = here_within t (argument_inside t (app f qs & ps) ts θ L) in omega (arith, w.0, w.1)
 
-    pub function_other : get_or out at 0 ≢ get_or patterns i 0 → Promises₃ (Left arities out e patterns i at from to)
-        (Stepped arities out e patterns i at from to from to None)
+    pub function_other : get_or out at 0 ≢ get_or patterns i 0 → Promises₃ (Left arities out e patterns i at S)
+        (Stepped arities out e patterns i at S S None)
     function_other d ps ts θ L η s = go ps ts L (next ps ts θ L) s
       where
-        go : (ps ts : Terms) → Left arities out e patterns i at from to ps ts θ → Next ps ts → Solves to ps ts θ η → ⊥
+        go : (ps ts : Terms) → Left arities out e patterns i at S ps ts θ → Next ps ts → Solves S ps ts θ η → ⊥
         go _ _ L (a_variable n ps t ts) s = function (variable_bytes n ps (t & ts) θ L).0
         go _ _ L (a_function f qs ps t ts) s =
             let m = s.same in
@@ -158,8 +161,8 @@ module _ (arities out : List ℕ) (e : ℕ) (patterns : List ℕ) (i at : ℕ) (
             ∙ sym (function_byte f qs ps (t & ts) θ L))
 
     same_function :
-        (f : ℕ) (qs ps us ts : Terms) (θ : ℕ → Term) → Left arities out e patterns i at from to (app f qs & ps) (app f us & ts) θ
-        → Further arities out e patterns at from to (i + 1) (at + 1) from to (app f qs & ps) (app f us & ts) θ
+        (f : ℕ) (qs ps us ts : Terms) (θ : ℕ → Term) → Left arities out e patterns i at S (app f qs & ps) (app f us & ts) θ
+        → Further arities out e patterns at S (i + 1) (at + 1) S (app f qs & ps) (app f us & ts) θ
     same_function f qs ps us ts θ L =
         let small : f < 128 = L.shaped.0.1 in
         let k : Some (count us) ≡ Some (count qs) = sym L.argument.formed.0.0 ∙ L.pattern.formed.0.0 in
@@ -176,8 +179,7 @@ module _ (arities out : List ℕ) (e : ℕ) (patterns : List ℕ) (i at : ℕ) (
             ends = omega (arith, L.ends, into_length f us ts small);
             many = omega (arith, also_count us ts, also_count qs ps, L.many, c);
             values = L.values;
-            froms = L.froms;
-            tos = L.tos;
+            spans = L.spans;
             short = L.short;
           };
           forth = λ η s.
@@ -190,22 +192,22 @@ module _ (arities out : List ℕ) (e : ℕ) (patterns : List ℕ) (i at : ℕ) (
               record { same = ap₂ (λ (a b : Terms). app f a & b) w.0 w.1; met = s.met };
           seen = λ v o. ⊎_elim (λ p. inl (occurs_also v qs ps p)) (λ p. inr p) o;
           onward = omega arith;
-          lies = λ v h. inr (h, refl);
+          lies = λ v x h. inr h;
         }
 
-    pub function_same : get_or out at 0 ≡ get_or patterns i 0 → Promises₃ (Left arities out e patterns i at from to)
-        (Stepped arities out e patterns i at from to from to (Some (i + 1, at + 1)))
+    pub function_same : get_or out at 0 ≡ get_or patterns i 0 → Promises₃ (Left arities out e patterns i at S)
+        (Stepped arities out e patterns i at S S (Some (i + 1, at + 1)))
     function_same d ps ts θ L = (omega arith, go ps ts L (next ps ts θ L))
       where
-        go : (ps ts : Terms) → Left arities out e patterns i at from to ps ts θ → Next ps ts
-            → Further arities out e patterns at from to (i + 1) (at + 1) from to ps ts θ
+        go : (ps ts : Terms) → Left arities out e patterns i at S ps ts θ → Next ps ts
+            → Further arities out e patterns at S (i + 1) (at + 1) S ps ts θ
         go _ _ L (a_variable n ps t ts) = absurd (function (variable_bytes n ps (t & ts) θ L).0)
         go _ _ L (a_function f qs ps t ts) =
             let w = tag_byte out at t (encodes ts ++ _) f L.shaped.0.0 L.shaped.0.1
             (L.argument.there.there ∙ append_assoc (encode t) (encodes ts) _) (d ∙ function_byte f qs ps (t & ts) θ L) in
-            subst (λ (u : Term). Further arities out e patterns at from to (i + 1) (at + 1) from to (app f qs & ps) (u & ts) θ) (sym w.1)
+            subst (λ (u : Term). Further arities out e patterns at S (i + 1) (at + 1) S (app f qs & ps) (u & ts) θ) (sym w.1)
             (same_function f qs ps w.0 ts θ
-            (subst (λ (u : Term). Left arities out e patterns i at from to (app f qs & ps) (u & ts) θ) w.1 L))
+            (subst (λ (u : Term). Left arities out e patterns i at S (app f qs & ps) (u & ts) θ) w.1 L))
 
   -- ── a variable ──
   module _ (is : get_or patterns i 0 ≡ 0) where
@@ -216,42 +218,42 @@ module _ (arities out : List ℕ) (e : ℕ) (patterns : List ℕ) (i at : ℕ) (
       ts₁ : Terms
       ps_is : ps ≡ leaf variable n & ps₁
       ts_is : ts ≡ t & ts₁
-      left : Left arities out e patterns i at from to (leaf variable n & ps₁) (t & ts₁) θ
+      left : Left arities out e patterns i at S (leaf variable n & ps₁) (t & ts₁) θ
 
-    a_variable_lem : (ps ts : Terms) (θ : ℕ → Term) → Left arities out e patterns i at from to ps ts θ → Variable ps ts θ
+    a_variable_lem : (ps ts : Terms) (θ : ℕ → Term) → Left arities out e patterns i at S ps ts θ → Variable ps ts θ
     a_variable_lem ps ts θ L = go ps ts L (next ps ts θ L)
       where
-        go : (ps ts : Terms) → Left arities out e patterns i at from to ps ts θ → Next ps ts → Variable ps ts θ
+        go : (ps ts : Terms) → Left arities out e patterns i at S ps ts θ → Next ps ts → Variable ps ts θ
         go _ _ L (a_variable n ps t ts) = record { n = n; ps₁ = ps; t = t; ts₁ = ts; ps_is = refl; ts_is = refl; left = L }
         go _ _ L (a_function f qs ps t ts) = let l = L.shaped.0.0 in absurd (omega (arith, function_byte f qs ps (t & ts) θ L))
 
-    pub number_inside : Asks₃ (Left arities out e patterns i at from to) → i + 1 < length patterns
+    pub number_inside : Asks₃ (Left arities out e patterns i at S) → i + 1 < length patterns
     number_inside (ps, ts, θ, L) =
         let W = a_variable_lem ps ts θ L in
         (variable_bytes W.n W.ps₁ (W.t & W.ts₁) θ W.left).2
 
     -- the argument that it stands for
-    pub argument_here : Asks₃ (Left arities out e patterns i at from to) → Asks₂ (Here arities out at)
+    pub argument_here : Asks₃ (Left arities out e patterns i at S) → Asks₂ (Here arities out at)
     argument_here (ps, ts, θ, L) =
         let W = a_variable_lem ps ts θ L in
         (at + length (encode W.t), W.t, argument_inside W.t (leaf variable W.n & W.ps₁) W.ts₁ θ W.left)
 
     module _ (v : ℕ) (v-is : v ≡ get_or patterns (i + 1) 0) where
-      number_is : (n : ℕ) (ps ts : Terms) (θ : ℕ → Term) → Left arities out e patterns i at from to (leaf variable n & ps) ts θ → n ≡ v
+      number_is : (n : ℕ) (ps ts : Terms) (θ : ℕ → Term) → Left arities out e patterns i at S (leaf variable n & ps) ts θ → n ≡ v
       number_is n ps ts θ L = sym (variable_bytes n ps ts θ L).1 ∙ sym v-is
 
-      pub number_small : Asks₃ (Left arities out e patterns i at from to) → v < 2
+      pub number_small : Asks₃ (Left arities out e patterns i at S) → v < 2
       number_small (ps, ts, θ, L) =
           let W = a_variable_lem ps ts θ L in
           let s : W.n < 2 = W.left.shaped.0 in
           omega (arith, number_is W.n W.ps₁ (W.t & W.ts₁) θ W.left)
 
       -- behind it
-      rest : (ps ts : Terms) (t : Term) (θ θ' : ℕ → Term) (at' : ℕ) (from' to' : List ℕ)
-          → Left arities out e patterns i at from to (leaf variable v & ps) (t & ts) θ → at' ≡ at + length (encode t)
-          → ((u : ℕ) → 0 < get_or to' u 0 → Here arities out (get_or from' u 0) (get_or to' u 0) (θ' u)) → length from' ≡ 2 → length to' ≡ 2
-          → Left arities out e patterns (i + 2) at' from' to' ps ts θ'
-      rest ps ts t θ θ' at' from' to' L a h k l =
+      rest : (ps ts : Terms) (t : Term) (θ θ' : ℕ → Term) (at' : ℕ) (S' : List (Option Span))
+          → Left arities out e patterns i at S (leaf variable v & ps) (t & ts) θ → at' ≡ at + length (encode t)
+          → ((u : ℕ) (x : Span) → span_of S' u ≡ Some x → Here arities out x.from x.to (θ' u)) → length S' ≡ 2
+          → Left arities out e patterns (i + 2) at' S' ps ts θ'
+      rest ps ts t θ θ' at' S' L a h k =
           let n = variable_length v L.shaped.0 in
           let q : i + length (encode (leaf variable v)) ≡ i + 2 = omega (arith, n) in
           record {
@@ -262,16 +264,21 @@ module _ (arities out : List ℕ) (e : ℕ) (patterns : List ℕ) (i at : ℕ) (
             ends = omega (arith, L.ends, a, length-append (encode t) (encodes ts));
             many = omega (arith, L.many);
             values = h;
-            froms = k;
-            tos = l;
+            spans = k;
             short = L.short;
           }
 
       -- ── at its first place ──
-      module _ (new : get_or to v 0 ≡ 0) (behind : ℕ) (B : Promises₂ (Here arities out at)
+      module _ (new : span_of S v ≡ None) (behind : ℕ) (B : Promises₂ (Here arities out at)
           (λ (d : ℕ) (t : Term). (length patterns - (i + 2) ≡ 0 → d ≡ e) → behind ≡ d)) where
-        first_place : (ps ts : Terms) (t : Term) (θ : ℕ → Term) → Left arities out e patterns i at from to (leaf variable v & ps) (t & ts) θ
-            → Further arities out e patterns at from to (i + 2) behind (set from v at) (set to v behind) (leaf variable v & ps) (t & ts) θ
+        abbrev span : Span
+        span = record { from = at; to = behind }
+
+        abbrev pub spanned : List (Option Span)
+        spanned = set S v (Some span)
+
+        first_place : (ps ts : Terms) (t : Term) (θ : ℕ → Term) → Left arities out e patterns i at S (leaf variable v & ps) (t & ts) θ
+            → Further arities out e patterns at S (i + 2) behind spanned (leaf variable v & ps) (t & ts) θ
         first_place ps ts t θ L =
             let s : v < 2 = L.shaped.0 in
             let H = argument_inside t (leaf variable v & ps) ts θ L in
@@ -281,21 +288,20 @@ module _ (arities out : List ℕ) (e : ℕ) (patterns : List ℕ) (i at : ℕ) (
             let θ' : ℕ → Term = λ u. cond (eqb u v) t (θ u) in
             let here : θ' v ≡ t = ap (λ (z : Bool). cond z t (θ v)) (eq-eqb v v refl) in
             let other : (u : ℕ) → u ≢ v → θ' u ≡ θ u = λ u d. ap (λ (z : Bool). cond z t (θ u)) (ne_eqb u v d) in
-            let to_here : get_or (set to v behind) v 0 ≡ behind = get_or-set_same to v behind 0 (omega (arith, L.tos)) in
-            let from_here : get_or (set from v at) v 0 ≡ at = get_or-set_same from v at 0 (omega (arith, L.froms)) in
-            let to_other : (u : ℕ) → u ≢ v → get_or (set to v behind) u 0 ≡ get_or to u 0 = λ u d. get_or-set_other to v u behind 0 d in
-            let from_other : (u : ℕ) → u ≢ v → get_or (set from v at) u 0 ≡ get_or from u 0 = λ u d. get_or-set_other from v u at 0 d in
-            let met : 0 < get_or (set to v behind) v 0 = omega (arith, to_here, b, encode_some t) in
+            let met : span_of spanned v ≡ Some span = get_or-set_same S v (Some span) None (omega (arith, L.spans)) in
+            let kept : (u : ℕ) → u ≢ v → span_of spanned u ≡ span_of S u = λ u d. get_or-set_other S v u (Some span) None d in
+            let at_v : (u : ℕ) (x : Span) → u ≡ v → span_of spanned u ≡ Some x → span ≡ x =
+            λ u x z h. same_Some span x (sym met ∙ ap (span_of spanned) (sym z) ∙ h) in
             record {
               ps' = ps;
               ts' = ts;
               θ' = θ';
-              left = rest ps ts t θ θ' behind (set from v at) (set to v behind) L b
-                  (λ u h. by u (eqb u v) refl
-                  (λ q. subst (λ (w : ℕ). Here arities out (get_or (set from v at) w 0) (get_or (set to v behind) w 0) (θ' w)) (sym q)
-                  (rw (to_here, from_here, here, b) H))
-                  (λ d. rw (to_other u d, from_other u d, other u d) (L.values u (rw (to_other u d) at h))))
-                  (length-set from v at ∙ L.froms) (length-set to v behind ∙ L.tos);
+              left = rest ps ts t θ θ' behind spanned L b
+                  (λ u x h. by u (eqb u v) refl
+                  (λ q. subst (λ (y : Span). Here arities out y.from y.to (θ' u)) (at_v u x q h)
+                  (subst (λ (w : ℕ). Here arities out at behind (θ' w)) (sym q) (rw (here, b) H)))
+                  (λ d. rw (other u d) (L.values u x (sym (kept u d) ∙ h))))
+                  (length-set S v (Some span) ∙ L.spans);
               forth = λ η s.
                   let m = s.same in
                   let p : t ≡ η v = cc in
@@ -304,23 +310,23 @@ module _ (arities out : List ℕ) (e : ℕ) (patterns : List ℕ) (i at : ℕ) (
                     same = q;
                     met = λ u h. by u (eqb u v) refl
                         (λ z. ap η z ∙ sym p ∙ sym here ∙ ap θ' (sym z))
-                        (λ d. s.met u (rw (to_other u d) at h) ∙ sym (other u d));
+                        (λ d. s.met u (h.0, sym (kept u d) ∙ h.1) ∙ sym (other u d));
                   };
               back = λ η s.
-                  let p : η v ≡ t = s.met v met ∙ here in
+                  let p : η v ≡ t = s.met v (span, met) ∙ here in
                   record {
                     same = ap₂ (λ (a : Term) (b : Terms). a & b) (sym p) s.same;
                     met = λ u h. by u (eqb u v) refl
-                        (λ z. absurd (omega (arith, ap (λ (w : ℕ). get_or to w 0) z)))
-                        (λ d. s.met u (rw (to_other u d) h) ∙ other u d);
+                        (λ z. absurd (some_none h.0 (sym h.1 ∙ ap (span_of S) z ∙ new)))
+                        (λ d. s.met u (h.0, kept u d ∙ h.1) ∙ other u d);
                   };
               seen = λ u o. by u (eqb u v) refl
-                  (λ z. inr (subst (λ (w : ℕ). 0 < get_or (set to v behind) w 0) (sym z) met))
-                  (λ d. ⊎_elim (λ p. ⊎_elim (λ x. absurd (d (cc))) (λ x. inl x) p) (λ h. inr (rw (to_other u d) h)) o);
+                  (λ z. inr (span, ap (span_of spanned) z ∙ met))
+                  (λ d. ⊎_elim (λ p. ⊎_elim (λ x. absurd (d (cc))) (λ x. inl x) p) (λ h. inr (h.0, kept u d ∙ h.1)) o);
               onward = omega (arith, b);
-              lies = λ u h. by u (eqb u v) refl
-                  (λ z. inl (omega (arith, ap (λ (w : ℕ). get_or (set from v at) w 0) z, from_here)))
-                  (λ d. inr (rw (to_other u d) at h, from_other u d));
+              lies = λ u x h. by u (eqb u v) refl
+                  (λ z. inl (let w : at ≡ x.from = ap (λ (y : Span). y.from) (at_v u x z h) in omega arith))
+                  (λ d. inr (sym (kept u d) ∙ h));
             }
           where
             by : {C : Type 0} (u : ℕ) (z : Bool) → eqb u v ≡ z → (u ≡ v → C) → (u ≢ v → C) → C
@@ -333,34 +339,33 @@ module _ (arities out : List ℕ) (e : ℕ) (patterns : List ℕ) (i at : ℕ) (
             go nil (u & ts) c z q = absurd (omega arith)
             go (p & ps) ts c z q = absurd (omega (arith, encode_some p, length-append (encode p) (encodes ps)))
 
-        pub variable_first : Promises₃ (Left arities out e patterns i at from to)
-            (Stepped arities out e patterns i at from to (set from v at) (set to v behind) (Some (i + 2, behind)))
+        pub variable_first : Promises₃ (Left arities out e patterns i at S)
+            (Stepped arities out e patterns i at S spanned (Some (i + 2, behind)))
         variable_first ps ts θ L = (omega arith, go (a_variable_lem ps ts θ L))
           where
-            go : Variable ps ts θ → Further arities out e patterns at from to (i + 2) behind (set from v at) (set to v behind) ps ts θ
+            go : Variable ps ts θ → Further arities out e patterns at S (i + 2) behind spanned ps ts θ
             go W =
                 let q = number_is W.n W.ps₁ (W.t & W.ts₁) θ W.left in
                 let w = first_place W.ps₁ W.ts₁ W.t θ (rw q at W.left) in
                 rw (W.ps_is, W.ts_is, q) w
 
       -- ── at a further place ──
-      module _ (old : get_or to v 0 ≢ 0) where
-        value_here : (ps ts : Terms) (θ : ℕ → Term) → Left arities out e patterns i at from to ps ts θ
-            → Here arities out (get_or from v 0) (get_or to v 0) (θ v)
-        value_here ps ts θ L = L.values v (omega (arith, old))
+      module _ (x : Span) (old : span_of S v ≡ Some x) where
+        value_here : (ps ts : Terms) (θ : ℕ → Term) → Left arities out e patterns i at S ps ts θ → Here arities out x.from x.to (θ v)
+        value_here ps ts θ L = L.values v x old
 
-        pub value_inside : Asks₃ (Left arities out e patterns i at from to) → (get_or from v 0 ≤ get_or to v 0) × (get_or to v 0 ≤ length out)
+        pub value_inside : Asks₃ (Left arities out e patterns i at S) → (x.from ≤ x.to) × (x.to ≤ length out)
         value_inside (ps, ts, θ, L) = let w = here_within (θ v) (value_here ps ts θ L) in (omega (arith, w.0), w.1)
 
-        module _ (same : Bool) (S : Promises (λ (x : Term). Here arities out (get_or from v 0) (get_or to v 0) x)
-            (λ (x : Term). Promises₂ (Here arities out at) (λ (e : ℕ) (y : Term). same ≡ is_equal (compare_bytes (encode x) (encode y))))) where
-          compared : (ps ts : Terms) (t : Term) (θ : ℕ → Term) → Left arities out e patterns i at from to (leaf variable v & ps) (t & ts) θ
+        module _ (same : Bool) (A : Promises (λ (t : Term). Here arities out x.from x.to t)
+            (λ (t : Term). Promises₂ (Here arities out at) (λ (e : ℕ) (y : Term). same ≡ is_equal (compare_bytes (encode t) (encode y))))) where
+          compared : (ps ts : Terms) (t : Term) (θ : ℕ → Term) → Left arities out e patterns i at S (leaf variable v & ps) (t & ts) θ
               → same ≡ is_equal (compare_bytes (encode (θ v)) (encode t))
           compared ps ts t θ L =
-              S (θ v) (value_here (leaf variable v & ps) (t & ts) θ L) (at + length (encode t)) t (argument_inside t (leaf variable v & ps) ts θ L)
+              A (θ v) (value_here (leaf variable v & ps) (t & ts) θ L) (at + length (encode t)) t (argument_inside t (leaf variable v & ps) ts θ L)
 
-          pub variable_other : same ≡ false → Promises₃ (Left arities out e patterns i at from to)
-              (Stepped arities out e patterns i at from to from to None)
+          pub variable_other : same ≡ false → Promises₃ (Left arities out e patterns i at S)
+              (Stepped arities out e patterns i at S S None)
           variable_other d ps ts θ L η s =
               let W = a_variable_lem ps ts θ L in
               let q = number_is W.n W.ps₁ (W.t & W.ts₁) θ W.left in
@@ -368,11 +373,11 @@ module _ (arities out : List ℕ) (e : ℕ) (patterns : List ℕ) (i at : ℕ) (
               let m : W.t & W.ts₁ ≡ sub η (leaf variable W.n) & subs η W.ps₁ = sym W.ts_is ∙ s.same ∙ ap (subs η) W.ps_is in
               let p : W.t ≡ η W.n = cc in
               other_term arities (θ v) W.t (sym (compared W.ps₁ W.ts₁ W.t θ K) ∙ d)
-              (sym (s.met v (omega (arith, old))) ∙ ap η (sym q) ∙ sym p)
+              (sym (s.met v (x, old)) ∙ ap η (sym q) ∙ sym p)
 
           further_place : (ps ts : Terms) (t : Term) (θ : ℕ → Term) → same ≡ true
-              → Left arities out e patterns i at from to (leaf variable v & ps) (t & ts) θ
-              → Further arities out e patterns at from to (i + 2) (at + (get_or to v 0 - get_or from v 0)) from to (leaf variable v & ps) (t & ts) θ
+              → Left arities out e patterns i at S (leaf variable v & ps) (t & ts) θ
+              → Further arities out e patterns at S (i + 2) (at + (x.to - x.from)) S (leaf variable v & ps) (t & ts) θ
           further_place ps ts t θ d L =
               let W = value_here (leaf variable v & ps) (t & ts) θ L in
               let H = argument_inside t (leaf variable v & ps) ts θ L in
@@ -382,34 +387,34 @@ module _ (arities out : List ℕ) (e : ℕ) (patterns : List ℕ) (i at : ℕ) (
                 ps' = ps;
                 ts' = ts;
                 θ' = θ;
-                left = rest ps ts t θ θ (at + (get_or to v 0 - get_or from v 0)) from to L (omega (arith, W.stands.ends, l)) L.values L.froms L.tos;
+                left = rest ps ts t θ θ (at + (x.to - x.from)) S L (omega (arith, W.stands.ends, l)) L.values L.spans;
                 forth = λ η s. let m = s.same in record { same = cc; met = s.met };
                 back = λ η s. record {
-                  same = ap₂ (λ (a : Term) (b : Terms). a & b) (sym p ∙ sym (s.met v (omega (arith, old)))) s.same;
+                  same = ap₂ (λ (a : Term) (b : Terms). a & b) (sym p ∙ sym (s.met v (x, old))) s.same;
                   met = s.met;
                 };
-                seen = λ u o. ⊎_elim (λ x. ⊎_elim (λ z. inr (let q : v ≡ u = cc in omega (arith, old, ap (λ (w : ℕ). get_or to w 0) q))) (λ z. inl z) x)
+                seen = λ u o. ⊎_elim (λ y. ⊎_elim (λ z. inr (let q : v ≡ u = cc in (x, ap (span_of S) (sym q) ∙ old))) (λ z. inl z) y)
                     (λ h. inr h) o;
                 onward = omega arith;
-                lies = λ u h. inr (h, refl);
+                lies = λ u y h. inr h;
               }
 
-          pub variable_again : same ≡ true → Promises₃ (Left arities out e patterns i at from to)
-              (Stepped arities out e patterns i at from to from to (Some (i + 2, at + (get_or to v 0 - get_or from v 0))))
+          pub variable_again : same ≡ true → Promises₃ (Left arities out e patterns i at S)
+              (Stepped arities out e patterns i at S S (Some (i + 2, at + (x.to - x.from))))
           variable_again d ps ts θ L = (omega arith, go (a_variable_lem ps ts θ L))
             where
-              go : Variable ps ts θ → Further arities out e patterns at from to (i + 2) (at + (get_or to v 0 - get_or from v 0)) from to ps ts θ
+              go : Variable ps ts θ → Further arities out e patterns at S (i + 2) (at + (x.to - x.from)) S ps ts θ
               go W =
                   let q = number_is W.n W.ps₁ (W.t & W.ts₁) θ W.left in
                   let w = further_place W.ps₁ W.ts₁ W.t θ d (rw q at W.left) in
                   rw (W.ps_is, W.ts_is, q) w
 
           -- its end
-          pub again_inside : same ≡ true → Asks₃ (Left arities out e patterns i at from to) → at + (get_or to v 0 - get_or from v 0) ≤ length out
+          pub again_inside : same ≡ true → Asks₃ (Left arities out e patterns i at S) → at + (x.to - x.from) ≤ length out
           again_inside d (ps, ts, θ, L) =
               let K = a_variable_lem ps ts θ L in
               let q = number_is K.n K.ps₁ (K.t & K.ts₁) θ K.left in
-              let M : Left arities out e patterns i at from to (leaf variable v & K.ps₁) (K.t & K.ts₁) θ = rw q at K.left in
+              let M : Left arities out e patterns i at S (leaf variable v & K.ps₁) (K.t & K.ts₁) θ = rw q at K.left in
               let V' = value_here (leaf variable v & K.ps₁) (K.t & K.ts₁) θ M in
               let H = argument_inside K.t (leaf variable v & K.ps₁) K.ts₁ θ M in
               let p : θ v ≡ K.t = same_term arities (θ v) K.t V'.formed H.formed (sym (compared K.ps₁ K.ts₁ K.t θ M) ∙ d) in
@@ -417,13 +422,12 @@ module _ (arities out : List ℕ) (e : ℕ) (patterns : List ℕ) (i at : ℕ) (
               omega (arith, V'.stands.ends, l, (here_within K.t H).1)
 
 -- ── the loop ──
-module _ (arities out : List ℕ) (e : ℕ) (patterns : List ℕ) (at₀ : ℕ) (from₀ to₀ : List ℕ) where
+module _ (arities out : List ℕ) (e : ℕ) (patterns : List ℕ) (at₀ : ℕ) (S₀ : List (Option Span)) where
   -- from the beginning up to here
-  abbrev pub Walked : ℕ → ℕ → List ℕ → List ℕ → Type 0
-  Walked i at from to =
-      Promises₃ (Left arities out e patterns 0 at₀ from₀ to₀) (Further arities out e patterns at₀ from₀ to₀ i at from to)
+  abbrev pub Walked : ℕ → ℕ → List (Option Span) → Type 0
+  Walked i at S = Promises₃ (Left arities out e patterns 0 at₀ S₀) (Further arities out e patterns at₀ S₀ i at S)
 
-  pub walked_first : Walked 0 at₀ from₀ to₀
+  pub walked_first : Walked 0 at₀ S₀
   walked_first ps ts θ L = record {
     ps' = ps;
     ts' = ts;
@@ -433,24 +437,24 @@ module _ (arities out : List ℕ) (e : ℕ) (patterns : List ℕ) (at₀ : ℕ) 
     back = λ η s. s;
     seen = λ v o. o;
     onward = omega arith;
-    lies = λ v h. inr (h, refl);
+    lies = λ v x h. inr h;
   }
 
-  module _ (i at : ℕ) (from to : List ℕ) (W : Walked i at from to) where
-    pub walked_asks : Asks₃ (Left arities out e patterns 0 at₀ from₀ to₀) → Asks₃ (Left arities out e patterns i at from to)
+  module _ (i at : ℕ) (S : List (Option Span)) (W : Walked i at S) where
+    pub walked_asks : Asks₃ (Left arities out e patterns 0 at₀ S₀) → Asks₃ (Left arities out e patterns i at S)
     walked_asks (ps, ts, θ, L) = let w = W ps ts θ L in (w.ps', w.ts', w.θ', w.left)
 
-    module _ (from' to' : List ℕ) (r : Option (ℕ × ℕ)) (S : Promises₃ (Left arities out e patterns i at from to)
-        (Stepped arities out e patterns i at from to from' to' r)) where
+    module _ (S' : List (Option Span)) (r : Option (ℕ × ℕ)) (D : Promises₃ (Left arities out e patterns i at S)
+        (Stepped arities out e patterns i at S S' r)) where
       -- nearer to the end
-      pub walked_ahead : (i' at' : ℕ) → r ≡ Some (i', at') → Asks₃ (Left arities out e patterns 0 at₀ from₀ to₀) → i < i'
-      walked_ahead i' at' q (ps, ts, θ, L) = let w = W ps ts θ L in (rw q at (S w.ps' w.ts' w.θ' w.left)).0
+      pub walked_ahead : (i' at' : ℕ) → r ≡ Some (i', at') → Asks₃ (Left arities out e patterns 0 at₀ S₀) → i < i'
+      walked_ahead i' at' q (ps, ts, θ, L) = let w = W ps ts θ L in (rw q at (D w.ps' w.ts' w.θ' w.left)).0
 
-      pub walked_next : (i' at' : ℕ) → r ≡ Some (i', at') → Walked i' at' from' to'
+      pub walked_next : (i' at' : ℕ) → r ≡ Some (i', at') → Walked i' at' S'
       walked_next i' at' q ps ts θ L =
           let w = W ps ts θ L in
-          let s : Stepped arities out e patterns i at from to from' to' (Some (i', at')) w.ps' w.ts' w.θ' = rw q at
-          (S w.ps' w.ts' w.θ' w.left) in
+          let s : Stepped arities out e patterns i at S S' (Some (i', at')) w.ps' w.ts' w.θ' = rw q at
+          (D w.ps' w.ts' w.θ' w.left) in
           let x = s.1 in
           let a = w.onward in
           record {
@@ -462,35 +466,33 @@ module _ (arities out : List ℕ) (e : ℕ) (patterns : List ℕ) (at₀ : ℕ) 
             back = λ η y. w.back η (x.back η y);
             seen = λ v o. x.seen v (w.seen v o);
             onward = omega (arith, w.onward, x.onward);
-            lies = λ v h.
-                ⊎_elim (λ l. inl (omega (arith, a, l)))
-                (λ l. ⊎_elim (λ k. inl (omega (arith, k, l.1))) (λ k. inr (k.0, l.1 ∙ k.1)) (w.lies v l.0))
-                (x.lies v h);
+            lies = λ v y h. ⊎_elim (λ l. inl (omega (arith, a, l))) (λ k. w.lies v y k) (x.lies v y h);
           }
 
-      pub walked_none : r ≡ None → Promises₃ (Left arities out e patterns 0 at₀ from₀ to₀) (Fits arities out at₀ to₀ from' to' false)
+      pub walked_none : r ≡ None → Promises₃ (Left arities out e patterns 0 at₀ S₀) (Fits arities out at₀ S₀ S' false)
       walked_none q ps ts θ L η y =
           let w = W ps ts θ L in
-          let s : Stepped arities out e patterns i at from to from' to' None w.ps' w.ts' w.θ' = rw q at
-          (S w.ps' w.ts' w.θ' w.left) in
+          let s : Stepped arities out e patterns i at S S' None w.ps' w.ts' w.θ' = rw q at
+          (D w.ps' w.ts' w.θ' w.left) in
           s η (w.forth η y)
 
-    pub walked_done : length patterns ≤ i → Promises₃ (Left arities out e patterns 0 at₀ from₀ to₀) (Fits arities out at₀ to₀ from to true)
+    pub walked_done : length patterns ≤ i → Promises₃ (Left arities out e patterns 0 at₀ S₀) (Fits arities out at₀ S₀ S true)
     walked_done z ps ts θ L = go (W ps ts θ L)
       where
-        over : (ps' ts' : Terms) (θ' : ℕ → Term) → Left arities out e patterns i at from to ps' ts' θ' → (ps' ≡ nil) × (ts' ≡ nil)
+        over : (ps' ts' : Terms) (θ' : ℕ → Term) → Left arities out e patterns i at S ps' ts' θ' → (ps' ≡ nil) × (ts' ≡ nil)
         over nil nil θ' M = (refl, refl)
         over nil (t & ts) θ' M = absurd (omega (arith, M.many))
         over (p & ps) ts θ' M = absurd (omega (arith, M.pattern_ends, encode_some p, length-append (encode p) (encodes ps)))
 
-        go : Further arities out e patterns at₀ from₀ to₀ i at from to ps ts θ → Solution arities out at₀ to₀ from to ps ts θ
+        go : Further arities out e patterns at₀ S₀ i at S ps ts θ → Solution arities out at₀ S₀ S ps ts θ
         go w =
             let n = over w.ps' w.ts' w.θ' w.left in
-            let met : (v : ℕ) → Occurss variable v ps → 0 < get_or to v 0 =
+            let met : (v : ℕ) → Occurss variable v ps → Met S v =
             λ v o. ⊎_elim (λ p. absurd (rw n.0 at p)) (λ p. p) (w.seen v (inl o)) in
             record {
               η = w.θ';
               solves = w.back w.θ' (record { same = n.1 ∙ ap (subs w.θ') (sym n.0); met = λ v h. refl });
-              stands = λ v o. w.left.values v (met v o);
-              lies = λ v o. ⊎_elim (λ l. inl l) (λ l. inr l.0) (w.lies v (met v o));
+              placed = λ v o.
+                  let m = met v o in
+                  record { span = m.0; there = m.1; here = w.left.values v m.0 m.1; lies = w.lies v m.0 m.1 };
             }

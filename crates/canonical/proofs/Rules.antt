@@ -4,9 +4,11 @@ use mathlib.Core.List.{List, [], ◌∷◌, ◌++◌, append-nil}
 use mathlib.Core.Path.{◌≡◌, refl, ap, sym, ◌∙◌, subst}
 use mathlib.Core.Logic.{◌≢◌, ⊎_elim}
 use mathlib.Core.Bool.{Bool, true, false}
-use Rattle.std.proofs.Common.{Some}
+use Rattle.std.proofs.Common.{Option, Some, None}
+use Rattle.std.proofs.lemmas.Option.{same_Some}
 use native.Mathlib.Omega.{arith}
 use lib.ListN.{length, get_or, replicate, length-append}
+use Rattle.lists.specs.Tests.{some_none}
 use Rattle.lists.specs.Asks.{Asks, Asks₂, Asks₃, Promises, Promises₂, Promises₃}
 use Rattle.octets.specs.Limits.{longest}
 use Rattle.octets.specs.Head.{Stands, stands_at}
@@ -29,7 +31,8 @@ use Rattle.product.specs.Writing.{as_written}
 use Rattle.canonical.specs.Builtins.{Builtins, group, enc_arity, dec_arity, pair_arity, fst_arity}
 use Rattle.canonical.specs.Builtins.{snd_arity, aenc_arity, adec_arity, pk_arity, sign_arity, verify_arity}
 use Rattle.canonical.specs.Inner.{Built}
-use Rattle.canonical.specs.Matching.{Pattern, Patterns, Left, Solution, Fits, Given, a_value, a_constant, Row, Ruled}
+use Rattle.canonical.specs.declared.Span.{Span}
+use Rattle.canonical.specs.Matching.{Pattern, Patterns, span_of, Left, Solution, Fits, Given, a_value, a_constant, Row, Ruled}
 use Rattle.canonical.proofs.Parts.{here_within}
 use Rattle.canonical.proofs.Writes.{spliced}
 
@@ -42,58 +45,61 @@ variable_bytes v h =
 constant_bytes : (f : ℕ) → f < 128 → encode (app f nil) ≡ f ∷ []
 constant_bytes f h = append-nil (groups f) ∙ groups_one f h
 
-module _ (out : List ℕ) (o : ℕ) (result from to : List ℕ) where
-  pub given_some : Asks (Given out o result from to) → 0 < length result
-  given_some (q, a_value v e s a b c st) = omega (arith, ap length (e ∙ variable_bytes v s))
+module _ (out : List ℕ) (o : ℕ) (result : List ℕ) (S : List (Option Span)) where
+  pub given_some : Asks (Given out o result S) → 0 < length result
+  given_some (q, a_value v x e s t a b c st) = omega (arith, ap length (e ∙ variable_bytes v s))
   given_some (q, a_constant f e l s i r) = omega (arith, ap length (e ∙ constant_bytes f s))
 
   module _ (is : get_or result 0 0 ≡ 0) where
     record Value (q : List ℕ) : Type 0 where
       bytes : result ≡ 0 ∷ get_or result 1 0 ∷ []
       small : get_or result 1 0 < 2
-      behind : o ≤ get_or from (get_or result 1 0) 0
-      forward : get_or from (get_or result 1 0) 0 ≤ get_or to (get_or result 1 0) 0
-      inside : get_or to (get_or result 1 0) 0 ≤ length out
-      stands : Stands out (get_or from (get_or result 1 0) 0) q (get_or to (get_or result 1 0) 0)
+      span : Span
+      there : span_of S (get_or result 1 0) ≡ Some span
+      behind : o ≤ span.from
+      forward : span.from ≤ span.to
+      inside : span.to ≤ length out
+      stands : Stands out span.from q span.to
 
-    value : (q : List ℕ) → Given out o result from to q → Value q
-    value q (a_value v e s a b c st) =
+    value : (q : List ℕ) → Given out o result S q → Value q
+    value q (a_value v x e s t a b c st) =
         let p : result ≡ 0 ∷ v ∷ [] = e ∙ variable_bytes v s in
         let n : get_or result 1 0 ≡ v = ap (λ (l : List ℕ). get_or l 1 0) p in
-        record {
-          bytes = rw n p;
-          small = rw n s;
-          behind = rw n a;
-          forward = rw n b;
-          inside = rw n c;
-          stands = rw n st;
-        }
+        record { bytes = rw n p; small = rw n s; span = x; there = rw n t; behind = a; forward = b; inside = c; stands = st }
     value q (a_constant f e l s i r) = absurd (omega (arith, ap (λ (l : List ℕ). get_or l 0 0) (e ∙ constant_bytes f s)))
 
-    pub given_two : Asks (Given out o result from to) → 1 < length result
+    pub given_two : Asks (Given out o result S) → 1 < length result
     given_two (q, g) = omega (arith, ap length (value q g).bytes)
 
-    module _ (v : ℕ) (v-is : v ≡ get_or result 1 0) where
-      pub given_small : Asks (Given out o result from to) → v < 2
-      given_small (q, g) = omega (arith, (value q g).small)
+    pub given_small : Asks (Given out o result S) → get_or result 1 0 < 2
+    given_small (q, g) = (value q g).small
 
-      pub given_bounds : Asks (Given out o result from to) → (o ≤ get_or from v 0) × (get_or from v 0 ≤ get_or to v 0) × (get_or to v 0 ≤ length out)
-      given_bounds (q, g) = let w = value q g in rw v-is (w.behind, w.forward, w.inside)
+    pub given_met : span_of S (get_or result 1 0) ≡ None → {C : Type 0} → (q : List ℕ) → Given out o result S q → C
+    given_met n q g = let w = value q g in absurd (some_none w.span (sym w.there ∙ n))
+
+    module _ (x : Span) (there : span_of S (get_or result 1 0) ≡ Some x) where
+      pub given_bounds : Asks (Given out o result S) → (o ≤ x.from) × (x.from ≤ x.to) × (x.to ≤ length out)
+      given_bounds (q, g) =
+          let w = value q g in
+          let e : w.span ≡ x = same_Some w.span x (sym w.there ∙ there) in
+          subst (λ (y : Span). (o ≤ y.from) × (y.from ≤ y.to) × (y.to ≤ length out)) e (w.behind, w.forward, w.inside)
 
       pub given_value :
-          (out' : List ℕ) (r : ℕ) → Promises (λ (q : List ℕ). Stands out (get_or from v 0) q (get_or to v 0)) (λ (q : List ℕ). Wrote r out o out' r q)
-          → Promises (Given out o result from to) (λ (q : List ℕ). Wrote r out o out' r q)
-      given_value out' r m q g = m q (rw v-is (value q g).stands)
+          (out' : List ℕ) (r : ℕ) → Promises (λ (q : List ℕ). Stands out x.from q x.to) (λ (q : List ℕ). Wrote r out o out' r q)
+          → Promises (Given out o result S) (λ (q : List ℕ). Wrote r out o out' r q)
+      given_value out' r m q g =
+          let w = value q g in
+          m q (subst (λ (y : Span). Stands out y.from q y.to) (same_Some w.span x (sym w.there ∙ there)) w.stands)
 
   module _ (other : get_or result 0 0 ≢ 0) where
-    constant : (q : List ℕ) → Given out o result from to q → (q ≡ result) × (o + length result ≤ length out)
-    constant q (a_value v e s a b c st) = absurd (other (ap (λ (l : List ℕ). get_or l 0 0) (e ∙ variable_bytes v s)))
+    constant : (q : List ℕ) → Given out o result S q → (q ≡ result) × (o + length result ≤ length out)
+    constant q (a_value v x e s t a b c st) = absurd (other (ap (λ (l : List ℕ). get_or l 0 0) (e ∙ variable_bytes v s)))
     constant q (a_constant f e l s i r) = (i, omega (arith, ap length (e ∙ constant_bytes f s)))
 
-    pub given_room : Asks (Given out o result from to) → o + length result ≤ length out
+    pub given_room : Asks (Given out o result S) → o + length result ≤ length out
     given_room (q, g) = (constant q g).1
 
-    pub given_constant : (out' : List ℕ) (r : ℕ) → r ≡ o + length result → out' ≡ splice out o result → Promises (Given out o result from to)
+    pub given_constant : (out' : List ℕ) (r : ℕ) → r ≡ o + length result → out' ≡ splice out o result → Promises (Given out o result S)
         (λ (q : List ℕ). Wrote r out o out' r q)
     given_constant out' r e w q g =
         let k = constant q g in
@@ -127,10 +133,10 @@ mutual
   patterns_occurs v (p & ps) h o = ⊎_elim (λ a. pattern_occurs v p h.0 a) (λ a. patterns_occurs v ps h.1 a) o
 
 -- no variable is met yet
-zeros : (n v : ℕ) → ◌≡◌ {A = ℕ} (get_or (replicate n 0) v 0) 0
-zeros zero v = refl
-zeros (suc n) zero = refl
-zeros (suc n) (suc v) = zeros n v
+nones : (n v : ℕ) → span_of (replicate n None) v ≡ None
+nones zero v = refl
+nones (suc n) zero = refl
+nones (suc n) (suc v) = nones n v
 
 -- the function's tag is one byte
 pub place_fits : (arities out : List ℕ) (o e f : ℕ) → Asks (Built arities out o e f) → (o < length out) × (length out ≤ longest)
@@ -144,7 +150,7 @@ module _ (arities out : List ℕ) (o e : ℕ) (patterns result : List ℕ) where
   nothing v = leaf public 0
 
   begins : (f : ℕ) (us : Terms) (R : Ruled arities out o e patterns result f us)
-      → Left arities out e patterns 0 (o + 1) (replicate 2 0) (replicate 2 0) R.row.rule.args us nothing
+      → Left arities out e patterns 0 (o + 1) (replicate 2 None) R.row.rule.args us nothing
   begins f us R =
       let r = R.row in
       let b = R.built in
@@ -164,41 +170,40 @@ module _ (arities out : List ℕ) (o e : ℕ) (patterns result : List ℕ) where
         argument = subst (λ (i : ℕ). Laid arities out i us) q (args_of O);
         ends = omega (arith, b.here.stands.ends, l, length-append (groups f) (encodes us));
         many = cc;
-        values = λ v h. absurd (omega (arith, zeros 2 v));
-        froms = refl;
-        tos = refl;
+        values = λ v x h. absurd (some_none x (sym h ∙ nones 2 v));
+        spans = refl;
         short = b.short;
       }
 
-  pub ruled_asks : Asks₂ (Ruled arities out o e patterns result) → Asks₃ (Left arities out e patterns 0 (o + 1) (replicate 2 0) (replicate 2 0))
+  pub ruled_asks : Asks₂ (Ruled arities out o e patterns result) → Asks₃ (Left arities out e patterns 0 (o + 1) (replicate 2 None))
   ruled_asks (f, us, R) = (R.row.rule.args, us, nothing, begins f us R)
 
   -- no instance
   pub ruled_stays :
-      (from' to' : List ℕ) (hit : Bool) → Promises₃ (Left arities out e patterns 0 (o + 1) (replicate 2 0) (replicate 2 0))
-      (Fits arities out (o + 1) (replicate 2 0) from' to' hit)
+      (S' : List (Option Span)) (hit : Bool) → Promises₃ (Left arities out e patterns 0 (o + 1) (replicate 2 None))
+      (Fits arities out (o + 1) (replicate 2 None) S' hit)
       → hit ≡ false → Promises₂ (Ruled arities out o e patterns result) (λ (f : ℕ) (us : Terms). Wrote e out o out e (encode (apply rules f us)))
-  ruled_stays from' to' hit F d f us R =
+  ruled_stays S' hit F d f us R =
       let r = R.row in
-      let N : Fits arities out (o + 1) (replicate 2 0) from' to' false r.rule.args us nothing = rw d at
+      let N : Fits arities out (o + 1) (replicate 2 None) S' false r.rule.args us nothing = rw d at
       (F r.rule.args us nothing (begins f us R)) in
       let b = R.built in
       let q : apply rules f us ≡ app f us =
       made_stays (arity arities) (group arities b.table) f r.rule r.is us
-      (λ η m. N η (record { same = m; met = λ v h. absurd (omega (arith, zeros 2 v)) })) in
+      (λ η m. N η (record { same = m; met = λ v h. absurd (some_none h.0 (sym h.1 ∙ nones 2 v)) })) in
       subst (λ (t : Term). Wrote e out o out e (encode t)) (sym q) (as_written out o e (encode (app f us)) b.here.stands)
 
   -- an instance
-  module _ (from' to' : List ℕ) (hit : Bool) (F : Promises₃ (Left arities out e patterns 0 (o + 1) (replicate 2 0) (replicate 2 0))
-      (Fits arities out (o + 1) (replicate 2 0) from' to' hit)) (is : hit ≡ true) where
+  module _ (S' : List (Option Span)) (hit : Bool) (F : Promises₃ (Left arities out e patterns 0 (o + 1) (replicate 2 None))
+      (Fits arities out (o + 1) (replicate 2 None) S' hit)) (is : hit ≡ true) where
     solved : (f : ℕ) (us : Terms) (R : Ruled arities out o e patterns result f us)
-        → Solution arities out (o + 1) (replicate 2 0) from' to' R.row.rule.args us nothing
+        → Solution arities out (o + 1) (replicate 2 None) S' R.row.rule.args us nothing
     solved f us R =
-        subst (λ (z : Bool). Fits arities out (o + 1) (replicate 2 0) from' to' z R.row.rule.args us nothing) is
+        subst (λ (z : Bool). Fits arities out (o + 1) (replicate 2 None) S' z R.row.rule.args us nothing) is
         (F R.row.rule.args us nothing (begins f us R))
 
     given : (f : ℕ) (us : Terms) (R : Ruled arities out o e patterns result f us)
-        → Given out o result from' to' (encode (sub (solved f us R).η R.row.rule.result))
+        → Given out o result S' (encode (sub (solved f us R).η R.row.rule.result))
     given f us R =
         let r = R.row in
         let W = rows_fit (arity arities) (group arities R.built.table) f r.rule r.is in
@@ -206,23 +211,23 @@ module _ (arities out : List ℕ) (o e : ℕ) (patterns result : List ℕ) where
       where
         go :
             (t : Term) → result ≡ encode t → message.Result (arity arities) rules t
-            → ((v : ℕ) → Occurs variable v t → Occurss variable v R.row.rule.args) → Given out o result from' to' (encode (sub (solved f us R).η t))
+            → ((v : ℕ) → Occurs variable v t → Occurss variable v R.row.rule.args) → Given out o result S' (encode (sub (solved f us R).η t))
         go _ g (message.a_variable {n = n}) b =
             let S = solved f us R in
             let i = b n refl in
-            let H = S.stands n i in
-            let w = here_within (S.η n) H in
-            let low : o ≤ get_or from' n 0 = ⊎_elim (λ l. omega (arith, l)) (λ l. absurd (omega (arith, zeros 2 n, l))) (S.lies n i) in
-            a_value n g (patterns_occurs n R.row.rule.args R.row.shaped i) low (omega (arith, w.0)) w.1 H.stands
+            let P = S.placed n i in
+            let w = here_within (S.η n) P.here in
+            let low : o ≤ P.span.from = ⊎_elim (λ l. omega (arith, l)) (λ l. absurd (some_none P.span (sym l ∙ nones 2 n))) P.lies in
+            a_value n P.span g (patterns_occurs n R.row.rule.args R.row.shaped i) P.there low (omega (arith, w.0)) w.1 P.here.stands
         go _ g (message.a_constant {f = f} s ord no_rule ar) b =
             let l = (group arities R.built.table).no_leaf f 0 ar in
             a_constant f g (omega (arith, l)) (omega arith) (sym g) (place_fits arities out o e _ (us, R.built)).0
 
-    pub ruled_gives : Asks₂ (Ruled arities out o e patterns result) → Asks (Given out o result from' to')
+    pub ruled_gives : Asks₂ (Ruled arities out o e patterns result) → Asks (Given out o result S')
     ruled_gives (f, us, R) = (encode (sub (solved f us R).η R.row.rule.result), given f us R)
 
     pub ruled_done :
-        (out' : List ℕ) (i : ℕ) → Promises (Given out o result from' to') (λ (q : List ℕ). Wrote i out o out' i q)
+        (out' : List ℕ) (i : ℕ) → Promises (Given out o result S') (λ (q : List ℕ). Wrote i out o out' i q)
         → Promises₂ (Ruled arities out o e patterns result) (λ (f : ℕ) (us : Terms). Wrote e out o out' i (encode (apply rules f us)))
     ruled_done out' i m f us R =
         let r = R.row in

@@ -41,6 +41,13 @@ const VARIABLES: usize = 2;
 
 const A_VARIABLE: u8 = term::VARIABLE as u8;
 
+// Where the value of a variable stands.
+#[derive(Clone, Copy)]
+struct Span {
+    from: usize,
+    to: usize,
+}
+
 // The first symbol of the term at a place; where no term stands nothing is said of it.
 fn first(src: &[u8], arities: &[u8], at: usize) -> Symbol
     ensures { Promises₂ (Here arities.now src.now at) (λ (e : ℕ) (t : Term). FirstAt t at result) }
@@ -150,11 +157,10 @@ fn step(
     e: usize,
     patterns: &[u8],
     i: usize,
-    from: &mut [usize; VARIABLES],
-    to: &mut [usize; VARIABLES],
+    spans: &mut [Option<Span>; VARIABLES],
 ) -> Option<(usize, usize)>
-    requires { (i < length patterns.now) × Asks₃ (Left arities.now out.now e patterns.now i at from.old to.old) }
-    ensures { Promises₃ (Left arities.now out.now e patterns.now i at from.old to.old) (Stepped arities.now out.now e patterns.now i at from.old to.old from.new to.new result) }
+    requires { (i < length patterns.now) × Asks₃ (Left arities.now out.now e patterns.now i at spans.old) }
+    ensures { Promises₃ (Left arities.now out.now e patterns.now i at spans.old) (Stepped arities.now out.now e patterns.now i at spans.old spans.new result) }
 {
     let tag = patterns[i];
     if tag != A_VARIABLE {
@@ -165,18 +171,19 @@ fn step(
     }
     let v = patterns[i + 1] as usize;
     let next = i + 2;
-    let end = to[v];
-    if end == 0 {
-        let behind = argument_end(out, arities, at, e, patterns.len() - next);
-        from[v] = at;
-        to[v] = behind;
-        return Some((next, behind));
+    match spans[v] {
+        Some(span) => {
+            if !again(out, arities, span.from, span.to, at) {
+                return None;
+            }
+            Some((next, at + (span.to - span.from)))
+        }
+        None => {
+            let end = argument_end(out, arities, at, e, patterns.len() - next);
+            spans[v] = Some(Span { from: at, to: end });
+            Some((next, end))
+        }
     }
-    let start = from[v];
-    if again(out, arities, start, end, at) {
-        return Some((next, at + (end - start)));
-    }
-    None
 }
 
 // Whether the arguments at a place, up to e, are an instance of the patterns; and where the values of the variables stand.
@@ -186,16 +193,16 @@ fn fits(
     at: usize,
     e: usize,
     patterns: &[u8],
-    from: &mut [usize; VARIABLES],
-    to: &mut [usize; VARIABLES],
+    spans: &mut [Option<Span>; VARIABLES],
 ) -> bool
-    requires { Asks₃ (Left arities.now out.now e patterns.now 0 at from.old to.old) }
-    ensures { Promises₃ (Left arities.now out.now e patterns.now 0 at from.old to.old) (Fits arities.now out.now at to.old from.new to.new result) }
+    requires { Asks₃ (Left arities.now out.now e patterns.now 0 at spans.old) }
+    ensures { Promises₃ (Left arities.now out.now e patterns.now 0 at spans.old) (Fits arities.now out.now at spans.old spans.new result) }
 {
     let mut i = 0;
     let mut a = at;
+    // A while: a symbol of the patterns takes one byte or two.
     while i < patterns.len() {
-        match step(out, arities, a, e, patterns, i, from, to) {
+        match step(out, arities, a, e, patterns, i, spans) {
             Some((j, b)) => {
                 i = j;
                 a = b;
@@ -209,21 +216,17 @@ fn fits(
 }
 
 // Writes a rule's result: the value of a variable moved down, or a constant.
-fn put_result(
-    out: &mut [u8],
-    o: usize,
-    res: &[u8],
-    from: &[usize; VARIABLES],
-    to: &[usize; VARIABLES],
-) -> usize
-    requires { Asks (Given out.old o res.now from.now to.now) }
-    ensures { Promises (Given out.old o res.now from.now to.now) (λ (q : List ℕ). Wrote result out.old o out.new result q) }
+fn put_result(out: &mut [u8], o: usize, res: &[u8], spans: &[Option<Span>; VARIABLES]) -> usize
+    requires { Asks (Given out.old o res.now spans.now) }
+    ensures { Promises (Given out.old o res.now spans.now) (λ (q : List ℕ). Wrote result out.old o out.new result q) }
 {
-    if res[0] == A_VARIABLE {
-        let v = res[1] as usize;
-        return move_to(out, o, from[v], to[v]);
+    if res[0] != A_VARIABLE {
+        return octets::copy_into(out, o, res);
     }
-    octets::copy_into(out, o, res)
+    match spans[res[1] as usize] {
+        Some(span) => move_to(out, o, span.from, span.to),
+        None => o,
+    }
 }
 
 // A function of made arguments by its rule: its result where the arguments are an instance of the rule's patterns.
@@ -231,10 +234,9 @@ fn rewrite(out: &mut [u8], o: usize, e: usize, arities: &[u8], patterns: &[u8], 
     requires { Asks₂ (Ruled arities.now out.old o e patterns.now res.now) }
     ensures { Promises₂ (Ruled arities.now out.old o e patterns.now res.now) (λ (f : ℕ) (us : Terms). Wrote e out.old o out.new result (encode (apply rules f us))) }
 {
-    let mut from = [0usize; VARIABLES];
-    let mut to = [0usize; VARIABLES];
-    if fits(out, arities, o + 1, e, patterns, &mut from, &mut to) {
-        return put_result(out, o, res, &from, &to);
+    let mut spans = [None; VARIABLES];
+    if fits(out, arities, o + 1, e, patterns, &mut spans) {
+        return put_result(out, o, res, &spans);
     }
     e
 }
@@ -460,6 +462,7 @@ pub fn filled_into(
 {
     let mut p = Next { at: at, o: o };
     let mut left = k;
+    // A while: a symbol may leave more terms than there were.
     while 0 < left {
         let (next, more) = put_symbol(out, p.o, src, p.at, left, arities, vals, starts);
         p = next;

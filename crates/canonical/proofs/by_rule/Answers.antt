@@ -3,6 +3,7 @@ use mathlib.Core.Path.{refl}
 use mathlib.Core.Bool.{false}
 use native.Mathlib.Omega.{arith}
 use lib.ListN.{replicate}
+use Rattle.std.proofs.Common.{None}
 use Rattle.canonical.proofs.Matching.{function_inside, function_other}
 use Rattle.canonical.proofs.Rules.{ruled_fits, ruled_asks, ruled_stays}
 use Rattle.canonical.proofs.by_rule.Goals as goal
@@ -14,9 +15,9 @@ overflow_add-o c =
 pub bounds-out-o : goal.bounds-out-o
 bounds-out-o c =
     let pre = c.requires in
-    function_inside _ _ _ _ _ _ _ _ c.if-patterns-gt0.true c.if-tag-ne-A_VARIABLE.true (ruled_asks _ _ _ _ _ _ pre)
+    function_inside _ _ _ _ _ _ _ c.if-patterns-gt0.true c.if-tag-ne-A_VARIABLE.true (ruled_asks _ _ _ _ _ _ pre)
 
 pub returns-then-out-o : goal.returns-then-out-o
 returns-then-out-o c =
-    ruled_stays _ _ _ _ _ _ (replicate 2 0) (replicate 2 0) false
-    (function_other _ _ _ _ _ _ _ _ c.if-patterns-gt0.true c.if-tag-ne-A_VARIABLE.true c.if-out-o.true) refl
+    ruled_stays _ _ _ _ _ _ (replicate 2 None) false
+    (function_other _ _ _ _ _ _ _ c.if-patterns-gt0.true c.if-tag-ne-A_VARIABLE.true c.if-out-o.true) refl

@@ -6,7 +6,7 @@ use Rattle.canonical.proofs.fits.Given as goal
 
 abbrev pub invariant-loop-i : goal.invariant-loop-i
 invariant-loop-i l =
-    Walked l.arities l.out l.e l.patterns l.at l.initial.from l.initial.to l.i l.a l.from l.to
+    Walked l.arities l.out l.e l.patterns l.at l.initial.spans l.i l.a l.spans
 
 abbrev pub decreases-loop-i : goal.decreases-loop-i
 decreases-loop-i l =

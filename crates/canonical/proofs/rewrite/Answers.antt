@@ -13,12 +13,12 @@ fits-requires c =
 
 pub put_result-requires : goal.put_result-requires
 put_result-requires c =
-    ruled_gives _ _ _ _ _ _ _ _ _ c.fits.ensures c.if-fits.true c.requires
+    ruled_gives _ _ _ _ _ _ _ _ c.fits.ensures c.if-fits.true c.requires
 
 pub returns-then-fits : goal.returns-then-fits
 returns-then-fits c =
-    ruled_done _ _ _ _ _ _ _ _ _ c.fits.ensures c.if-fits.true _ _ c.put_result.ensures
+    ruled_done _ _ _ _ _ _ _ _ c.fits.ensures c.if-fits.true _ _ c.put_result.ensures
 
 pub returns : goal.returns
 returns c =
-    ruled_stays _ _ _ _ _ _ _ _ _ c.fits.ensures c.if-fits.false
+    ruled_stays _ _ _ _ _ _ _ _ c.fits.ensures c.if-fits.false
