@@ -9,6 +9,7 @@ ghost use Rattle.protocol.specs.Protocol.{empty_rule, rule, own};
 ghost use Rattle.protocol.specs.Index.{Told, Slotted, Tabled, Placed, Indexed};
 ghost use Rattle.protocol.specs.Index.Fill.{as_own};
 
+use crate::walks::RuleText;
 use crate::{figures, walks};
 
 // The counts of fact symbols (with the four built-in ones) and of rules.
@@ -92,40 +93,27 @@ fn symbols(file: &[u8], at: usize, ars: &mut [u8], flags: &mut [u8]) -> Option<(
 }
 
 // The places of n rules.
-fn rules_from(
-    file: &[u8],
-    arities: &[u8],
-    ars: &[u8],
-    at: usize,
-    n: u32,
-    places: &mut [usize],
-) -> Option<(u32, usize)>
-    requires { (length file.now ≤ longest) × (n ≤ most_rules) × (most_rules ≤ length places.old) }
+fn rules_from(x: &RuleText, at: usize, n: u32, places: &mut [usize]) -> Option<(u32, usize)>
+    requires { (length x.now.file.now ≤ longest) × (n ≤ most_rules) × (most_rules ≤ length places.old) }
     ensures kept { length places.new ≡ length places.old }
-    ensures told { Told (many (rule file.now arities.now ars.now) n at) (Placed (rule file.now arities.now ars.now) empty_rule places.new) result }
+    ensures told { let p = rule x.now.file.now x.now.arities.now x.now.ars.now in Told (many p n at) (Placed p empty_rule places.new) result }
 {
     let mut i = at;
     for j in 0..n {
-        let (e, _) = walks::one_rule(file, arities, ars, i)?;
+        let (e, _) = walks::one_rule(x, i)?;
         places[j as usize] = i;
         i = e;
     }
     Some((n, i))
 }
 
-fn rules(
-    file: &[u8],
-    arities: &[u8],
-    ars: &[u8],
-    at: usize,
-    places: &mut [usize],
-) -> Option<(u32, usize)>
-    requires { (length file.now ≤ longest) × (most_rules ≤ length places.old) }
+fn rules(x: &RuleText, at: usize, places: &mut [usize]) -> Option<(u32, usize)>
+    requires { (length x.now.file.now ≤ longest) × (most_rules ≤ length places.old) }
     ensures kept { length places.new ≡ length places.old }
-    ensures told { Told (counted file.now most_rules (rule file.now arities.now ars.now) at) (Placed (rule file.now arities.now ars.now) empty_rule places.new) result }
+    ensures told { let p = rule x.now.file.now x.now.arities.now x.now.ars.now in Told (counted x.now.file.now most_rules p at) (Placed p empty_rule places.new) result }
 {
-    let (n, e) = number::below(file, at, figures::RULE_LIMIT)?;
-    rules_from(file, arities, ars, e, n, places)
+    let (n, e) = number::below(x.file, at, figures::RULE_LIMIT)?;
+    rules_from(x, e, n, places)
 }
 
 // One pass over a protocol file: the counts and the filled index, or a fault.
@@ -142,7 +130,12 @@ pub fn read_protocol(
     let (_, e) = functions(file, 0, arities)?;
     let (no, f) = symbols(file, e, ars, flags)?;
     let m = no as usize + figures::FIRST_OWN;
-    let (nr, g) = rules(file, arities, &ars[..m], f, places)?;
+    let text = RuleText {
+        file: file,
+        arities: arities,
+        ars: &ars[..m],
+    };
+    let (nr, g) = rules(&text, f, places)?;
     if g == file.len() {
         return Some(Counts {
             symbols: m,

@@ -7,6 +7,7 @@ ghost use Rattle.protocol.specs.Protocol.{fact};
 ghost use Rattle.protocol.specs.Places.{place_of, value_of, sort_of, list_place, term_place};
 ghost use Rattle.protocol.specs.Places.Ends.{end_of, sort_from};
 
+use crate::walks::{NOTHING, RuleText};
 use crate::{figures, walks};
 
 // The end of a walk; 0 for a fault.
@@ -56,21 +57,12 @@ pub fn sort_of(file: &[u8], at: usize, v: u32) -> usize
 }
 
 // The place of a list of the rule at a place: 0 premises, 1 actions, 2 conclusions.
-pub fn list_at(file: &[u8], arities: &[u8], ars: &[u8], at: usize, list: usize) -> usize
-    requires { length file.now ≤ longest }
-    ensures { result ≡ list_place file.now arities.now ars.now at list }
+pub fn list_at(x: &RuleText, at: usize, list: usize) -> usize
+    requires { length x.now.file.now ≤ longest }
+    ensures { result ≡ list_place x.now.file.now x.now.arities.now x.now.ars.now at list }
 {
-    match walks::sorts_at(file, at) {
-        Some((_, e)) => end_of(walks::some_lists(
-            file,
-            arities,
-            ars,
-            e,
-            list,
-            term::VARIABLE,
-            0,
-            0,
-        )),
+    match walks::sorts_at(x.file, at) {
+        Some((_, e)) => end_of(walks::some_lists(x, e, list, NOTHING)),
         None => 0,
     }
 }
@@ -93,11 +85,11 @@ pub fn first_fact(file: &[u8], at: usize) -> usize
 }
 
 // The place behind the fact at a place.
-pub fn fact_end(file: &[u8], arities: &[u8], ars: &[u8], at: usize) -> usize
-    requires { length file.now ≤ longest }
-    ensures { result ≡ place_of (fact file.now arities.now ars.now at) }
+pub fn fact_end(x: &RuleText, at: usize) -> usize
+    requires { length x.now.file.now ≤ longest }
+    ensures { result ≡ place_of (fact x.now.file.now x.now.arities.now x.now.ars.now at) }
 {
-    end_of(walks::one_fact(file, arities, ars, at, term::VARIABLE, 0, 0))
+    end_of(walks::one_fact(x, at, NOTHING))
 }
 
 // The symbol of the fact at a place.
@@ -108,16 +100,16 @@ pub fn symbol_of(file: &[u8], ars: &[u8], at: usize) -> usize
 }
 
 // The place of term j of the fact at a place.
-pub fn term_at(file: &[u8], arities: &[u8], ars: &[u8], at: usize, j: usize) -> usize
-    requires { length file.now ≤ longest }
-    ensures { result ≡ term_place file.now arities.now ars.now at j }
+pub fn term_at(x: &RuleText, at: usize, j: usize) -> usize
+    requires { length x.now.file.now ≤ longest }
+    ensures { result ≡ term_place x.now.file.now x.now.arities.now x.now.ars.now at j }
 {
-    match number::below(file, at, ars.len()) {
+    match number::below(x.file, at, x.ars.len()) {
         Some((_, e)) => {
             if j == 0 {
                 return e;
             }
-            end_of(walks::rule_terms(file, arities, e, j, term::VARIABLE, 0, 0))
+            end_of(walks::rule_terms(x, e, j, NOTHING))
         }
         None => 0,
     }

@@ -1,5 +1,5 @@
-// The walks over a rule: its terms, its facts, its lists. Each tells the place behind, and whether one test, by three numbers, holds.
-ghost use Rattle.std.specs.Prelude.{◌≡◌, ◌≤◌, ◌<◌, ◌+◌, length};
+// The walks over a rule: its terms, its facts, its lists. Each tells the place behind, and whether what is looked for stands in them.
+ghost use Rattle.std.specs.Prelude.{◌≡◌, ◌≤◌, ◌<◌, ◌+◌, length, ℕ, Bool, false, Option};
 ghost use Rattle.octets.specs.Limits.{longest};
 ghost use Rattle.term.specs.Tags.{variable_tag};
 ghost use Rattle.protocol.specs.Figures.{list_count};
@@ -7,154 +7,116 @@ ghost use Rattle.number.specs.Groups.{number_limit};
 ghost use Rattle.number.specs.Reading.{many, as_read, seen};
 ghost use Rattle.lists.specs.Lists.{any_by};
 ghost use Rattle.protocol.specs.Protocol.{rule_term, fact, facts, layout, rule};
-ghost use Rattle.protocol.specs.Protocol.Walks.{leaf_at, asks, rule_asks, fact_from, sorts_from, sorts_at, ended, closed};
+ghost use Rattle.protocol.specs.Protocol.Walks.{leaf_at, walks_on, asks, rule_asks, fact_from, sorts_from, sorts_at, ended, closed};
 
 use crate::figures;
 
-// A term of a rule, 64 symbols at most, and whether a leaf of that kind, from lo on and below hi, stands in it.
-fn rule_term(
-    file: &[u8],
-    arities: &[u8],
+// Where rules are read: the file, and the arities of its functions and of its fact symbols.
+#[derive(Clone, Copy)]
+pub struct RuleText<'a> {
+    pub file: &'a [u8],
+    pub arities: &'a [u8],
+    pub ars: &'a [u8],
+}
+
+// What is looked for: a leaf of one of the kinds 0 to 2, its number from lo on and below hi; or, of kind 3, such a fact symbol.
+#[derive(Clone, Copy)]
+pub struct Wanted {
+    pub kind: usize,
+    pub lo: usize,
+    pub hi: usize,
+}
+
+// What no rule has, for a walk that is only to tell the place behind.
+pub const NOTHING: Wanted = Wanted {
+    kind: term::VARIABLE,
+    lo: 0,
+    hi: 0,
+};
+
+// n steps, each from the place behind the one before: the place behind them all, and whether one of them found what is looked for.
+fn repeated<F: Fn(usize) -> Option<(usize, bool)>>(
     at: usize,
-    kind: usize,
-    lo: usize,
-    hi: usize,
+    n: usize,
+    step: F,
 ) -> Option<(usize, bool)>
-    requires { length file.now ≤ longest }
-    ensures { result ≡ seen (leaf_at kind lo hi) (rule_term file.now arities.now at) }
+    requires { F.IsAlwaysCallable step }
+    ensures { (g : ℕ → Option (ℕ × Bool)) → ((i : ℕ) (r : Option (ℕ × Bool)) → F.post step i r → r ≡ g i) → result ≡ walks_on g n false at }
 {
-    let w = term::walk_term(file, arities, at, kind, lo, hi)?;
-    if w.size < figures::RULE_SYMBOL_LIMIT {
-        Some((w.end, w.hit))
-    } else {
-        None
+    let mut i = at;
+    let mut found = false;
+    for _j in 0..n {
+        let (e, h) = step(i)?;
+        i = e;
+        found = found | h;
     }
+    Some((i, found))
+}
+
+// A term of a rule, 64 symbols at most.
+fn rule_term(x: &RuleText, at: usize, w: Wanted) -> Option<(usize, bool)>
+    requires { length x.now.file.now ≤ longest }
+    ensures { result ≡ seen (leaf_at w.kind w.lo w.hi) (rule_term x.now.file.now x.now.arities.now at) }
+{
+    let walk = term::walk_term(x.file, x.arities, at, w.kind, w.lo, w.hi)?;
+    if walk.size < figures::RULE_SYMBOL_LIMIT {
+        return Some((walk.end, walk.hit));
+    }
+    None
 }
 
 // n terms.
-pub fn rule_terms(
-    file: &[u8],
-    arities: &[u8],
-    at: usize,
-    n: usize,
-    kind: usize,
-    lo: usize,
-    hi: usize,
-) -> Option<(usize, bool)>
-    requires { length file.now ≤ longest }
-    ensures { result ≡ seen (any_by (leaf_at kind lo hi)) (many (rule_term file.now arities.now) n at) }
+pub fn rule_terms(x: &RuleText, at: usize, n: usize, w: Wanted) -> Option<(usize, bool)>
+    requires { length x.now.file.now ≤ longest }
+    ensures { result ≡ seen (any_by (leaf_at w.kind w.lo w.hi)) (many (rule_term x.now.file.now x.now.arities.now) n at) }
 {
-    let mut i = at;
-    let mut found = false;
-    for _j in 0..n {
-        let (e, h) = rule_term(file, arities, i, kind, lo, hi)?;
-        i = e;
-        found = found | h;
-    }
-    Some((i, found))
+    repeated(at, n, |i| rule_term(x, i, w))
 }
 
-// The terms of a fact of the symbol y; the test is of its terms (kinds 0 to 2) or of its symbol (3).
-fn fact_from(
-    file: &[u8],
-    arities: &[u8],
-    ars: &[u8],
-    y: usize,
-    at: usize,
-    kind: usize,
-    lo: usize,
-    hi: usize,
-) -> Option<(usize, bool)>
-    requires { (length file.now ≤ longest) × (y < length ars.now) }
-    ensures { result ≡ seen (asks kind lo hi) (fact_from file.now arities.now ars.now y at) }
+// The terms of a fact of the symbol y.
+fn fact_from(x: &RuleText, y: usize, at: usize, w: Wanted) -> Option<(usize, bool)>
+    requires { (length x.now.file.now ≤ longest) × (y < length x.now.ars.now) }
+    ensures { result ≡ seen (asks w.kind w.lo w.hi) (fact_from x.now.file.now x.now.arities.now x.now.ars.now y at) }
 {
-    let (e, h) = rule_terms(file, arities, at, ars[y] as usize, kind, lo, hi)?;
-    if kind < figures::SYMBOL_KIND {
+    let (e, h) = rule_terms(x, at, x.ars[y] as usize, w)?;
+    if w.kind < figures::SYMBOL_KIND {
         return Some((e, h));
     }
-    Some((e, !(y < lo) & (y < hi)))
+    Some((e, !(y < w.lo) & (y < w.hi)))
 }
 
 // A fact.
-pub fn one_fact(
-    file: &[u8],
-    arities: &[u8],
-    ars: &[u8],
-    at: usize,
-    kind: usize,
-    lo: usize,
-    hi: usize,
-) -> Option<(usize, bool)>
-    requires { length file.now ≤ longest }
-    ensures { result ≡ seen (asks kind lo hi) (fact file.now arities.now ars.now at) }
+pub fn one_fact(x: &RuleText, at: usize, w: Wanted) -> Option<(usize, bool)>
+    requires { length x.now.file.now ≤ longest }
+    ensures { result ≡ seen (asks w.kind w.lo w.hi) (fact x.now.file.now x.now.arities.now x.now.ars.now at) }
 {
-    let (y, e) = number::below(file, at, ars.len())?;
-    fact_from(file, arities, ars, y as usize, e, kind, lo, hi)
+    let (y, e) = number::below(x.file, at, x.ars.len())?;
+    fact_from(x, y as usize, e, w)
 }
 
 // n facts.
-pub fn some_facts(
-    file: &[u8],
-    arities: &[u8],
-    ars: &[u8],
-    at: usize,
-    n: usize,
-    kind: usize,
-    lo: usize,
-    hi: usize,
-) -> Option<(usize, bool)>
-    requires { length file.now ≤ longest }
-    ensures { result ≡ seen (any_by (asks kind lo hi)) (many (fact file.now arities.now ars.now) n at) }
+pub fn some_facts(x: &RuleText, at: usize, n: usize, w: Wanted) -> Option<(usize, bool)>
+    requires { length x.now.file.now ≤ longest }
+    ensures { result ≡ seen (any_by (asks w.kind w.lo w.hi)) (many (fact x.now.file.now x.now.arities.now x.now.ars.now) n at) }
 {
-    let mut i = at;
-    let mut found = false;
-    for _j in 0..n {
-        let (e, h) = one_fact(file, arities, ars, i, kind, lo, hi)?;
-        i = e;
-        found = found | h;
-    }
-    Some((i, found))
+    repeated(at, n, |i| one_fact(x, i, w))
 }
 
 // A count and that many facts: the premises, the actions or the conclusions of a rule.
-pub fn one_list(
-    file: &[u8],
-    arities: &[u8],
-    ars: &[u8],
-    at: usize,
-    kind: usize,
-    lo: usize,
-    hi: usize,
-) -> Option<(usize, bool)>
-    requires { length file.now ≤ longest }
-    ensures { result ≡ seen (any_by (asks kind lo hi)) (facts file.now arities.now ars.now at) }
+pub fn one_list(x: &RuleText, at: usize, w: Wanted) -> Option<(usize, bool)>
+    requires { length x.now.file.now ≤ longest }
+    ensures { result ≡ seen (any_by (asks w.kind w.lo w.hi)) (facts x.now.file.now x.now.arities.now x.now.ars.now at) }
 {
-    let (n, e) = number::below(file, at, figures::FACT_LIMIT)?;
-    some_facts(file, arities, ars, e, n as usize, kind, lo, hi)
+    let (n, e) = number::below(x.file, at, figures::FACT_LIMIT)?;
+    some_facts(x, e, n as usize, w)
 }
 
 // n lists of facts.
-pub fn some_lists(
-    file: &[u8],
-    arities: &[u8],
-    ars: &[u8],
-    at: usize,
-    n: usize,
-    kind: usize,
-    lo: usize,
-    hi: usize,
-) -> Option<(usize, bool)>
-    requires { length file.now ≤ longest }
-    ensures { result ≡ seen (any_by (any_by (asks kind lo hi))) (many (facts file.now arities.now ars.now) n at) }
+pub fn some_lists(x: &RuleText, at: usize, n: usize, w: Wanted) -> Option<(usize, bool)>
+    requires { length x.now.file.now ≤ longest }
+    ensures { result ≡ seen (any_by (any_by (asks w.kind w.lo w.hi))) (many (facts x.now.file.now x.now.arities.now x.now.ars.now) n at) }
 {
-    let mut i = at;
-    let mut found = false;
-    for _j in 0..n {
-        let (e, h) = one_list(file, arities, ars, i, kind, lo, hi)?;
-        i = e;
-        found = found | h;
-    }
-    Some((i, found))
+    repeated(at, n, |i| one_list(x, i, w))
 }
 
 // The sorts of n variables, which begin at a place.
@@ -177,52 +139,37 @@ pub fn sorts_at(file: &[u8], at: usize) -> Option<(u32, usize)>
     sorts_end(file, e, n)
 }
 
-// The layout of a rule, and whether the test holds of one of its facts.
-pub fn one_layout(
-    file: &[u8],
-    arities: &[u8],
-    ars: &[u8],
-    at: usize,
-    kind: usize,
-    lo: usize,
-    hi: usize,
-) -> Option<(usize, bool)>
-    requires { length file.now ≤ longest }
-    ensures { result ≡ seen (rule_asks kind lo hi) (layout file.now arities.now ars.now at) }
+// The layout of a rule, and whether what is looked for stands in one of its facts.
+pub fn one_layout(x: &RuleText, at: usize, w: Wanted) -> Option<(usize, bool)>
+    requires { length x.now.file.now ≤ longest }
+    ensures { result ≡ seen (rule_asks w.kind w.lo w.hi) (layout x.now.file.now x.now.arities.now x.now.ars.now at) }
 {
-    let (_, e) = sorts_at(file, at)?;
-    some_lists(file, arities, ars, e, figures::LISTS, kind, lo, hi)
+    let (_, e) = sorts_at(x.file, at)?;
+    some_lists(x, e, figures::LISTS, w)
 }
 
 // The three lists of a rule of n variables: no variable from n on stands in them.
-fn closed_lists(
-    file: &[u8],
-    arities: &[u8],
-    ars: &[u8],
-    at: usize,
-    n: usize,
-) -> Option<(usize, bool)>
-    requires { length file.now ≤ longest }
-    ensures { result ≡ closed (seen (any_by (any_by (asks variable_tag n number_limit))) (many (facts file.now arities.now ars.now) list_count at)) }
+fn closed_lists(x: &RuleText, at: usize, n: usize) -> Option<(usize, bool)>
+    requires { length x.now.file.now ≤ longest }
+    ensures { result ≡ closed (seen (any_by (any_by (asks variable_tag n number_limit))) (many (facts x.now.file.now x.now.arities.now x.now.ars.now) list_count at)) }
 {
-    let (e, h) = some_lists(
-        file,
-        arities,
-        ars,
-        at,
-        figures::LISTS,
-        term::VARIABLE,
-        n,
-        number::NUMBER_LIMIT,
-    )?;
-    if h { None } else { Some((e, false)) }
+    let undeclared = Wanted {
+        kind: term::VARIABLE,
+        lo: n,
+        hi: number::NUMBER_LIMIT,
+    };
+    let (e, h) = some_lists(x, at, figures::LISTS, undeclared)?;
+    if h {
+        return None;
+    }
+    Some((e, false))
 }
 
 // A rule: its layout, and each variable in it declared.
-pub fn one_rule(file: &[u8], arities: &[u8], ars: &[u8], at: usize) -> Option<(usize, bool)>
-    requires { length file.now ≤ longest }
-    ensures { result ≡ ended (rule file.now arities.now ars.now at) }
+pub fn one_rule(x: &RuleText, at: usize) -> Option<(usize, bool)>
+    requires { length x.now.file.now ≤ longest }
+    ensures { result ≡ ended (rule x.now.file.now x.now.arities.now x.now.ars.now at) }
 {
-    let (n, e) = sorts_at(file, at)?;
-    closed_lists(file, arities, ars, e, n as usize)
+    let (n, e) = sorts_at(x.file, at)?;
+    closed_lists(x, e, n as usize)
 }

@@ -1,14 +1,15 @@
 -- What code answers of a rule's terms, facts and lists: the place behind them, and whether one test holds of one of them.
-use Rattle.std.specs.Prelude.{Option, Some, None, ℕ, ◌≤◌, ◌<◌, List, Bool, true, false, ◌&&◌, not, ◌≡◌, refl, length, get_or, ltb}
+use Rattle.std.specs.Prelude.{Option, Some, None, ℕ, zero, suc, ◌+◌, ◌∷◌, ◌||◌, ◌≤◌, ◌<◌, List, Bool, true, false, ◌&&◌, not, ◌≡◌, refl, length, get_or, ltb}
 use Rattle.std.proofs.Math.Path.{ap, sym}
-use Rattle.std.proofs.Common.{ap₂, ◌∙◌, lt-ltb, le-ltb}
+use Rattle.std.proofs.Math.Bool.{or_assoc, or-false}
+use Rattle.std.proofs.Common.{arith, ap₂, ◌∙◌, lt-ltb, le-ltb}
 use Rattle.std.proofs.lemmas.Option.{some_pair_parts}
 use Rattle.protocol.specs.Figures.{most_variables, sort_count, list_count, symbol_kind, fact_limit, variable_limit, rule_symbol_limit}
-use Rattle.lists.specs.Choice.{pick, clash}
+use Rattle.lists.specs.Choice.{pick, cut_lt, clash}
 use Rattle.number.specs.Groups.{number_limit}
-use Rattle.number.specs.Reading.{Read, got, fault, and_then, below, many, counted, seen}
+use Rattle.number.specs.Reading.{Read, got, fault, and_then, read_number, below, many, counted, seen}
 use Rattle.lists.specs.Lists.{any_by}
-use Rattle.number.specs.Reading.Laws.{then_got, then_fault, then_same_at}
+use Rattle.number.specs.Reading.Laws.{cut_got, then_got, then_fault, then_same_at}
 use Rattle.number.specs.Reading.Many.{many_length, counted_got, counted_fault, Came}
 use Rattle.term.specs.Term.{Term, symbols}
 use Rattle.term.specs.Reader.{term}
@@ -32,6 +33,72 @@ asks kind lo hi f = pick (ltb kind symbol_kind) (leaf_in kind lo hi f) (symbol_i
 -- in one of the three lists of a rule
 abbrev pub rule_asks : ℕ → ℕ → ℕ → Rule → Bool
 rule_asks kind lo hi r = any_by (any_by (asks kind lo hi)) r.lists
+
+-- a number below n
+pub below_small : (file : List ℕ) (n at : ℕ) {v e : ℕ} → below file n at ≡ got v e → v < n
+unfolding below
+below_small file n at {v} {e} h =
+    cut_got (read_number file at) _ h (λ w d r g. cut_lt _ _ _ w n g (λ l k. let a : w ≡ v = cc in omega arith) (λ l k. clash (cc)))
+
+-- ── n walks, one behind the other ──
+abbrev pub then_walk : Option (ℕ × Bool) → (ℕ → Bool → Option (ℕ × Bool)) → Option (ℕ × Bool)
+then_walk (Some (e, b)) k = k e b
+then_walk None k = None
+
+-- the place behind them, and whether one of them found what is looked for
+unfoldable pub walks_on : (ℕ → Option (ℕ × Bool)) → ℕ → Bool → ℕ → Option (ℕ × Bool)
+walks_on step zero found at = Some (at, found)
+walks_on step (suc n) found at = then_walk (step at) (λ e b. walks_on step n (found || b) e)
+
+module _ (step : ℕ → Option (ℕ × Bool)) where
+  pub walks_end : (n : ℕ) (found : Bool) (at : ℕ) → n ≡ 0 → walks_on step n found at ≡ Some (at, found)
+  unfolding walks_on
+  walks_end zero found at h = refl
+  walks_end (suc n) found at h = absurd (omega arith)
+
+  pub walks_turn :
+      (n m : ℕ) (found : Bool) (at e : ℕ) (b : Bool) → n ≡ m + 1 → step at ≡ Some (e, b)
+      → walks_on step n found at ≡ walks_on step m (found || b) e
+  unfolding walks_on
+  walks_turn zero m found at e b h k = absurd (omega arith)
+  walks_turn (suc n) m found at e b h k =
+      let j : n ≡ m = omega arith in
+      ap (λ (o : Option (ℕ × Bool)). then_walk o (λ e b. walks_on step n (found || b) e)) k
+      ∙ ap (λ (i : ℕ). walks_on step i (found || b) e) j
+
+  pub walks_stop : (n : ℕ) (found : Bool) (at : ℕ) → 0 < n → step at ≡ None → walks_on step n found at ≡ None
+  unfolding walks_on
+  walks_stop zero found at h k = absurd (omega arith)
+  walks_stop (suc n) found at h k = ap (λ (o : Option (ℕ × Bool)). then_walk o (λ e b. walks_on step n (found || b) e)) k
+
+-- a step that passes over one thing passes over n
+module _ {A : Type 0} (q : A → Bool) (p : ℕ → Read A) where
+  abbrev or_seen : Bool → Read (List A) → Option (ℕ × Bool)
+  or_seen b (got xs e) = Some (e, b || any_by q xs)
+  or_seen b fault = None
+
+  or_none : (r : Read (List A)) → or_seen false r ≡ seen (any_by q) r
+  or_none (got xs e) = refl
+  or_none fault = refl
+
+  or_more : (b : Bool) (x : A) (r : Read (List A)) → or_seen (b || q x) r ≡ or_seen b (and_then r (λ xs f. got (x ∷ xs) f))
+  or_more b x (got xs e) = ap (λ (c : Bool). Some (e, c)) (or_assoc b (q x) (any_by q xs))
+  or_more b x fault = refl
+
+  or_turn :
+      (n : ℕ) (b : Bool) → ((c : Bool) (e : ℕ) → walks_on (λ i. seen q (p i)) n c e ≡ or_seen c (many p n e)) → (r : Read A)
+      → then_walk (seen q r) (λ e c. walks_on (λ i. seen q (p i)) n (b || c) e)
+      ≡ or_seen b (and_then r (λ x e. and_then (many p n e) (λ xs f. got (x ∷ xs) f)))
+  or_turn n b h (got x e) = h (b || q x) e ∙ or_more b x (many p n e)
+  or_turn n b h fault = refl
+
+  walks_or : (n : ℕ) (b : Bool) (at : ℕ) → walks_on (λ i. seen q (p i)) n b at ≡ or_seen b (many p n at)
+  unfolding walks_on many
+  walks_or zero b at = ap (λ (c : Bool). Some (at, c)) (sym (or-false b))
+  walks_or (suc n) b at = or_turn n b (λ c e. walks_or n c e) (p at)
+
+  pub walks_seen : (n at : ℕ) → walks_on (λ i. seen q (p i)) n false at ≡ seen (any_by q) (many p n at)
+  walks_seen n at = walks_or n false at ∙ or_none (many p n at)
 
 -- ── a term of a rule ──
 abbrev cut_walk : Option Walk → Option (ℕ × Bool)

@@ -3,18 +3,17 @@ use Rattle.protocol.specs.Figures.{arity_limit}
 use Rattle.protocol.specs.Index.{Slotted}
 use Rattle.protocol.specs.Index.Fill.{told_as, splice_all, slots_none}
 use Rattle.number.specs.Reading.Many.{counted_got, counted_fault}
-use Rattle.number.specs.Reading.Numbers.{below_inside}
 use Rattle.number.specs.Reading.{as_read, below}
 use mathlib.Core.Path.{ap, sym, ◌∙◌}
 use native.Mathlib.Omega.{arith}
+use Rattle.protocol.specs.Protocol.Walks.{below_small}
 use Rattle.protocol.proofs.index.functions.Goals as goal
 
 pub functions_from-requires : goal.functions_from-requires
 functions_from-requires c = (
   omega (
     arith,
-    (below_inside _ _ _ (λ i. (c.type_inv.file i).fits) _ _ (sym c.below.ensures ∙ ap as_read c.in_ok-n.was)
-        ).small,
+    below_small _ _ _ (sym c.below.ensures ∙ ap as_read c.in_ok-n.was),
   ),
   omega (arith, c.copy_into.auto),
   c.copy_into.ensures.wrote ∙ splice_all _ _ (omega arith) ∙ sym slots_none,

@@ -2,12 +2,12 @@
 use borrow.Author.Rules.{rules}
 use Rattle.protocol.specs.Index.Fill.{Slotting, slots_begin, slots_next}
 use Rattle.number.specs.Reading.Many.{many_stop}
-use Rattle.number.specs.Reading.Numbers.{below_inside}
 use Rattle.number.specs.Reading.{as_read}
 use mathlib.Core.Path.{◌≡◌, ap, sym, ◌∙◌, subst}
 use Prim.Native.Nat.{ℕ, ◌<◌}
 use lib.ListN.{length-set}
 use native.Mathlib.Omega.{arith}
+use Rattle.protocol.specs.Protocol.Walks.{below_small}
 use Rattle.protocol.proofs.index.functions_from.Goals as goal
 
 pub loop-j-init : goal.loop-j-init
@@ -16,7 +16,7 @@ loop-j-init c =
 
 pub overflow_cast-arities : goal.overflow_cast-arities
 overflow_cast-arities c =
-    omega (arith, (below_inside _ _ _ (λ i. (c.type_inv.file i).fits) _ _ (sym c.below.ensures ∙ ap as_read c.in_ok-v.was)).small)
+    omega (arith, below_small _ _ _ (sym c.below.ensures ∙ ap as_read c.in_ok-v.was))
 
 pub loop-j-preserved : goal.loop-j-preserved
 loop-j-preserved c =

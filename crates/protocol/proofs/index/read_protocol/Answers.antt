@@ -22,15 +22,15 @@ returns-in_err-no c =
     c.in_ok-e.e)
     (Tabled c.symbols.new.ars c.symbols.new.flags) c.in_err-no.was c.symbols.ensures.told))
 
-pub slice_bounds-rules-end : goal.slice_bounds-rules-end
-slice_bounds-rules-end c =
+pub slice_bounds-text-end : goal.slice_bounds-text-end
+slice_bounds-text-end c =
     let b : c.in_ok-no.no ≤ 32 = (told_value (counted c.args.file.now most_own (own c.args.file.now)
     c.in_ok-e.e)
     (Tabled c.symbols.new.ars c.symbols.new.flags) c.in_ok-no.was c.symbols.ensures.told).says.few in
     omega (arith, c.symbols.auto)
 
-pub slice_bounds-rules-end-2 : goal.slice_bounds-rules-end-2
-slice_bounds-rules-end-2 c =
+pub slice_bounds-text-end-2 : goal.slice_bounds-text-end-2
+slice_bounds-text-end-2 c =
     let b : c.in_ok-no.no ≤ 32 = (told_value (counted c.args.file.now most_own (own c.args.file.now) c.in_ok-e.e)
     (Tabled c.symbols.new.ars c.symbols.new.flags) c.in_ok-no.was c.symbols.ensures.told).says.few in
     simp length-take (omega (arith, c.symbols.auto))

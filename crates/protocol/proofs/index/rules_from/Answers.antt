@@ -19,10 +19,10 @@ pub loop-j-preserved : goal.loop-j-preserved
 loop-j-preserved c =
     let b : c.loop-j.j < length c.loop-j.places = omega arith in (
       simp length-set (omega arith),
-      places_more (rule c.args.file.now c.args.arities.now c.args.ars.now) c.args.at
+      places_more (rule c.args.x.now.file.now c.args.x.now.arities.now c.args.x.now.ars.now) c.args.at
           c.loop-j.j c.loop-j.i c.loop-j.places c.loop-j.invariant.1 c.loop-j.invariant.2 b,
       cut_seen (λ (x : Rule). false)
-          (rule c.args.file.now c.args.arities.now c.args.ars.now c.loop-j.i) (sym c.one_rule.ensures ∙ c.in_ok-e.was)
+          (rule c.args.x.now.file.now c.args.x.now.arities.now c.args.x.now.ars.now c.loop-j.i) (sym c.one_rule.ensures ∙ c.in_ok-e.was)
           (λ x g h. came_more _ _ _ _ _ x c.loop-j.invariant.2 g),
     )
 
@@ -31,21 +31,21 @@ returns-in_err-e c =
     record {
       kept = search rules;
       told = rw c.from_residual.ensures (came_stop _ _ _ _ _ c.loop-j.invariant.2 (cut_fault (λ (x : Rule). false)
-          (rule c.args.file.now c.args.arities.now c.args.ars.now c.loop-j.i)
+          (rule c.args.x.now.file.now c.args.x.now.arities.now c.args.x.now.ars.now c.loop-j.i)
           (sym c.one_rule.ensures ∙ c.in_err-e.was)) c.loop-j-test.true);
     }
 
 pub returns : goal.returns
 returns c =
     let m : c.loop-j.j ≡ c.args.n = omega arith in
-    let o : Came (rule c.args.file.now c.args.arities.now c.args.ars.now) c.args.at c.args.n c.loop-j.i = subst
-    (λ (k : ℕ). Came (rule c.args.file.now c.args.arities.now c.args.ars.now) c.args.at k c.loop-j.i) m
+    let o : Came (rule c.args.x.now.file.now c.args.x.now.arities.now c.args.x.now.ars.now) c.args.at c.args.n c.loop-j.i = subst
+    (λ (k : ℕ). Came (rule c.args.x.now.file.now c.args.x.now.arities.now c.args.x.now.ars.now) c.args.at k c.loop-j.i) m
     c.loop-j.invariant.2 in record {
       kept = search rules;
       told = record {
         item = o.items;
         there = o.there;
-        says = places_end (rule c.args.file.now c.args.arities.now c.args.ars.now)
+        says = places_end (rule c.args.x.now.file.now c.args.x.now.arities.now c.args.x.now.ars.now)
             c.args.at empty_rule c.args.n c.loop-j.i o.items c.loop-j.places o.there
             (λ k l. c.loop-j.invariant.1 k (omega arith));
       };

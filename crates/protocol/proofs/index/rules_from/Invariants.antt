@@ -8,4 +8,4 @@ use Rattle.protocol.proofs.index.rules_from.Given as goal
 
 abbrev pub invariant-loop-j : goal.invariant-loop-j
 invariant-loop-j l =
-    (length l.places ≡ length l.initial.places) × ((k : ℕ) → k < l.j → Came (rule l.file l.arities l.ars) l.at k (get_or l.places k 0)) × Came (rule l.file l.arities l.ars) l.at l.j l.i
+    (length l.places ≡ length l.initial.places) × ((k : ℕ) → k < l.j → Came (rule l.x.file.now l.x.arities.now l.x.ars.now) l.at k (get_or l.places k 0)) × Came (rule l.x.file.now l.x.arities.now l.x.ars.now) l.at l.j l.i

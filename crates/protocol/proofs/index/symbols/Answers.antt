@@ -3,16 +3,16 @@ use Rattle.protocol.specs.Index.{Tabled}
 use Rattle.protocol.specs.Index.Fill.{told_as}
 use Rattle.protocol.specs.Protocol.{own}
 use Rattle.number.specs.Reading.Many.{counted_got, counted_fault}
-use Rattle.number.specs.Reading.Numbers.{below_inside}
 use Rattle.number.specs.Reading.{as_read}
 use mathlib.Core.Path.{ap, sym, ◌∙◌}
 use native.Mathlib.Omega.{arith}
 use borrow.Author.Rules.{rules}
+use Rattle.protocol.specs.Protocol.Walks.{below_small}
 use Rattle.protocol.proofs.index.symbols.Goals as goal
 
 pub symbols_from-requires : goal.symbols_from-requires
 symbols_from-requires c = (
-  omega (arith, (below_inside _ _ _ (λ i. (c.type_inv.file i).fits) _ _ (sym c.below.ensures ∙ ap as_read c.in_ok-n.was)).small),
+  omega (arith, below_small _ _ _ (sym c.below.ensures ∙ ap as_read c.in_ok-n.was)),
   search
       rules,
   search rules,

@@ -6,5 +6,5 @@ use Rattle.protocol.proofs.places.fact_end.Goals as goal
 
 pub returns : goal.returns
 returns c =
-    end_walk (asks 0 0 0) (fact c.args.file.now c.args.arities.now c.args.ars.now c.args.at) c.end_of.ensures
+    end_walk (asks 0 0 0) (fact c.args.x.now.file.now c.args.x.now.arities.now c.args.x.now.ars.now c.args.at) c.end_of.ensures
     c.one_fact.ensures

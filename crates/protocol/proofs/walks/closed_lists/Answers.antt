@@ -13,18 +13,18 @@ pub returns-then-h : goal.returns-then-h
 unfolding number_limit
 returns-then-h c =
     ap (λ (b : Bool). pick b None (Some (c.in_ok-e.e, false))) (sym c.if-h.true) ∙ parts_by c.args.n
-    (many (facts c.args.file.now c.args.arities.now c.args.ars.now) 3 c.args.at) c.some_lists.ensures _ _
+    (many (facts c.args.x.now.file.now c.args.x.now.arities.now c.args.x.now.ars.now) 3 c.args.at) c.some_lists.ensures _ _
     c.in_ok-e.was
 
-pub returns-else-h : goal.returns-else-h
+pub returns : goal.returns
 unfolding number_limit
-returns-else-h c =
+returns c =
     ap (λ (b : Bool). pick b None (Some (c.in_ok-e.e, false))) (sym c.if-h.false) ∙ parts_by c.args.n
-    (many (facts c.args.file.now c.args.arities.now c.args.ars.now) 3 c.args.at) c.some_lists.ensures _ _
+    (many (facts c.args.x.now.file.now c.args.x.now.arities.now c.args.x.now.ars.now) 3 c.args.at) c.some_lists.ensures _ _
     c.in_ok-e.was
 
 pub returns-in_err-e : goal.returns-in_err-e
 unfolding number_limit
 returns-in_err-e c =
-    rw c.from_residual.ensures (ap closed (sym c.in_err-e.was) ∙ parts_closed c.args.n (many (facts c.args.file.now c.args.arities.now c.args.ars.now) 3
+    rw c.from_residual.ensures (ap closed (sym c.in_err-e.was) ∙ parts_closed c.args.n (many (facts c.args.x.now.file.now c.args.x.now.arities.now c.args.x.now.ars.now) 3
     c.args.at) c.some_lists.ensures)

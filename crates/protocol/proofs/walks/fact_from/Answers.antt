@@ -1,20 +1,15 @@
 -- The kind tells which test of the fact it is: of its terms, as walked, or of its symbol, as computed.
 use Rattle.protocol.specs.Protocol.Walks.{from_leaves, from_symbol, from_none}
 use mathlib.Core.Path.{sym, ◌∙◌}
-use native.Mathlib.Omega.{arith}
 use Rattle.protocol.proofs.walks.fact_from.Goals as goal
 
-pub overflow_cast-ars : goal.overflow_cast-ars
-overflow_cast-ars c =
-    omega (arith, c.type_inv.ars c.args.y)
-
-pub returns-then-kind-lt-SYMBOL_KIND : goal.returns-then-kind-lt-SYMBOL_KIND
-returns-then-kind-lt-SYMBOL_KIND c =
-    from_leaves _ _ _ _ _ _ _ _ c.if-kind-lt-SYMBOL_KIND.true (sym c.in_ok-e.was ∙ c.rule_terms.ensures)
+pub returns-then-w-lt-SYMBOL_KIND : goal.returns-then-w-lt-SYMBOL_KIND
+returns-then-w-lt-SYMBOL_KIND c =
+    from_leaves _ _ _ _ _ _ _ _ c.if-w-lt-SYMBOL_KIND.true (sym c.in_ok-e.was ∙ c.rule_terms.ensures)
 
 pub returns : goal.returns
 returns c =
-    from_symbol _ _ _ _ _ _ _ _ c.if-kind-lt-SYMBOL_KIND.false (sym c.in_ok-e.was ∙ c.rule_terms.ensures)
+    from_symbol _ _ _ _ _ _ _ _ c.if-w-lt-SYMBOL_KIND.false (sym c.in_ok-e.was ∙ c.rule_terms.ensures)
 
 pub returns-in_err-e : goal.returns-in_err-e
 returns-in_err-e c =

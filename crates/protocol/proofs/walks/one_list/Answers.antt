@@ -7,10 +7,10 @@ use Rattle.protocol.proofs.walks.one_list.Goals as goal
 
 pub returns : goal.returns
 returns c =
-    c.some_facts.ensures ∙ sym (ap (seen (any_by (asks c.args.kind c.args.lo c.args.hi)))
-    (facts_got _ c.args.arities.now c.args.ars.now _ (sym c.below.ensures ∙ ap as_read c.in_ok-n.was)))
+    c.some_facts.ensures ∙ sym (ap (seen (any_by (asks c.args.w.kind c.args.w.lo c.args.w.hi)))
+    (facts_got _ c.args.x.now.arities.now c.args.x.now.ars.now _ (sym c.below.ensures ∙ ap as_read c.in_ok-n.was)))
 
 pub returns-in_err-n : goal.returns-in_err-n
 returns-in_err-n c =
-    rw c.from_residual.ensures (sym (ap (seen (any_by (asks c.args.kind c.args.lo c.args.hi))) (facts_fault _ c.args.arities.now c.args.ars.now _
+    rw c.from_residual.ensures (sym (ap (seen (any_by (asks c.args.w.kind c.args.w.lo c.args.w.hi))) (facts_fault _ c.args.x.now.arities.now c.args.x.now.ars.now _
     (sym c.below.ensures ∙ ap as_read c.in_err-n.was))))

@@ -1,29 +1,13 @@
--- The invariant is that the first j terms were seen to end at i with this answer; each turn sees one more.
-use Rattle.number.specs.Reading.Many.{walk_none, walk_more, walk_stop}
-use Rattle.number.specs.Reading.{many, seen}
-use Rattle.lists.specs.Lists.{any_by}
-use Rattle.protocol.specs.Protocol.Walks.{leaf_at}
+-- A term after the other: what each call tells is what is seen of the term that reads there.
+use borrow.Author.Rules.{rules}
+use Rattle.number.specs.Reading.{seen}
 use Rattle.protocol.specs.Protocol.{rule_term}
-use mathlib.Core.Path.{◌≡◌, ap, sym, ◌∙◌}
-use Prim.Native.Nat.{ℕ}
-use native.Mathlib.Omega.{arith}
+use Rattle.protocol.specs.Protocol.Walks.{leaf_at, walks_seen}
+use mathlib.Core.Path.{◌∙◌}
 use Rattle.protocol.proofs.walks.rule_terms.Goals as goal
-
-pub loop-j-init : goal.loop-j-init
-loop-j-init c =
-    walk_none _ _ _
-
-pub loop-j-preserved : goal.loop-j-preserved
-loop-j-preserved c = walk_more (rule_term c.args.file.now c.args.arities.now) (leaf_at c.args.kind c.args.lo c.args.hi) _ _ _ _ _ _
-    c.loop-j.invariant (sym c.rule_term.ensures ∙ c.in_ok-e.was)
-
-pub returns-in_err-e : goal.returns-in_err-e
-returns-in_err-e c =
-    rw c.from_residual.ensures (sym (walk_stop (rule_term c.args.file.now c.args.arities.now) (leaf_at c.args.kind c.args.lo c.args.hi) _ _ _ _ _
-    c.loop-j.invariant (sym c.rule_term.ensures ∙ c.in_err-e.was) c.loop-j-test.true))
 
 pub returns : goal.returns
 returns c =
-    let m : c.loop-j._j ≡ c.args.n = omega arith in
-    sym (ap (λ (k : ℕ). seen (any_by (leaf_at c.args.kind c.args.lo c.args.hi))
-    (many (rule_term c.args.file.now c.args.arities.now) k c.args.at)) (sym m) ∙ c.loop-j.invariant)
+    c.repeated.ensures (λ i. seen (leaf_at c.args.w.kind c.args.w.lo c.args.w.hi) (rule_term c.args.x.now.file.now c.args.x.now.arities.now i))
+    (λ i r k. search rules) ∙ walks_seen (leaf_at c.args.w.kind c.args.w.lo c.args.w.hi)
+    (rule_term c.args.x.now.file.now c.args.x.now.arities.now) c.args.n c.args.at
