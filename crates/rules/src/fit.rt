@@ -13,10 +13,10 @@ ghost use Rattle.rules.specs.Fit.{bound, p45, fits, judged};
 ghost use Rattle.lists.specs.Below.{least, all_below};
 ghost use Rattle.rules.specs.Fit.Laws.{hit_of, OfRule, Located, unfit, found, verdict_of, Indexes};
 
-use protocol::figures::{ACTIONS, CONCLUSIONS, PREMISES, SYMBOL_KIND};
+use protocol::figures::{ACTIONS, CONCLUSIONS, PREMISES};
 use protocol::index::Counts;
+use protocol::walks::{RuleText, Wanted};
 use protocol::{figures, index, places, walks};
-use term::VARIABLE;
 
 // What makes a protocol file unfit: the least rule that breaks a condition, from 1; a layout fault.
 #[derive(Clone, Copy)]
@@ -43,62 +43,76 @@ pub struct RulePlaces {
     pub conclusions: usize,
 }
 
-// Whether a fact of the list at a place meets the test.
-fn list_asks(
-    file: &[u8],
-    arities: &[u8],
-    ars: &[u8],
-    start: usize,
-    kind: usize,
-    lo: usize,
-    hi: usize,
-) -> bool
-    requires { length file.now ≤ longest }
-    ensures { Promises (At (facts file.now arities.now ars.now) start) (λ (fs : List Fact). result ≡ any_by (asks kind lo hi) fs) }
+// What P1 to P3 allow nowhere, in no premise, in no conclusion.
+const A_FRESH_NAME: Wanted = Wanted {
+    kind: term::FRESH,
+    lo: 0,
+    hi: number::NUMBER_LIMIT,
+};
+
+const OUT_OR_K: Wanted = Wanted {
+    kind: figures::SYMBOL_KIND,
+    lo: figures::OUT,
+    hi: figures::PAST_K,
+};
+
+const FR_OR_IN: Wanted = Wanted {
+    kind: figures::SYMBOL_KIND,
+    lo: figures::FR,
+    hi: figures::OUT,
+};
+
+const A_K: Wanted = Wanted {
+    kind: figures::SYMBOL_KIND,
+    lo: figures::K,
+    hi: figures::PAST_K,
+};
+
+// Whether a fact of the list at a place has what is looked for.
+fn list_asks(text: &RuleText, start: usize, w: Wanted) -> bool
+    requires { length text.now.file.now ≤ longest }
+    ensures { Promises (At (facts text.now.file.now text.now.arities.now text.now.ars.now) start) (λ (fs : List Fact). result ≡ any_by (asks w.kind w.lo w.hi) fs) }
 {
-    hit_of(walks::one_list(file, arities, ars, start, kind, lo, hi))
+    hit_of(walks::one_list(text, start, w))
 }
 
-// Whether a fact of the rule at a place meets the test.
-fn rule_asks(
-    file: &[u8],
-    arities: &[u8],
-    ars: &[u8],
-    at: usize,
-    kind: usize,
-    lo: usize,
-    hi: usize,
-) -> bool
-    requires { length file.now ≤ longest }
-    ensures { OfRule file.now arities.now ars.now at (λ (r : Rule). result ≡ rule_asks kind lo hi r) }
+// Whether a fact of the rule at a place has what is looked for.
+fn rule_asks(text: &RuleText, at: usize, w: Wanted) -> bool
+    requires { length text.now.file.now ≤ longest }
+    ensures { OfRule text.now.file.now text.now.arities.now text.now.ars.now at (λ (r : Rule). result ≡ rule_asks w.kind w.lo w.hi r) }
 {
-    hit_of(walks::one_layout(file, arities, ars, at, kind, lo, hi))
+    hit_of(walks::one_layout(text, at, w))
 }
 
 // Whether variable v of a rule is of sort public, in a premise, or in no conclusion and no action.
-fn is_bound(file: &[u8], arities: &[u8], ars: &[u8], x: RulePlaces, v: u32) -> bool
-    requires { (length file.now ≤ longest) × Located file.now arities.now ars.now x }
-    ensures { OfRule file.now arities.now ars.now x.at (λ (r : Rule). v < length r.sorts → result ≡ bound r v) }
+fn is_bound(text: &RuleText, x: RulePlaces, v: u32) -> bool
+    requires { (length text.now.file.now ≤ longest) × Located text.now.file.now text.now.arities.now text.now.ars.now x }
+    ensures { OfRule text.now.file.now text.now.arities.now text.now.ars.now x.at (λ (r : Rule). v < length r.sorts → result ≡ bound r v) }
 {
-    if places::sort_of(file, x.at, v) == figures::PUBLIC_SORT {
+    if places::sort_of(text.file, x.at, v) == figures::PUBLIC_SORT {
         return true;
     }
     let n = v as usize;
-    if list_asks(file, arities, ars, x.premises, VARIABLE, n, n + 1) {
+    let it = Wanted {
+        kind: term::VARIABLE,
+        lo: n,
+        hi: n + 1,
+    };
+    if list_asks(text, x.premises, it) {
         return true;
     }
-    let below = list_asks(file, arities, ars, x.conclusions, VARIABLE, n, n + 1);
-    let beside = list_asks(file, arities, ars, x.actions, VARIABLE, n, n + 1);
+    let below = list_asks(text, x.conclusions, it);
+    let beside = list_asks(text, x.actions, it);
     !below & !beside
 }
 
 // The same for the first n variables.
-fn all_bound(file: &[u8], arities: &[u8], ars: &[u8], x: RulePlaces, n: u32) -> bool
-    requires { (length file.now ≤ longest) × Located file.now arities.now ars.now x }
-    ensures { OfRule file.now arities.now ars.now x.at (λ (r : Rule). n ≤ length r.sorts → result ≡ all_below (bound r) n) }
+fn all_bound(text: &RuleText, x: RulePlaces, n: u32) -> bool
+    requires { (length text.now.file.now ≤ longest) × Located text.now.file.now text.now.arities.now text.now.ars.now x }
+    ensures { OfRule text.now.file.now text.now.arities.now text.now.ars.now x.at (λ (r : Rule). n ≤ length r.sorts → result ≡ all_below (bound r) n) }
 {
     for j in 0..n {
-        if !is_bound(file, arities, ars, x, j) {
+        if !is_bound(text, x, j) {
             return false;
         }
     }
@@ -106,69 +120,45 @@ fn all_bound(file: &[u8], arities: &[u8], ars: &[u8], x: RulePlaces, n: u32) -> 
 }
 
 // P4 and P5 of a rule.
-fn variables_bound(file: &[u8], arities: &[u8], ars: &[u8], x: RulePlaces) -> bool
-    requires { (length file.now ≤ longest) × Located file.now arities.now ars.now x }
-    ensures { OfRule file.now arities.now ars.now x.at (λ (r : Rule). result ≡ p45 r) }
+fn variables_bound(text: &RuleText, x: RulePlaces) -> bool
+    requires { (length text.now.file.now ≤ longest) × Located text.now.file.now text.now.arities.now text.now.ars.now x }
+    ensures { OfRule text.now.file.now text.now.arities.now text.now.ars.now x.at (λ (r : Rule). result ≡ p45 r) }
 {
-    match walks::sorts_at(file, x.at) {
-        Some((n, _)) => all_bound(file, arities, ars, x, n),
+    match walks::sorts_at(text.file, x.at) {
+        Some((n, _)) => all_bound(text, x, n),
         None => false,
     }
 }
 
 // P1 to P5 of the rule at a place. The places of its lists are found once.
-fn rule_fits(file: &[u8], arities: &[u8], ars: &[u8], at: usize) -> bool
-    requires { length file.now ≤ longest }
-    ensures { OfRule file.now arities.now ars.now at (λ (r : Rule). result ≡ fits r) }
+fn rule_fits(text: &RuleText, at: usize) -> bool
+    requires { length text.now.file.now ≤ longest }
+    ensures { OfRule text.now.file.now text.now.arities.now text.now.ars.now at (λ (r : Rule). result ≡ fits r) }
 {
-    let above = places::list_at(file, arities, ars, at, PREMISES);
-    let beside = places::list_at(file, arities, ars, at, ACTIONS);
-    let below = places::list_at(file, arities, ars, at, CONCLUSIONS);
+    let above = places::list_at(text, at, PREMISES);
+    let beside = places::list_at(text, at, ACTIONS);
+    let below = places::list_at(text, at, CONCLUSIONS);
     let x = RulePlaces {
         at: at,
         premises: above,
         actions: beside,
         conclusions: below,
     };
-    let fresh = rule_asks(file, arities, ars, at, term::FRESH, 0, number::NUMBER_LIMIT);
-    let known = list_asks(
-        file,
-        arities,
-        ars,
-        above,
-        SYMBOL_KIND,
-        figures::OUT,
-        figures::PAST_K,
-    );
-    let made = list_asks(
-        file,
-        arities,
-        ars,
-        below,
-        SYMBOL_KIND,
-        figures::FR,
-        figures::OUT,
-    );
-    let learnt = list_asks(
-        file,
-        arities,
-        ars,
-        below,
-        SYMBOL_KIND,
-        figures::K,
-        figures::PAST_K,
-    );
-    let held = variables_bound(file, arities, ars, x);
+    let fresh = rule_asks(text, at, A_FRESH_NAME);
+    let known = list_asks(text, above, OUT_OR_K);
+    let made = list_asks(text, below, FR_OR_IN);
+    let learnt = list_asks(text, below, A_K);
+    let held = variables_bound(text, x);
     !fresh & (!known & ((!made & !learnt) & held))
 }
 
-// The least of n rules that breaks a condition, counted from 1.
-fn least_unfit(file: &[u8], arities: &[u8], ars: &[u8], places: &[usize], n: usize) -> Option<usize>
-    requires { (length file.now ≤ longest) × (n ≤ length places.now) }
-    ensures { (rs : List Rule) → Placed (rule file.now arities.now ars.now) empty_rule places.now rs n → result ≡ found (least (unfit rs) n) }
+// The least of the rules at these places that breaks a condition, counted from 1.
+fn least_unfit(text: &RuleText, places: &[usize]) -> Option<usize>
+    requires { length text.now.file.now ≤ longest }
+    ensures { (rs : List Rule) → Placed (rule text.now.file.now text.now.arities.now text.now.ars.now) empty_rule places.now rs (length places.now) → result ≡ found (least (unfit rs) (length places.now)) }
 {
-    for j in 0..n {
-        if !rule_fits(file, arities, ars, places[j]) {
+    for j in 0..places.len() {
+        if !rule_fits(text, places[j]) {
             return Some(j + 1);
         }
     }
@@ -188,7 +178,12 @@ pub fn judge(
     ensures index { Indexes file.now result arities.new ars.new flags.new places.new }
 {
     let counts = index::read_protocol(file, arities, ars, flags, places).ok_or(Unfit::Fault)?;
-    match least_unfit(file, arities, &ars[..counts.symbols], places, counts.rules) {
+    let text = RuleText {
+        file: file,
+        arities: arities,
+        ars: &ars[..counts.symbols],
+    };
+    match least_unfit(&text, &places[..counts.rules]) {
         Some(k) => Err(Unfit::Broken(k)),
         None => Ok(counts),
     }

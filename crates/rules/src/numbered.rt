@@ -135,11 +135,10 @@ fn apply_rule(arities: &[u8], t: usize, out: &mut [u8]) -> Option<FoundRule>
 }
 
 // The place of a protocol rule.
-fn own_rule(places: &[usize], n: usize, k: usize) -> Option<FoundRule>
-    requires { n ≤ length places.now }
-    ensures { result ≡ place_found places.now n k }
+fn own_rule(places: &[usize], k: usize) -> Option<FoundRule>
+    ensures { result ≡ place_found places.now (length places.now) k }
 {
-    if k < n {
+    if k < places.len() {
         Some(FoundRule::At(places[k]))
     } else {
         None
@@ -161,18 +160,17 @@ pub fn slot_of(n: usize) -> usize
 pub fn find_rule(
     arities: &[u8],
     places: &[usize],
-    nr: usize,
     number: usize,
     out: &mut [u8],
 ) -> Option<FoundRule>
-    requires { (length arities.now ≡ tag_count) × (nr ≤ length places.now) × (rule_room ≤ length out.old) }
-    ensures { (file : List ℕ) (ns : ℕ) (ars flags : List ℕ) (i : Entries file ns nr arities.now ars flags places.now) → Finds i.is file arities.now (take ns ars) number result out.new }
+    requires { (length arities.now ≡ tag_count) × (rule_room ≤ length out.old) }
+    ensures { (file : List ℕ) (ns : ℕ) (ars flags : List ℕ) (i : Entries file ns (length places.now) arities.now ars flags places.now) → Finds i.is file arities.now (take ns ars) number result out.new }
 {
     match number {
         0..=LAST_FIXED => Some(FoundRule::Written(put_fixed(out, number))),
         FIRST_APPLY..=LAST_BUILTIN => apply_rule(arities, number - TAG_SHIFT, out),
         FIRST_FREE..=LAST_FREE => apply_rule(arities, number - TAG_SHIFT, out),
-        FIRST_OWN..=LAST_OWN => own_rule(places, nr, number - FIRST_OWN),
+        FIRST_OWN..=LAST_OWN => own_rule(places, number - FIRST_OWN),
         FIRST_SIGNING..=LAST_SIGNING => apply_rule(arities, number - SIGNING_SHIFT, out),
         _ => None,
     }

@@ -1,6 +1,7 @@
 -- The tests of a rule as the code makes them, the least of several, and the judgement of a file.
 use Rattle.std.specs.Prelude.{Option, Some, None, Result, Ok, Err, ℕ, ◌+◌, ◌≤◌, ◌<◌, List, Bool, true, false, ◌||◌, ◌&&◌, not, ◌≡◌, refl, length, get_or, take, eqb}
 use Rattle.std.proofs.Common.{ap, ap₂, sym, ◌∙◌, subst, arith, eq-eqb, ne_eqb}
+use lib.Seq.{length-take-le, get_or-take}
 use Rattle.number.specs.Groups.{number_limit}
 use Rattle.protocol.specs.Figures.{list_count}
 use Rattle.lists.specs.Choice.{pick, clash}
@@ -101,6 +102,17 @@ module _ (file arities ars : List ℕ) (at : ℕ) where
   none_there P n r h = let k = layout_fault file arities ars at n in let g = h.reads in clash (cc)
 
 -- ── the rules of a file ──
+-- they stand at the first n places
+pub placed_front :
+    {p : ℕ → Read Rule} (places : List ℕ) (rs : List Rule) (n : ℕ) → n ≤ length places → Placed p empty_rule places rs n
+    → Placed p empty_rule (take n places) rs (length (take n places))
+placed_front places rs n h placed =
+    let m : length (take n places) ≡ n = length-take-le n places h in
+    record {
+      count = placed.count ∙ sym m;
+      each = λ k l. rw (get_or-take n places k 0 (omega arith)) (placed.each k (omega arith));
+    }
+
 -- whether the rule of number k breaks a condition
 abbrev pub unfit : List Rule → ℕ → Bool
 unfit rs k = not (fits (get_or rs k empty_rule))
@@ -150,10 +162,13 @@ module _ (file arities ars flags places : List ℕ) where
 
   pub judged_is :
       {ns nr : ℕ} {o : Option ℕ} (i : Entries file ns nr arities ars flags places)
-      → ((rs : List Rule) → Placed (rule file arities (take ns ars)) empty_rule places rs nr → o ≡ found (least (unfit rs) nr))
+      → nr ≤ length places
+      → ((rs : List Rule) → Placed (rule file arities (take ns ars)) empty_rule (take nr places) rs (length (take nr places))
+      → o ≡ found (least (unfit rs) (length (take nr places))))
       → outcome_of o ≡ judged (protocol file)
-  judged_is {ns} {nr} i h =
-      ap outcome_of (h i.is.rules i.placed ∙ ap (λ (m : ℕ). found (least (unfit i.is.rules) m)) (sym i.placed.count))
+  judged_is {ns} {nr} i l h =
+      let placed = placed_front places i.is.rules nr l i.placed in
+      ap outcome_of (h i.is.rules placed ∙ ap (λ (m : ℕ). found (least (unfit i.is.rules) m)) (sym placed.count))
       ∙ outcome_found (least (unfit i.is.rules) (length i.is.rules))
       ∙ sym (ap judged i.reads)
 

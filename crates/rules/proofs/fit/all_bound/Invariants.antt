@@ -11,4 +11,4 @@ use Rattle.rules.proofs.fit.all_bound.Given as goal
 
 abbrev pub invariant-loop-j : goal.invariant-loop-j
 invariant-loop-j l =
-    OfRule l.file l.arities l.ars l.x.at (λ (r : Rule). l.n ≤ length r.sorts → all_below (bound r) l.j ≡ true)
+    OfRule l.text.file.now l.text.arities.now l.text.ars.now l.x.at (λ (r : Rule). l.n ≤ length r.sorts → all_below (bound r) l.j ≡ true)

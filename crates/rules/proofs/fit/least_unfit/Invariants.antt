@@ -5,8 +5,9 @@ use Rattle.protocol.specs.Index.{Placed}
 use Rattle.protocol.specs.Protocol.{Rule, empty_rule, rule}
 use mathlib.Core.Path.{◌≡◌}
 use mathlib.Core.List.{List}
+use lib.ListN.{length}
 use Rattle.rules.proofs.fit.least_unfit.Given as goal
 
 abbrev pub invariant-loop-j : goal.invariant-loop-j
 invariant-loop-j l =
-    ((rs : List Rule) → Placed (rule l.file l.arities l.ars) empty_rule l.places rs l.n → least (unfit rs) l.j ≡ 0)
+    ((rs : List Rule) → Placed (rule l.text.file.now l.text.arities.now l.text.ars.now) empty_rule l.places rs (length l.places) → least (unfit rs) l.j ≡ 0)

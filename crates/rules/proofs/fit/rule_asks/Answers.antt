@@ -4,5 +4,5 @@ use Rattle.rules.proofs.fit.rule_asks.Goals as goal
 
 pub returns : goal.returns
 returns c =
-    rule_asked c.args.file.now c.args.arities.now c.args.ars.now c.args.at c.args.kind c.args.lo c.args.hi
+    rule_asked c.args.text.now.file.now c.args.text.now.arities.now c.args.text.now.ars.now c.args.at c.args.w.kind c.args.w.lo c.args.w.hi
     c.hit_of.ensures c.one_layout.ensures

@@ -15,10 +15,10 @@ variables_bound-held-requires c =
 pub returns : goal.returns
 unfolding number_limit
 returns c =
-    λ r h. ap₂ ◌&&◌ (fresh_asked c.args.file.now c.args.arities.now c.args.ars.now c.args.at _ r (c.rule_asks-fresh.ensures r h))
-    (ap₂ ◌&&◌ (ap not (asked_of c.args.file.now c.args.arities.now c.args.ars.now c.args.at 0 _ (any_by (asks 3 2 4))
+    λ r h. ap₂ ◌&&◌ (fresh_asked c.args.text.now.file.now c.args.text.now.arities.now c.args.text.now.ars.now c.args.at _ r (c.rule_asks-fresh.ensures r h))
+    (ap₂ ◌&&◌ (ap not (asked_of c.args.text.now.file.now c.args.text.now.arities.now c.args.text.now.ars.now c.args.at 0 _ (any_by (asks 3 2 4))
     (omega arith) c.list_at-above.ensures c.list_asks-known.ensures r h)) (ap₂ ◌&&◌
-    (ap₂ ◌&&◌ (ap not (asked_of c.args.file.now c.args.arities.now c.args.ars.now c.args.at 2 _ (any_by (asks 3 0 2))
+    (ap₂ ◌&&◌ (ap not (asked_of c.args.text.now.file.now c.args.text.now.arities.now c.args.text.now.ars.now c.args.at 2 _ (any_by (asks 3 0 2))
     (omega arith) c.list_at-below.ensures c.list_asks-made.ensures r h))
-    (ap not (asked_of c.args.file.now c.args.arities.now c.args.ars.now c.args.at 2 _ (any_by (asks 3 3 4)) (omega arith)
+    (ap not (asked_of c.args.text.now.file.now c.args.text.now.arities.now c.args.text.now.ars.now c.args.at 2 _ (any_by (asks 3 3 4)) (omega arith)
     c.list_at-below.ensures c.list_asks-learnt.ensures r h))) (c.variables_bound-held.ensures r h)))

@@ -9,10 +9,10 @@ use Rattle.rules.proofs.fit.variables_bound.Goals as goal
 
 pub returns-in-Some : goal.returns-in-Some
 returns-in-Some c =
-    all_is c.args.file.now c.args.arities.now c.args.ars.now c.args.x.at _ _ _
+    all_is c.args.text.now.file.now c.args.text.now.arities.now c.args.text.now.ars.now c.args.x.at _ _ _
     (sym c.sorts_at.ensures ∙ ap as_read c.in-Some.is) c.all_bound.ensures
 
 pub returns-in-None : goal.returns-in-None
 returns-in-None c =
-    none_there c.args.file.now c.args.arities.now c.args.ars.now c.args.x.at (λ (r : Rule). false ≡ p45 r)
+    none_there c.args.text.now.file.now c.args.text.now.arities.now c.args.text.now.ars.now c.args.x.at (λ (r : Rule). false ≡ p45 r)
     (sym c.sorts_at.ensures ∙ ap as_read c.in-None.is)

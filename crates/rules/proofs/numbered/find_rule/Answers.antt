@@ -7,6 +7,7 @@ use Rattle.rules.specs.Numbered.Writing.{put_holds}
 use Rattle.rules.specs.Numbered.Map.{number_apply, number_own, number_signing, number_nothing}
 use Rattle.rules.specs.Numbered.Slots.{slot_own, slot_own_signing}
 use Rattle.rules.specs.Numbered.Found.{of_number, of_fixed, finds_applied, finds_own}
+use lib.ListN.{length}
 use Rattle.rules.proofs.numbered.find_rule.Goals as goal
 
 pub returns-in-0-to-4 : goal.returns-in-0-to-4
@@ -38,7 +39,7 @@ returns-in-15-to-30 c =
 pub returns-in-31-to-94 : goal.returns-in-31-to-94
 returns-in-31-to-94 c =
     λ file ns ars flags i. finds_own i.is c.args.number file c.args.arities.now (take ns ars) c.args.out.now c.args.places.now
-    c.args.nr i.placed (number_own c.args.number (omega arith) (omega arith)) c.own_rule.result c.own_rule.ensures
+    (length c.args.places.now) i.placed (number_own c.args.number (omega arith) (omega arith)) c.own_rule.result c.own_rule.ensures
 
 pub returns-in-95-to-100 : goal.returns-in-95-to-100
 returns-in-95-to-100 c =
