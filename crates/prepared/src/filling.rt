@@ -39,10 +39,8 @@ fn linears_into(out: &mut [u8], flags: &[u8])
     requires { length flags.now ≤ length out.old }
     ensures { out.new ≡ splice out.old 0 (map linear flags.now) }
 {
-    let mut i = 0;
-    while i < flags.len() {
+    for i in 0..flags.len() {
         out[i] = linear_of(flags[i]);
-        i += 1;
     }
 }
 
@@ -76,12 +74,12 @@ fn put_rule(p: &mut [u8], n: usize, rule: &[u8])
 }
 
 // A rule number: its rule is written out, or stands in the file, or there is none.
-fn enter_rule(p: &mut [u8], n: usize, arities: &[u8], places: &[usize], nr: usize)
-    requires { (n < rule_count) × (length p.old ≡ body_length) × (length arities.now ≡ slot_count) × (nr ≤ length places.now) × Source arities.now places.now nr }
-    ensures { (f : Source arities.now places.now nr) → Enters f p.old p.new n }
+fn enter_rule(p: &mut [u8], n: usize, arities: &[u8], places: &[usize])
+    requires { (n < rule_count) × (length p.old ≡ body_length) × (length arities.now ≡ slot_count) × Source arities.now places.now (length places.now) }
+    ensures { (f : Source arities.now places.now (length places.now)) → Enters f p.old p.new n }
 {
     let mut own = [0u8; rules::numbered::RULE_ROOM];
-    match rules::numbered::find_rule(arities, places, nr, n, &mut own) {
+    match rules::numbered::find_rule(arities, places, n, &mut own) {
         Some(FoundRule::Written(len)) => put_rule(p, n, &own[..len]),
         Some(FoundRule::At(k)) => put_place(p, n, sections::FILE + k),
         None => put_place(p, n, 0),
@@ -89,32 +87,24 @@ fn enter_rule(p: &mut [u8], n: usize, arities: &[u8], places: &[usize], nr: usiz
 }
 
 // All rule numbers.
-fn enter_rules(p: &mut [u8], arities: &[u8], places: &[usize], nr: usize)
-    requires { (length p.old ≡ body_length) × (length arities.now ≡ slot_count) × (nr ≤ length places.now) × Source arities.now places.now nr }
-    ensures { (f : Source arities.now places.now nr) → Rows f p.old p.new rule_count }
+fn enter_rules(p: &mut [u8], arities: &[u8], places: &[usize])
+    requires { (length p.old ≡ body_length) × (length arities.now ≡ slot_count) × Source arities.now places.now (length places.now) }
+    ensures { (f : Source arities.now places.now (length places.now)) → Rows f p.old p.new rule_count }
 {
     for n in 0..sections::RULE_COUNT {
-        enter_rule(p, n, arities, places, nr);
+        enter_rule(p, n, arities, places);
     }
 }
 
 // All sections, from the tables of a protocol file.
-fn lay(
-    p: &mut [u8],
-    file: &[u8],
-    arities: &[u8],
-    ars: &[u8],
-    flags: &[u8],
-    places: &[usize],
-    nr: usize,
-)
-    requires { (length p.old ≡ body_length) × (nr ≤ length places.now) × Laid file.now arities.now ars.now flags.now places.now nr }
-    ensures { (l : Laid file.now arities.now ars.now flags.now places.now nr) → Body p.new l.source.entries.is }
+fn lay(p: &mut [u8], file: &[u8], arities: &[u8], ars: &[u8], flags: &[u8], places: &[usize])
+    requires { (length p.old ≡ body_length) × Laid file.now arities.now ars.now flags.now places.now (length places.now) }
+    ensures { (l : Laid file.now arities.now ars.now flags.now places.now (length places.now)) → Body p.new l.source.entries.is }
 {
     octets::copy_into(p, 0, arities);
     put_padded(p, sections::ARITIES, ars);
     put_linears(p, flags);
-    enter_rules(p, arities, places, nr);
+    enter_rules(p, arities, places);
     octets::copy_into(p, sections::FILE, file);
 }
 
@@ -136,8 +126,7 @@ pub fn prepare_body(file: &[u8], p: &mut [u8]) -> Result<Counts, Unfit>
         &arities,
         &ars[..n],
         &flags[..n],
-        &places,
-        counts.rules,
+        &places[..counts.rules],
     );
     Ok(counts)
 }

@@ -11,6 +11,7 @@ ghost use Rattle.prepared.specs.Prepared.{slots_of, arities_of, place_at, Body, 
 ghost use Rattle.prepared.specs.Finding.{Finds};
 
 use crate::{pairs, sections};
+use protocol::walks::RuleText;
 
 // The place in the table; 0 for none.
 pub fn place_of(p: &[u8], number: usize) -> usize
@@ -32,18 +33,24 @@ pub fn rule_place(p: &[u8], number: usize) -> Option<usize>
     if place == 0 { None } else { Some(place) }
 }
 
+// What the rules of a prepared protocol are read by: its bytes, and its two tables of arities.
+fn text_of(p: &[u8]) -> RuleText<'_>
+    requires { body_length ≤ length p.now }
+    ensures { (result.file.now ≡ p.now) × (result.arities.now ≡ slots_of p.now) × (result.ars.now ≡ arities_of p.now) }
+{
+    RuleText {
+        file: p,
+        arities: &p[..sections::ARITIES],
+        ars: &p[sections::ARITIES..sections::LINEARS],
+    }
+}
+
 // The place of a list of the rule at a place: 0 premises, 1 actions, 2 conclusions.
 pub fn list_at(p: &[u8], place: usize, list: usize) -> usize
     requires { (body_length ≤ length p.now) × (length p.now ≤ longest) }
     ensures { result ≡ list_place p.now (slots_of p.now) (arities_of p.now) place list }
 {
-    protocol::places::list_at(
-        p,
-        &p[..sections::ARITIES],
-        &p[sections::ARITIES..sections::LINEARS],
-        place,
-        list,
-    )
+    protocol::places::list_at(&text_of(p), place, list)
 }
 
 // The place of the first fact of the list at a place.
@@ -58,12 +65,7 @@ pub fn fact_end(p: &[u8], fact: usize) -> usize
     requires { (body_length ≤ length p.now) × (length p.now ≤ longest) }
     ensures { result ≡ place_of (prepared_fact p.now fact) }
 {
-    protocol::places::fact_end(
-        p,
-        &p[..sections::ARITIES],
-        &p[sections::ARITIES..sections::LINEARS],
-        fact,
-    )
+    protocol::places::fact_end(&text_of(p), fact)
 }
 
 // The symbol of the fact at a place.
@@ -79,7 +81,7 @@ pub fn arity_of(p: &[u8], symbol: usize) -> usize
     requires { (symbol < symbol_count) × (body_length ≤ length p.now) }
     ensures { result ≡ get_or (arities_of p.now) symbol 0 }
 {
-    pairs::wide(p[sections::ARITIES + symbol])
+    usize::from(p[sections::ARITIES + symbol])
 }
 
 // The place of term j of the fact at a place.
@@ -87,11 +89,5 @@ pub fn term_at(p: &[u8], fact: usize, j: usize) -> usize
     requires { (body_length ≤ length p.now) × (length p.now ≤ longest) }
     ensures { result ≡ term_place p.now (slots_of p.now) (arities_of p.now) fact j }
 {
-    protocol::places::term_at(
-        p,
-        &p[..sections::ARITIES],
-        &p[sections::ARITIES..sections::LINEARS],
-        fact,
-        j,
-    )
+    protocol::places::term_at(&text_of(p), fact, j)
 }

@@ -5,18 +5,12 @@ ghost use Rattle.prepared.specs.Pairs.{pair_at, paired};
 
 use crate::sections;
 
-pub fn wide(x: u8) -> usize
-    ensures { (result ≡ x) × (result < place_base) }
-{
-    x as usize
-}
-
 // The place that stands at one.
 pub fn read(p: &[u8], at: usize) -> usize
     requires { (at + 1 < length p.now) × (at < prepared_length) }
     ensures { result ≡ pair_at p.now at }
 {
-    wide(p[at]) * sections::PLACE_BASE + wide(p[at + 1])
+    usize::from(p[at]) * sections::PLACE_BASE + usize::from(p[at + 1])
 }
 
 // A place is written at one.

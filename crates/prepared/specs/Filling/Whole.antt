@@ -14,7 +14,8 @@ use Rattle.protocol.specs.Protocol.Limits.{RuleWithin, Within}
 use Rattle.protocol.specs.Protocol.Limits.Parts.{FactWithin, FactsWithin}
 use Rattle.protocol.specs.Protocol.Exact.{rule_exact, few_arities}
 use Rattle.protocol.specs.Index.{Entries}
-use Rattle.rules.specs.Fit.Laws.{Indexes}
+use lib.Seq.{length-take-le}
+use Rattle.rules.specs.Fit.Laws.{Indexes, placed_front}
 use Rattle.protocol.specs.declared.index.Counts.{Counts}
 use Rattle.rules.specs.declared.fit.Unfit.{Unfit}
 use Rattle.rules.specs.Numbered.{rule_of}
@@ -211,9 +212,27 @@ module _ {file arities ars flags places : List ℕ} {nr : ℕ} (l : Laid file ar
   laid_file = omega (arith, ap length l.file_is, l.source.short)
 
 -- ── a fit protocol's file ──
+-- its index, with no more places than there are rules
+entries_front :
+    {s arities ars flags : List ℕ} {ns : ℕ} (places : List ℕ) (nr : ℕ) → nr ≤ length places → Entries s ns nr arities ars flags places
+    → Entries s ns (length (take nr places)) arities ars flags (take nr places)
+entries_front places nr h e =
+    record {
+      is = e.is;
+      reads = e.reads;
+      within = e.within;
+      slotted = e.slotted;
+      tabled = e.tabled;
+      flagged = e.flagged;
+      count = e.count;
+      few_symbols = e.few_symbols;
+      few_rules = omega (arith, e.few_rules, length-take-le nr places h);
+      placed = placed_front places e.is.rules nr h e.placed;
+    }
+
 module _ (s arities ars flags places : List ℕ) (r : Result Counts Unfit) (c : Counts) (is : r ≡ Ok c) (index : Indexes s r arities ars flags places)
     (bytes : Bytes s)
-    (short : length s ≤ file_limit) where
+    (short : length s ≤ file_limit) (room : 64 ≤ length places) where
   entries : Entries s c.symbols c.rules arities ars flags places
   entries = subst (λ (q : Result Counts Unfit). Indexes s q arities ars flags places) is index
 
@@ -223,15 +242,26 @@ module _ (s arities ars flags places : List ℕ) (r : Result Counts Unfit) (c : 
   pub sound_rules : c.rules ≤ 64
   sound_rules = entries.few_rules
 
-  pub sound_laid : Laid s arities (take c.symbols ars) (take c.symbols flags) places c.rules
+  pub sound_laid : Laid s arities (take c.symbols ars) (take c.symbols flags) (take c.rules places) (length (take c.rules places))
+  unfolding entries_front entries
   sound_laid = record {
-    source = record { file = s; ns = c.symbols; ars = ars; flags = flags; entries = entries; bytes = bytes; short = short };
+    source = record {
+      file = s;
+      ns = c.symbols;
+      ars = ars;
+      flags = flags;
+      entries = entries_front places c.rules (omega (arith, entries.few_rules)) entries;
+      bytes = bytes;
+      short = short;
+    };
     file_is = refl;
     ars_are = entries.tabled;
     flags_are = entries.flagged;
   }
 
   pub sound_body :
-      (p : List ℕ) → ((l : Laid s arities (take c.symbols ars) (take c.symbols flags) places c.rules) → Body p l.source.entries.is) → BodyAs s c.rules p
-  unfolding entries sound_laid
+      (p : List ℕ)
+      → ((l : Laid s arities (take c.symbols ars) (take c.symbols flags) (take c.rules places) (length (take c.rules places))) → Body p l.source.entries.is)
+      → BodyAs s c.rules p
+  unfolding entries_front entries sound_laid
   sound_body p h = record { its = entries.is; reads = entries.reads; is = h sound_laid; count = entries.placed.count }

@@ -8,35 +8,35 @@ use Rattle.prepared.proofs.filling.enter_rule.Goals as goal
 
 pub slice_bounds-own-end : goal.slice_bounds-own-end
 slice_bounds-own-end c =
-    let f = c.requires.4 in
+    let f = c.requires.3 in
     let w = as_written f c.args.n c.requires.0 c.find_rule.result c.find_rule.new.out
     (c.find_rule.ensures f.file f.ns f.ars f.flags f.entries) (c.in-Some-Written.is ∙ ap Some c.in-Some-Written.field-0-is) in
     omega (arith, w.holds.short, c.find_rule.auto.out)
 
 pub slice_bounds-put_rule-end : goal.slice_bounds-put_rule-end
 slice_bounds-put_rule-end c =
-    let f = c.requires.4 in
+    let f = c.requires.3 in
     let w = as_written f c.args.n c.requires.0 c.find_rule.result c.find_rule.new.out
     (c.find_rule.ensures f.file f.ns f.ars f.flags f.entries) (c.in-Some-Written.is ∙ ap Some c.in-Some-Written.field-0-is) in
     sym (length-take-le _ _ w.holds.short)
 
 pub put_rule-requires : goal.put_rule-requires
 put_rule-requires c =
-    let f = c.requires.4 in
+    let f = c.requires.3 in
     let w = as_written f c.args.n c.requires.0 c.find_rule.result c.find_rule.new.out
     (c.find_rule.ensures f.file f.ns f.ars f.flags f.entries) (c.in-Some-Written.is ∙ ap Some c.in-Some-Written.field-0-is) in
     (c.requires.0, w.has_slot, c.requires.1, written_few w c.find_rule.auto.out)
 
 pub overflow_add-k : goal.overflow_add-k
 overflow_add-k c =
-    let f = c.requires.4 in
+    let f = c.requires.3 in
     let k = place_small f c.args.n c.requires.0 _ (as_placed f c.args.n c.requires.0 c.find_rule.result c.find_rule.new.out
     (c.find_rule.ensures f.file f.ns f.ars f.flags f.entries) (c.in-Some-At.is ∙ ap Some c.in-Some-At.field-0-is)) in
     omega (arith, k)
 
 pub put_place-requires : goal.put_place-requires
 put_place-requires c =
-    let f = c.requires.4 in
+    let f = c.requires.3 in
     let k = place_small f c.args.n c.requires.0 _ (as_placed f c.args.n c.requires.0 c.find_rule.result c.find_rule.new.out
     (c.find_rule.ensures f.file f.ns f.ars f.flags f.entries) (c.in-Some-At.is ∙ ap Some c.in-Some-At.field-0-is)) in
     (c.requires.0, c.requires.1, k)

@@ -6,4 +6,4 @@ use Rattle.prepared.proofs.filling.enter_rules.Given as goal
 
 abbrev pub invariant-loop-n : goal.invariant-loop-n
 invariant-loop-n l =
-    (length l.p ≡ length l.initial.p) × ((f : Source l.arities l.places l.nr) → Rows f l.initial.p l.p l.n)
+    (length l.p ≡ length l.initial.p) × ((f : Source l.arities l.places (length l.places)) → Rows f l.initial.p l.p l.n)

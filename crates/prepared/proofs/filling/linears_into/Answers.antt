@@ -14,17 +14,16 @@ use Rattle.prepared.proofs.filling.linears_into.Goals as goal
 
 pub loop-i-init : goal.loop-i-init
 loop-i-init c =
-    (search rules, search rules, sym (splice_nil _ _))
+    (search rules, sym (splice_nil _ _))
 
 pub loop-i-preserved : goal.loop-i-preserved
 loop-i-preserved c = (
-  search rules,
-  simp length-set c.loop-i.invariant.1,
-  linear_more c.args.out.now _ c.args.flags.now _ (omega arith) c.requires c.loop-i.invariant.2
+  simp length-set c.loop-i.invariant.0,
+  linear_more c.args.out.now _ c.args.flags.now _ (omega arith) c.requires c.loop-i.invariant.1
       _ c.linear_of.ensures,
 )
 
 pub returns : goal.returns
 returns c =
-    c.loop-i.invariant.2 ∙ ap (λ (l : List ℕ). splice c.args.out.now 0 (map linear l))
-    (take_all c.loop-i.i c.args.flags.now c.loop-i-test.false)
+    c.loop-i.invariant.1 ∙ ap (λ (l : List ℕ). splice c.args.out.now 0 (map linear l))
+    (take_all c.loop-i.i c.args.flags.now (omega arith))

@@ -2,15 +2,10 @@
 use Rattle.prepared.specs.Prepared.{linear}
 use Rattle.octets.specs.Splice.{splice}
 use lib.ListN.{length, take}
-use Prim.Native.Nat.{◌-◌, ◌≤◌}
 use mathlib.Core.List.{map}
 use mathlib.Core.Path.{◌≡◌}
 use Rattle.prepared.proofs.filling.linears_into.Given as goal
 
 abbrev pub invariant-loop-i : goal.invariant-loop-i
 invariant-loop-i l =
-    (l.i ≤ length l.flags) × (length l.out ≡ length l.initial.out) × (l.out ≡ splice l.initial.out 0 (map linear (take l.i l.flags)))
-
-abbrev pub decreases-loop-i : goal.decreases-loop-i
-decreases-loop-i l =
-    length l.flags - l.i
+    (length l.out ≡ length l.initial.out) × (l.out ≡ splice l.initial.out 0 (map linear (take l.i l.flags)))

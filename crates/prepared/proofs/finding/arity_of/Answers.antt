@@ -7,4 +7,4 @@ use Rattle.prepared.proofs.finding.arity_of.Goals as goal
 
 pub returns : goal.returns
 returns c =
-    c.wide.ensures.0 ∙ sym (part_at c.args.p.now arities_at symbol_count c.args.symbol c.requires.0)
+    c.from.ensures ∙ sym (part_at c.args.p.now arities_at symbol_count c.args.symbol c.requires.0)
