@@ -4,10 +4,8 @@ use protocol::figures;
 // As many as there are rule numbers.
 pub const RULE_COUNT: usize = rules::numbered::NUMBERS;
 
-// The bytes of a place, and the base of its two bytes.
+// The bytes of a place.
 pub const PLACE_BYTES: usize = 2;
-
-pub const PLACE_BASE: usize = 256;
 
 // "Protocol (4,096 bytes)"
 pub const FILE_LIMIT: usize = 4096;

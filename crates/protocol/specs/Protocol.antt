@@ -18,6 +18,8 @@ pub mod Limits
 pub mod Exact
 -- what code answers of a rule's terms, facts and lists
 pub mod Walks
+-- of a text that code has
+pub mod Text
 
 -- ── abstract syntax ──
 -- "A fact is its symbol and terms"

@@ -5,7 +5,8 @@ ghost use Rattle.term.specs.Tags.{most_functions, tag_count};
 ghost use Rattle.protocol.specs.Figures.{most_own, symbol_count, most_rules, arity_limit};
 ghost use Rattle.number.specs.Reading.{below, many, counted};
 ghost use Rattle.term.specs.Arity.{tag_arities};
-ghost use Rattle.protocol.specs.Protocol.{empty_rule, rule, own};
+ghost use Rattle.protocol.specs.Protocol.{empty_rule, own};
+ghost use Rattle.protocol.specs.Protocol.Text.{rule_in};
 ghost use Rattle.protocol.specs.Index.{Told, Slotted, Tabled, Placed, Indexed};
 ghost use Rattle.protocol.specs.Index.Fill.{as_own};
 
@@ -96,7 +97,7 @@ fn symbols(file: &[u8], at: usize, ars: &mut [u8], flags: &mut [u8]) -> Option<(
 fn rules_from(x: &RuleText, at: usize, n: u32, places: &mut [usize]) -> Option<(u32, usize)>
     requires { (length x.now.file.now ≤ longest) × (n ≤ most_rules) × (most_rules ≤ length places.old) }
     ensures kept { length places.new ≡ length places.old }
-    ensures told { let p = rule x.now.file.now x.now.arities.now x.now.ars.now in Told (many p n at) (Placed p empty_rule places.new) result }
+    ensures told { Told (many (rule_in x.now) n at) (Placed (rule_in x.now) empty_rule places.new) result }
 {
     let mut i = at;
     for j in 0..n {
@@ -110,7 +111,7 @@ fn rules_from(x: &RuleText, at: usize, n: u32, places: &mut [usize]) -> Option<(
 fn rules(x: &RuleText, at: usize, places: &mut [usize]) -> Option<(u32, usize)>
     requires { (length x.now.file.now ≤ longest) × (most_rules ≤ length places.old) }
     ensures kept { length places.new ≡ length places.old }
-    ensures told { let p = rule x.now.file.now x.now.arities.now x.now.ars.now in Told (counted x.now.file.now most_rules p at) (Placed p empty_rule places.new) result }
+    ensures told { Told (counted x.now.file.now most_rules (rule_in x.now) at) (Placed (rule_in x.now) empty_rule places.new) result }
 {
     let (n, e) = number::below(x.file, at, figures::RULE_LIMIT)?;
     rules_from(x, e, n, places)

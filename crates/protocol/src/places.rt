@@ -1,9 +1,10 @@
-// The places in a rule: its lists, their facts, their terms; its variables and their sorts.
+// The places in a rule: its lists, their facts, their terms; its variables and their sorts. Where nothing stands the answer is 0, as the
+// clauses say (`place_of`, `value_of`): no function here may fail, for its callers ask only of rules that were read.
 ghost use Rattle.std.specs.Prelude.{◌≡◌, ◌≤◌, length};
 ghost use Rattle.octets.specs.Limits.{longest};
 ghost use Rattle.protocol.specs.Figures.{fact_limit, variable_limit};
 ghost use Rattle.number.specs.Reading.{below};
-ghost use Rattle.protocol.specs.Protocol.{fact};
+ghost use Rattle.protocol.specs.Protocol.Text.{fact_in};
 ghost use Rattle.protocol.specs.Places.{place_of, value_of, sort_of, list_place, term_place};
 ghost use Rattle.protocol.specs.Places.Ends.{end_of, sort_from};
 
@@ -87,7 +88,7 @@ pub fn first_fact(file: &[u8], at: usize) -> usize
 // The place behind the fact at a place.
 pub fn fact_end(x: &RuleText, at: usize) -> usize
     requires { length x.now.file.now ≤ longest }
-    ensures { result ≡ place_of (fact x.now.file.now x.now.arities.now x.now.ars.now at) }
+    ensures { result ≡ place_of (fact_in x.now at) }
 {
     end_of(walks::one_fact(x, at, NOTHING))
 }

@@ -6,8 +6,8 @@ ghost use Rattle.protocol.specs.Figures.{list_count};
 ghost use Rattle.number.specs.Groups.{number_limit};
 ghost use Rattle.number.specs.Reading.{many, as_read, seen};
 ghost use Rattle.lists.specs.Lists.{any_by};
-ghost use Rattle.protocol.specs.Protocol.{rule_term, fact, facts, layout, rule};
-ghost use Rattle.protocol.specs.Protocol.Walks.{leaf_at, walks_on, asks, rule_asks, fact_from, sorts_from, sorts_at, ended, closed};
+ghost use Rattle.protocol.specs.Protocol.Walks.{walks_on, asks, fact_from, sorts_from, sorts_at, ended, closed};
+ghost use Rattle.protocol.specs.Protocol.Text.{term_in, fact_in, facts_in, layout_in, rule_in, leaf_for, asks_for, rule_asks_for};
 
 use crate::figures;
 
@@ -48,7 +48,7 @@ fn repeated<F: Fn(usize) -> Option<(usize, bool)>>(
     for _j in 0..n {
         let (e, h) = step(i)?;
         i = e;
-        found = found | h;
+        found |= h;
     }
     Some((i, found))
 }
@@ -56,7 +56,7 @@ fn repeated<F: Fn(usize) -> Option<(usize, bool)>>(
 // A term of a rule, 64 symbols at most.
 fn rule_term(x: &RuleText, at: usize, w: Wanted) -> Option<(usize, bool)>
     requires { length x.now.file.now ≤ longest }
-    ensures { result ≡ seen (leaf_at w.kind w.lo w.hi) (rule_term x.now.file.now x.now.arities.now at) }
+    ensures { result ≡ seen (leaf_for w) (term_in x.now at) }
 {
     let walk = term::walk_term(x.file, x.arities, at, w.kind, w.lo, w.hi)?;
     if walk.size < figures::RULE_SYMBOL_LIMIT {
@@ -65,10 +65,10 @@ fn rule_term(x: &RuleText, at: usize, w: Wanted) -> Option<(usize, bool)>
     None
 }
 
-// n terms.
+// n terms of a rule.
 pub fn rule_terms(x: &RuleText, at: usize, n: usize, w: Wanted) -> Option<(usize, bool)>
     requires { length x.now.file.now ≤ longest }
-    ensures { result ≡ seen (any_by (leaf_at w.kind w.lo w.hi)) (many (rule_term x.now.file.now x.now.arities.now) n at) }
+    ensures { result ≡ seen (any_by (leaf_for w)) (many (term_in x.now) n at) }
 {
     repeated(at, n, |i| rule_term(x, i, w))
 }
@@ -76,7 +76,7 @@ pub fn rule_terms(x: &RuleText, at: usize, n: usize, w: Wanted) -> Option<(usize
 // The terms of a fact of the symbol y.
 fn fact_from(x: &RuleText, y: usize, at: usize, w: Wanted) -> Option<(usize, bool)>
     requires { (length x.now.file.now ≤ longest) × (y < length x.now.ars.now) }
-    ensures { result ≡ seen (asks w.kind w.lo w.hi) (fact_from x.now.file.now x.now.arities.now x.now.ars.now y at) }
+    ensures { result ≡ seen (asks_for w) (fact_from x.now.file.now x.now.arities.now x.now.ars.now y at) }
 {
     let (e, h) = rule_terms(x, at, x.ars[y] as usize, w)?;
     if w.kind < figures::SYMBOL_KIND {
@@ -88,7 +88,7 @@ fn fact_from(x: &RuleText, y: usize, at: usize, w: Wanted) -> Option<(usize, boo
 // A fact.
 pub fn one_fact(x: &RuleText, at: usize, w: Wanted) -> Option<(usize, bool)>
     requires { length x.now.file.now ≤ longest }
-    ensures { result ≡ seen (asks w.kind w.lo w.hi) (fact x.now.file.now x.now.arities.now x.now.ars.now at) }
+    ensures { result ≡ seen (asks_for w) (fact_in x.now at) }
 {
     let (y, e) = number::below(x.file, at, x.ars.len())?;
     fact_from(x, y as usize, e, w)
@@ -97,7 +97,7 @@ pub fn one_fact(x: &RuleText, at: usize, w: Wanted) -> Option<(usize, bool)>
 // n facts.
 pub fn some_facts(x: &RuleText, at: usize, n: usize, w: Wanted) -> Option<(usize, bool)>
     requires { length x.now.file.now ≤ longest }
-    ensures { result ≡ seen (any_by (asks w.kind w.lo w.hi)) (many (fact x.now.file.now x.now.arities.now x.now.ars.now) n at) }
+    ensures { result ≡ seen (any_by (asks_for w)) (many (fact_in x.now) n at) }
 {
     repeated(at, n, |i| one_fact(x, i, w))
 }
@@ -105,7 +105,7 @@ pub fn some_facts(x: &RuleText, at: usize, n: usize, w: Wanted) -> Option<(usize
 // A count and that many facts: the premises, the actions or the conclusions of a rule.
 pub fn one_list(x: &RuleText, at: usize, w: Wanted) -> Option<(usize, bool)>
     requires { length x.now.file.now ≤ longest }
-    ensures { result ≡ seen (any_by (asks w.kind w.lo w.hi)) (facts x.now.file.now x.now.arities.now x.now.ars.now at) }
+    ensures { result ≡ seen (any_by (asks_for w)) (facts_in x.now at) }
 {
     let (n, e) = number::below(x.file, at, figures::FACT_LIMIT)?;
     some_facts(x, e, n as usize, w)
@@ -114,7 +114,7 @@ pub fn one_list(x: &RuleText, at: usize, w: Wanted) -> Option<(usize, bool)>
 // n lists of facts.
 pub fn some_lists(x: &RuleText, at: usize, n: usize, w: Wanted) -> Option<(usize, bool)>
     requires { length x.now.file.now ≤ longest }
-    ensures { result ≡ seen (any_by (any_by (asks w.kind w.lo w.hi))) (many (facts x.now.file.now x.now.arities.now x.now.ars.now) n at) }
+    ensures { result ≡ seen (any_by (any_by (asks_for w))) (many (facts_in x.now) n at) }
 {
     repeated(at, n, |i| one_list(x, i, w))
 }
@@ -142,7 +142,7 @@ pub fn sorts_at(file: &[u8], at: usize) -> Option<(u32, usize)>
 // The layout of a rule, and whether what is looked for stands in one of its facts.
 pub fn one_layout(x: &RuleText, at: usize, w: Wanted) -> Option<(usize, bool)>
     requires { length x.now.file.now ≤ longest }
-    ensures { result ≡ seen (rule_asks w.kind w.lo w.hi) (layout x.now.file.now x.now.arities.now x.now.ars.now at) }
+    ensures { result ≡ seen (rule_asks_for w) (layout_in x.now at) }
 {
     let (_, e) = sorts_at(x.file, at)?;
     some_lists(x, e, figures::LISTS, w)
@@ -151,7 +151,7 @@ pub fn one_layout(x: &RuleText, at: usize, w: Wanted) -> Option<(usize, bool)>
 // The three lists of a rule of n variables: no variable from n on stands in them.
 fn closed_lists(x: &RuleText, at: usize, n: usize) -> Option<(usize, bool)>
     requires { length x.now.file.now ≤ longest }
-    ensures { result ≡ closed (seen (any_by (any_by (asks variable_tag n number_limit))) (many (facts x.now.file.now x.now.arities.now x.now.ars.now) list_count at)) }
+    ensures { result ≡ closed (seen (any_by (any_by (asks variable_tag n number_limit))) (many (facts_in x.now) list_count at)) }
 {
     let undeclared = Wanted {
         kind: term::VARIABLE,
@@ -168,7 +168,7 @@ fn closed_lists(x: &RuleText, at: usize, n: usize) -> Option<(usize, bool)>
 // A rule: its layout, and each variable in it declared.
 pub fn one_rule(x: &RuleText, at: usize) -> Option<(usize, bool)>
     requires { length x.now.file.now ≤ longest }
-    ensures { result ≡ ended (rule x.now.file.now x.now.arities.now x.now.ars.now at) }
+    ensures { result ≡ ended (rule_in x.now at) }
 {
     let (n, e) = sorts_at(x.file, at)?;
     closed_lists(x, e, n as usize)

@@ -4,10 +4,10 @@ ghost use Rattle.octets.specs.Limits.{longest};
 ghost use Rattle.term.specs.Tags.{tag_count};
 ghost use Rattle.protocol.specs.Figures.{symbol_count, most_rules};
 ghost use Rattle.lists.specs.Lists.{any_by};
-ghost use Rattle.protocol.specs.Protocol.{Fact, Rule, empty_rule, facts, rule, protocol};
+ghost use Rattle.protocol.specs.Protocol.{Fact, Rule, empty_rule, protocol};
 ghost use Rattle.protocol.specs.Places.{At};
 ghost use Rattle.lists.specs.Asks.{Promises};
-ghost use Rattle.protocol.specs.Protocol.Walks.{asks, rule_asks};
+ghost use Rattle.protocol.specs.Protocol.Text.{facts_in, rule_in, asks_for, rule_asks_for};
 ghost use Rattle.protocol.specs.Index.{Placed};
 ghost use Rattle.rules.specs.Fit.{bound, p45, fits, judged};
 ghost use Rattle.lists.specs.Below.{least, all_below};
@@ -71,7 +71,7 @@ const A_K: Wanted = Wanted {
 // Whether a fact of the list at a place has what is looked for.
 fn list_asks(text: &RuleText, start: usize, w: Wanted) -> bool
     requires { length text.now.file.now ≤ longest }
-    ensures { Promises (At (facts text.now.file.now text.now.arities.now text.now.ars.now) start) (λ (fs : List Fact). result ≡ any_by (asks w.kind w.lo w.hi) fs) }
+    ensures { Promises (At (facts_in text.now) start) (λ (fs : List Fact). result ≡ any_by (asks_for w) fs) }
 {
     hit_of(walks::one_list(text, start, w))
 }
@@ -79,7 +79,7 @@ fn list_asks(text: &RuleText, start: usize, w: Wanted) -> bool
 // Whether a fact of the rule at a place has what is looked for.
 fn rule_asks(text: &RuleText, at: usize, w: Wanted) -> bool
     requires { length text.now.file.now ≤ longest }
-    ensures { OfRule text.now.file.now text.now.arities.now text.now.ars.now at (λ (r : Rule). result ≡ rule_asks w.kind w.lo w.hi r) }
+    ensures { OfRule text.now.file.now text.now.arities.now text.now.ars.now at (λ (r : Rule). result ≡ rule_asks_for w r) }
 {
     hit_of(walks::one_layout(text, at, w))
 }
@@ -155,7 +155,7 @@ fn rule_fits(text: &RuleText, at: usize) -> bool
 // The least of the rules at these places that breaks a condition, counted from 1.
 fn least_unfit(text: &RuleText, places: &[usize]) -> Option<usize>
     requires { length text.now.file.now ≤ longest }
-    ensures { (rs : List Rule) → Placed (rule text.now.file.now text.now.arities.now text.now.ars.now) empty_rule places.now rs (length places.now) → result ≡ found (least (unfit rs) (length places.now)) }
+    ensures { (rs : List Rule) → Placed (rule_in text.now) empty_rule places.now rs (length places.now) → result ≡ found (least (unfit rs) (length places.now)) }
 {
     for j in 0..places.len() {
         if !rule_fits(text, places[j]) {

@@ -89,12 +89,10 @@ fn put_variables(out: &mut [u8], at: usize, lead: &[u8], k: u8) -> usize
     ensures { Put out.old at out.new result (variable_bytes lead.now 0 k) }
 {
     let mut end = at;
-    let mut i: u8 = 0;
-    while i < k {
+    for i in 0..k {
         end = octets::copy_into(out, end, lead);
         out[end] = i;
         end += 1;
-        i += 1;
     }
     end
 }

@@ -26,4 +26,4 @@ loop-i-preserved c =
 
 pub returns : goal.returns
 returns c =
-    variables_all _ _ _ _ _ _ _ c.loop-i.invariant c.loop-i-test.false
+    variables_all _ _ _ _ _ _ _ c.loop-i.invariant (omega arith)
