@@ -1,33 +1,14 @@
--- Where a case of the input lies.
-use Rattle.std.specs.Prelude.{◌≡◌, ℕ, ◌+◌, ◌≤◌}
+-- The input of a test program, and the cases in it.
+use Rattle.std.specs.Prelude.{◌+◌, ◌≡◌, length, drop, slice_index, Option, IfSome}
 use Rattle.case_file.specs.declared.Case.{Case}
-use Rattle.case_file.specs.declared.Range.{Range}
+use Rattle.case_file.specs.declared.Cases.{Cases}
 
--- the values of a byte, the bytes of a length, and the room for the input
-abbrev pub byte : ℕ
-byte = 256
+-- a case is the first of those that are left, and behind it these are
+pub record IsFirst (left : Cases) (c : Case) (behind : Cases) : Type 0 where
+  pub number : c.number ≡ left.before + 1
+  pub kind : slice_index left.rest.now 0 ≡ c.kind
+  pub before : behind.before ≡ c.number
+  pub rest : drop (5 + length c.under.now + length c.bytes.now) left.rest.now ≡ behind.rest.now
 
-abbrev pub length_bytes : ℕ
-length_bytes = 2
-
-abbrev pub room : ℕ
-room = 65536
-
-pub record Inside (r : Range) : Type 0 where
-  pub order : r.from ≤ r.end
-  pub fits : r.end ≤ room
-
--- a part that starts at or behind a place and ends within what was read
-pub record Behind (at read : ℕ) (r : Range) : Type 0 where
-  pub inside : Inside r
-  pub starts : at ≤ r.from
-  pub ends : r.end ≤ read
-
--- a case that starts at a place; its number is small, since each case before it takes a byte
-pub record CaseAt (at : ℕ) (c : Case) : Type 0 where
-  pub place : c.at ≡ at
-  pub under : Inside c.under
-  pub bytes : Inside c.bytes
-  pub next : c.next ≤ c.read
-  pub read : c.read ≤ room
-  pub small : c.number ≤ at + 1
+abbrev pub Follows : Cases → Option Case → Cases → Type 0
+Follows left o behind = IfSome o (λ c. IsFirst left c behind)

@@ -1,4 +1,6 @@
 -- The cases of a test program's standard input.
 
--- where a case lies
+-- how long the input is
+pub mod Room
+-- which case comes next
 pub mod Case

@@ -1,194 +1,115 @@
-// What the test programs share: the cases of standard input, and what they print.
+// What the test programs share: the cases of standard input, and how a refusal is shown.
 // The input is a case behind the other: 0 for a number, 1 for a term, 2 for a step list, 3 for a graph, 4 for a property; the length of what
 // the case is read under, and that: the arity of each free function, or a protocol file; the length of the bytes; the bytes. Those of a
 // property are the length of its file, its file, and a step list. A length is two bytes, low byte first.
 #![tactic(auto)]
 
-ghost use Rattle.std.specs.Prelude.{◌≡◌, ◌≤◌, ◌<◌, ◌+◌, length, IfOk, OnErr};
-ghost use Rattle.case_file.specs.Case.{byte, length_bytes, room, Inside, Behind, CaseAt};
+ghost use Rattle.std.specs.Prelude.{◌≡◌, ◌≤◌, ◌+◌, ◌++◌, ◌<◌, ◌*◌, length, drop, slice_index, vec_len, IfOk, IfSome, MatchOption};
+ghost use Rattle.std.specs.Iterator.{at_most};
+ghost use Rattle.case_file.specs.Room.{room};
 
 use std::io;
 use std::io::Read;
 
 // The room for the input.
-pub const ROOM: usize = 65536;
+const ROOM: usize = 65536;
 
-// The kind of a case that is a number.
-pub const NUMBER: u8 = 0;
-
-// The bytes of a length.
-const LENGTH: usize = 2;
-
-// The values of a byte.
-const BYTE: usize = 256;
-
-// A part of the input: where it begins and ends.
+// A case of the input: its number from 1, its kind, what it is read under, and its bytes.
 #[derive(Clone, Copy)]
-pub struct Range {
-    pub from: usize,
-    pub end: usize,
-}
-
-// The case at a place of the input, of which so much was read: its number from 1, its kind, what it is read under, its bytes, and where
-// the next one begins. Where no whole case is left, that is the same place.
-#[derive(Clone, Copy)]
-pub struct Case {
+pub struct Case<'a> {
     pub number: usize,
-    pub at: usize,
     pub kind: u8,
-    pub under: Range,
-    pub bytes: Range,
-    pub next: usize,
-    pub read: usize,
+    pub under: &'a [u8],
+    pub bytes: &'a [u8],
+    ghost short: { length under.now + length bytes.now ≤ room },
 }
 
-// What shows something writes it to standard output at once; the one error is that of a write.
-pub fn show_text(rt: &impl Print, text: &[u8]) -> io::Result<()> {
-    rt.write_all(text)
-}
-
-fn show_number(rt: &impl Print, n: usize) -> io::Result<()> {
-    rt.print(n)
-}
-
-// Words, with their blanks, and a number.
-pub fn show(rt: &impl Print, words: &[u8], n: usize) -> io::Result<()> {
-    show_text(rt, words)?;
-    show_number(rt, n)
-}
-
-// A blank and a number.
-pub fn show_more(rt: &impl Print, n: usize) -> io::Result<()> {
-    show(rt, b" ", n)
+// The cases of an input that are left: how many came before, and the bytes behind those.
+#[derive(Drop)]
+pub struct Cases<'a> {
+    before: usize,
+    rest: &'a [u8],
+    ghost within: { before + length rest.now ≤ room },
 }
 
 // Document 01's refusal.
 pub fn show_refusal(rt: &impl Print, number: usize, item: usize) -> io::Result<()> {
-    show(rt, b" refused ", number)?;
-    show_more(rt, item)
+    print!(rt; " refused {number} {item}")
 }
 
-fn wide(x: u8) -> usize
-    ensures { result < byte }
+// What stands behind its length, and what follows; nothing where it is cut off.
+pub fn counted(s: &[u8]) -> Option<(&[u8], &[u8])>
+    ensures parts { IfSome result (λ r. r.0.now ++ r.1.now ≡ drop 2 s.now) }
+    ensures lengths { IfSome result (λ r. length r.0.now + length r.1.now + 2 ≡ length s.now) }
+    ensures told { let n = slice_index s.now 0 + 256 * slice_index s.now 1 in MatchOption result (length s.now < 2 + n) (λ r. length r.0.now ≡ n) }
 {
-    x as usize
+    let (n, rest) = s.split_first_chunk::<2>()?;
+    rest.split_at_checked(usize::from(u16::from_le_bytes(*n)))
 }
 
-fn length_at(s: &[u8; ROOM], at: usize) -> usize
-    requires { at + length_bytes ≤ room }
-    ensures { result < room }
-{
-    wide(s[at]) + BYTE * wide(s[at + 1])
-}
-
-// What stands behind its length at a place; nothing, at the place itself, where it is cut off.
-pub fn counted(s: &[u8; ROOM], at: usize, read: usize) -> Range
-    requires { (at ≤ read) × (read ≤ room) }
-    ensures { Behind at read result }
-{
-    let nothing = Range { from: at, end: at };
-    if read - at < LENGTH {
-        return nothing;
-    }
-    let n = length_at(s, at);
-    let from = at + LENGTH;
-    if read - from < n {
-        return nothing;
-    }
-    Range {
-        from: from,
-        end: from + n,
-    }
-}
-
-// No case is left at a place.
-fn no_case(number: usize, at: usize, read: usize) -> Case
-    requires { (number ≤ at + 1) × (at ≤ read) × (read ≤ room) }
-    ensures { CaseAt at result }
-{
-    let nothing = Range { from: at, end: at };
-    Case {
-        number: number,
-        at: at,
-        kind: NUMBER,
-        under: nothing,
-        bytes: nothing,
-        next: at,
-        read: read,
-    }
-}
-
-// The case at a place. Its line is begun.
-fn case_at(
-    rt: &impl Print,
-    s: &[u8; ROOM],
-    number: usize,
-    at: usize,
-    read: usize,
-) -> io::Result<Case>
-    requires { (number ≤ at + 1) × (at ≤ read) × (read ≤ room) }
-    ensures { IfOk result (λ c. CaseAt at c) }
-{
-    if at == read {
-        return Ok(no_case(number, at, read));
-    }
-    let under = counted(s, at + 1, read);
-    let bytes = counted(s, under.end, read);
-    if bytes.from == under.end {
-        return Ok(no_case(number, at, read));
-    }
-    show_number(rt, number)?;
-    Ok(Case {
-        number: number,
-        at: at,
-        kind: s[at],
-        under: under,
-        bytes: bytes,
-        next: bytes.end,
-        read: read,
-    })
-}
-
-// Reads until the room is full or the input ends, and gives how many bytes there are. The one error is that of a read; it leaves the bytes
-// read so far.
-fn read_full(from: &mut impl Read, s: &mut [u8; ROOM]) -> io::Result<usize>
-    ensures { IfOk result (λ n. n ≤ room) }
-{
-    let mut done: usize = 0;
-    while done < ROOM {
-        let n = from.read(&mut s[done..ROOM])?;
-        if n == 0 {
-            break;
+impl<'a> Cases<'a> {
+    // The cases of an input; they end before one that is cut off.
+    pub fn of(input: &'a [u8]) -> Self
+        requires { length input.now ≤ room }
+        ensures { (result.before ≡ 0) × (result.rest.now ≡ input.now) }
+    {
+        Cases {
+            before: 0,
+            rest: input,
         }
-        done += n;
     }
-    Ok(done)
 }
 
-// Reads standard input, and gives its first case. The one error is that of a read or a write; it leaves the buffer with the bytes read so far.
-pub fn first(rt: &(impl Input + Print), s: &mut [u8; ROOM]) -> io::Result<Case>
-    ensures begun { IfOk result (λ c. CaseAt 0 c) }
-    ensures left { OnErr result (length s.new ≡ room) }
-{
-    let n = read_full(&mut rt.reader(), s)?;
-    case_at(rt, s, 1, 0, n)
+impl<'a> Iterator for Cases<'a> {
+    type Item = Case<'a>;
+
+    ghost use Rattle.case_file.specs.Case.{Follows};
+
+    ghost next_gives = { Follows };
+
+    ghost remaining = { λ c. at_most (length c.rest.now) };
+
+    fn next(&mut self) -> Option<Case<'a>> {
+        let (kind, rest) = self.rest.split_first()?;
+        let (under, rest) = counted(rest)?;
+        let (bytes, rest) = counted(rest)?;
+        let number = self.before + 1;
+        *self = Cases {
+            before: number,
+            rest,
+        };
+        Some(Case {
+            number,
+            kind: *kind,
+            under,
+            bytes,
+        })
+    }
 }
 
-// Ends the line of a case, and gives the case behind it. The one error is that of a write.
-pub fn next(rt: &impl Print, s: &[u8; ROOM], c: Case) -> io::Result<Case>
-    requires { CaseAt c.at c × (c.at < c.next) }
-    ensures { IfOk result (λ following. CaseAt c.next following) }
+// Reads standard input, as far as there is room. The one error is that of a read or of memory.
+pub fn read<R: Input + AllocGlobal>(rt: &R) -> io::Result<Vec<u8>>
+    ensures { IfOk result (λ v. vec_len v ≤ room) }
 {
-    show_text(rt, b"\n")?;
-    case_at(rt, s, c.number + 1, c.next, c.read)
+    let mut input = Vec::new(rt.alloc());
+    rt.reader().take(ROOM as u64).read_to_end(&mut input)?;
+    input.truncate(ROOM); // no clause says that the reader gave no more
+    Ok(input)
 }
 
-pub fn part<'a>(s: &'a [u8; ROOM], r: Range) -> &'a [u8]
-    requires { Inside r }
-    ensures { length result.now ≤ room }
+// Shows the cases of standard input, a line for each: its number, and what is shown of it. The one error is that of a read, of a write, or of
+// memory.
+pub fn show_cases<R: Input + Print + AllocGlobal, F: Fn(Case<'_>) -> io::Result<()>>(
+    rt: &R,
+    show: F,
+) -> io::Result<()>
+    requires { F.IsAlwaysCallable show }
 {
-    let from = r.from;
-    let end = r.end;
-    let whole: &[u8] = s;
-    &whole[from..end]
+    let input = read(rt)?;
+    for case in Cases::of(&input) {
+        rt.print(case.number)?;
+        show(case)?;
+        rt.println("")?;
+    }
+    Ok(())
 }
