@@ -109,7 +109,7 @@ pub fn show_cases<R: Input + Print + AllocGlobal, F: Fn(Case<'_>) -> io::Result<
     for case in Cases::of(&input) {
         rt.print(case.number)?;
         show(case)?;
-        rt.println("")?;
+        println!(rt)?;
     }
     Ok(())
 }

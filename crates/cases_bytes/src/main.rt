@@ -2,13 +2,22 @@
 #![tactic(auto)]
 
 ghost use Rattle.std.specs.Prelude.{◌≤◌, length};
-ghost use Rattle.case_file.specs.Case.{room};
-ghost use Rattle.term.specs.Tags.{most_functions};
+ghost use Rattle.octets.specs.Limits.{longest};
 
-use case_file::part;
-use number::Number;
+use case_file::Case;
 use std::io;
-use term::Part;
+
+// What a case is here.
+enum Kind {
+    Number,
+    Term,
+}
+
+impl From<u8> for Kind {
+    fn from(kind: u8) -> Self {
+        if kind == 0 { Kind::Number } else { Kind::Term }
+    }
+}
 
 // The tags of leaves and of built-in functions.
 const BUILT_IN: usize = term::FIRST_FREE;
@@ -24,61 +33,37 @@ const SLOTS: usize = term::TAGS;
 
 fn show_number(rt: &impl Print, s: &[u8]) -> io::Result<()> {
     match number::read_number(s, 0) {
-        Number::Value(v, e) => {
-            case_file::show(rt, b" value ", v as usize)?;
-            case_file::show(rt, b" next ", e)
-        }
-        Number::Fault => case_file::show_text(rt, b" fault"),
+        Some((v, e)) => print!(rt; " value {v} next {e}"),
+        None => print!(rt; " fault"),
     }
 }
 
 fn show_term(rt: &impl Print, s: &[u8], arities: &[u8]) -> io::Result<()>
-    requires { length s.now ≤ room }
+    requires { length s.now ≤ longest }
 {
     match term::term_end(s, arities, 0) {
-        Part::End(e, n) => {
-            case_file::show(rt, b" end ", e)?;
-            case_file::show(rt, b" symbols ", n)
-        }
-        Part::Fault => case_file::show_text(rt, b" fault"),
+        Some((e, n)) => print!(rt; " end {e} symbols {n}"),
+        None => print!(rt; " fault"),
     }
 }
 
-// The first of the free functions, those that have a slot.
-fn slotted(free: &[u8]) -> &[u8]
-    ensures { length result.now ≤ most_functions }
-{
-    if free.len() <= term::MOST_FUNCTIONS {
-        return free;
-    }
-    &free[0..term::MOST_FUNCTIONS]
-}
-
-// The table of slots for these free functions.
+// The table of slots for these free functions, as many of them as have one.
 fn declare(free: &[u8]) -> [u8; SLOTS] {
     let mut arities = [term::UNDECLARED; SLOTS];
-    octets::copy_into(&mut arities, 0, &ARITIES);
-    octets::copy_into(&mut arities, BUILT_IN, slotted(free));
-    octets::copy_into(&mut arities, BUILT_IN + term::MOST_FUNCTIONS, &SIGNING);
+    let n = free.len().min(term::MOST_FUNCTIONS);
+    arities[..BUILT_IN].copy_from_slice(&ARITIES);
+    arities[BUILT_IN..BUILT_IN + n].copy_from_slice(&free[..n]);
+    arities[term::FIRST_SIGNING..].copy_from_slice(&SIGNING);
     arities
 }
 
-fn show(rt: &impl Print, kind: u8, free: &[u8], s: &[u8]) -> io::Result<()>
-    requires { length s.now ≤ room }
-{
-    if kind == case_file::NUMBER {
-        show_number(rt, s)
-    } else {
-        show_term(rt, s, &declare(free))
+fn show_case(rt: &impl Print, case: Case<'_>) -> io::Result<()> {
+    match Kind::from(case.kind) {
+        Kind::Number => show_number(rt, case.bytes),
+        Kind::Term => show_term(rt, case.bytes, &declare(case.under)),
     }
 }
 
 fn main(rt: HostRuntime) -> io::Result<()> {
-    let mut input = [0u8; case_file::ROOM];
-    let mut c = case_file::first(&rt, &mut input)?;
-    while c.at < c.next {
-        show(&rt, c.kind, part(&input, c.under), part(&input, c.bytes))?;
-        c = case_file::next(&rt, &input, c)?;
-    }
-    Ok(())
+    case_file::show_cases(&rt, |case| show_case(&rt, case))
 }
