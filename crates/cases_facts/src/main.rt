@@ -3,14 +3,11 @@
 // the same message; for each argument which of three public names it is. Or the refusal.
 #![tactic(auto)]
 
-ghost use Rattle.std.specs.Prelude.{◌≤◌, length};
-ghost use Rattle.case_file.specs.Case.{room};
-ghost use Rattle.lists.specs.Asks.{Asks₂};
-ghost use Rattle.steps.specs.Causes.Good.{RightNodes};
+ghost use Rattle.cases_facts.specs.Table.{AreRight};
 
-use case_file::part;
-use case_nodes::Ruled;
+use case_file::Case;
 use std::io;
+use table::NodeTable;
 
 mod table; // the facts of the nodes, and their arguments
 mod outcome; // which of them are the same
@@ -18,43 +15,37 @@ mod outcome; // which of them are the same
 // The room for the canonical bytes of two facts.
 const OUT: usize = 2 * facts::writing::FACT_ROOM;
 
-// The n nodes of a good case.
-fn show_nodes(
-    rt: &impl Print,
-    p: &[u8; case_nodes::PREPARED],
-    list: &[u8],
-    nodes: &[usize; case_nodes::TABLE],
-    n: usize,
-) -> io::Result<()>
-    requires { Asks₂ (RightNodes p.now list.now nodes.now n) }
+// The nodes of a good case.
+fn show_nodes<R: Print + AllocGlobal>(rt: &R, t: NodeTable<'_>) -> io::Result<()>
+    requires { AreRight t }
 {
     let mut out = [0u8; OUT];
-    let facts = table::facts_of(p, list, nodes, n);
-    outcome::show_facts(rt, facts, &mut out, p, list, nodes, n)?;
-    outcome::show_bar(rt)?;
-    let arguments = table::arguments_of(facts, p, list, nodes, n);
-    outcome::show_arguments(rt, arguments, &mut out, p, list, nodes, n)?;
-    outcome::show_bar(rt)?;
-    outcome::show_names(rt, arguments, &mut out, p, list, nodes, n)
+    let facts = table::facts_of(rt.alloc(), t)?;
+    outcome::show_first_same(rt, t, &facts, &mut out)?;
+    print!(rt; " |")?;
+    let arguments = table::arguments_of(rt.alloc(), t, &facts)?;
+    outcome::show_first_same(rt, t, &arguments, &mut out)?;
+    print!(rt; " |")?;
+    outcome::show_names(rt, t, &arguments, &mut out)
 }
 
-fn show_case(rt: &impl Print, protocol: &[u8], list: &[u8]) -> io::Result<()>
-    requires { length list.now ≤ room }
-{
+fn show_case<R: Print + AllocGlobal>(rt: &R, case: Case<'_>) -> io::Result<()> {
     let mut p = [0u8; case_nodes::PREPARED];
     let mut nodes = [0usize; case_nodes::TABLE];
-    match case_nodes::rule_case(protocol, list, &mut p, &mut nodes) {
-        Ruled::Good(n) => show_nodes(rt, &p, list, &nodes, n),
-        Ruled::Refused(number, item) => case_file::show_refusal(rt, number, item),
+    match case_nodes::rule_case(case.under, case.bytes, &mut p, &mut nodes) {
+        Ok(n) => show_nodes(
+            rt,
+            NodeTable {
+                p: &p,
+                list: case.bytes,
+                rows: &nodes,
+                n,
+            },
+        ),
+        Err(r) => case_file::show_refusal(rt, r.number, r.item),
     }
 }
 
 fn main(rt: HostRuntime) -> io::Result<()> {
-    let mut input = [0u8; case_file::ROOM];
-    let mut c = case_file::first(&rt, &mut input)?;
-    while c.at < c.next {
-        show_case(&rt, part(&input, c.under), part(&input, c.bytes))?;
-        c = case_file::next(&rt, &input, c)?;
-    }
-    Ok(())
+    case_file::show_cases(&rt, |case| show_case(&rt, case))
 }

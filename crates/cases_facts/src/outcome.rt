@@ -1,173 +1,108 @@
 // What the calls of crate facts say of the facts and the arguments of a table.
-ghost use Rattle.std.specs.Prelude.{◌<◌};
-ghost use Rattle.lists.specs.Asks.{Asks₂};
-ghost use Rattle.steps.specs.Causes.Good.{RightNodes};
+ghost use Rattle.std.specs.List.{All};
 ghost use Rattle.facts.specs.Writing.{fact_room};
 ghost use Rattle.facts.specs.Calls.{Room};
-ghost use Rattle.cases_facts.specs.Table.{FactsListed, IsArgument, ArgumentsListed};
+ghost use Rattle.cases_facts.specs.Table.{AreRight, IsFact, IsArgument};
 
-use crate::table::{Argument, Arguments, Facts};
-use case_file::show_more;
+use crate::table::{Argument, NodeTable};
 use facts::compare;
+use facts::nodes::FactId;
 use std::io;
 use term::Public;
 
-// The least public name, by its number.
-const ONE_GROUP: u32 = 0;
+// The numbers of three public names: the least, and the least that take two and three groups.
+const NAMES: [u32; 3] = [0, 128, 16384];
 
-// The least whose number takes two groups.
-const TWO_GROUPS: u32 = 128;
+// What may be compared with others of its kind: a fact, an argument of one.
+pub trait Compared: Copy {
+    ghost use Rattle.cases_facts.specs.declared.table.NodeTable.{NodeTable};
 
-// The least whose number takes three groups.
-const THREE_GROUPS: u32 = 16384;
+    ghost is_in: { NodeTable → Self → Type 0 };
 
-// Their numbers, and what stands for none of them.
-const FIRST: usize = 1;
-
-const SECOND: usize = 2;
-
-const THIRD: usize = 3;
-
-const NO_NAME: usize = 0;
-
-// Ends a list of numbers.
-pub fn show_bar(rt: &impl Print) -> io::Result<()> {
-    case_file::show_text(rt, b" |")
+    fn is_same(self, other: Self, t: NodeTable<'_>, out: &mut [u8]) -> bool
+        requires { is_in t self × is_in t other × AreRight t × Room out.old fact_room };
 }
 
-// The number, from 1, of the first fact that is the same as fact k; 0 if none is.
-fn first_fact(
-    facts: Facts,
-    k: usize,
-    out: &mut [u8],
-    p: &[u8],
-    s: &[u8],
-    nodes: &[usize],
-    n: usize,
-) -> usize
-    requires { (k < facts.n) × FactsListed p.now s.now nodes.now n facts × Asks₂ (RightNodes p.now s.now nodes.now n) × Room out.old fact_room }
-{
-    let places = facts.places;
-    let count = facts.n;
-    let x = places[k];
-    let mut i: usize = 0;
-    while i < count {
-        let y = places[i];
-        if compare::same_fact(out, p, s, nodes, y, x) {
-            return i + 1;
-        }
-        i += 1;
+impl Compared for FactId {
+    ghost is_in = { IsFact };
+
+    fn is_same(self, other: Self, t: NodeTable<'_>, out: &mut [u8]) -> bool {
+        compare::same_fact(out, t.p, t.list, t.rows, self, other)
     }
-    0
 }
 
-// Of each fact.
-pub fn show_facts(
-    rt: &impl Print,
-    facts: Facts,
-    out: &mut [u8],
-    p: &[u8],
-    s: &[u8],
-    nodes: &[usize],
-    n: usize,
-) -> io::Result<()>
-    requires { FactsListed p.now s.now nodes.now n facts × Asks₂ (RightNodes p.now s.now nodes.now n) × Room out.old fact_room }
+impl Compared for Argument {
+    ghost is_in = { IsArgument };
+
+    fn is_same(self, other: Self, t: NodeTable<'_>, out: &mut [u8]) -> bool {
+        compare::same_argument(
+            out,
+            t.p,
+            t.list,
+            t.rows,
+            self.place,
+            self.number,
+            other.place,
+            other.number,
+        )
+    }
+}
+
+// A number from 1; 0 for none.
+fn show_number(rt: &impl Print, number: Option<usize>) -> io::Result<()> {
+    print!(rt; " {}", number.unwrap_or(0))
+}
+
+// The number, from 1, of the first that is the same as x.
+fn first_same<C: Compared>(t: NodeTable<'_>, all: &[C], x: C, out: &mut [u8]) -> Option<usize>
+    requires { AreRight t × All (C.is_in t) all.now × C.is_in t x × Room out.old fact_room }
 {
-    let count = facts.n;
-    let mut k: usize = 0;
-    while k < count {
-        show_more(rt, first_fact(facts, k, out, p, s, nodes, n))?;
-        k += 1;
+    for (i, y) in all.iter().enumerate() {
+        if y.is_same(x, t, out) {
+            return Some(i + 1);
+        }
+    }
+    None
+}
+
+// Of each.
+pub fn show_first_same<C: Compared>(
+    rt: &impl Print,
+    t: NodeTable<'_>,
+    all: &[C],
+    out: &mut [u8],
+) -> io::Result<()>
+    requires { AreRight t × All (C.is_in t) all.now × Room out.old fact_room }
+{
+    for x in all {
+        show_number(rt, first_same(t, all, *x, out))?;
     }
     Ok(())
 }
 
-// The number, from 1, of the first argument that is the same message as argument k; 0 if none is.
-fn first_argument(
-    arguments: Arguments,
-    k: usize,
-    out: &mut [u8],
-    p: &[u8],
-    s: &[u8],
-    nodes: &[usize],
-    n: usize,
-) -> usize
-    requires { (k < arguments.n) × ArgumentsListed p.now s.now nodes.now n arguments × Asks₂ (RightNodes p.now s.now nodes.now n) × Room out.old fact_room }
+// Which of the public names an argument is, from 1.
+fn public_name(t: NodeTable<'_>, a: Argument, out: &mut [u8]) -> Option<usize>
+    requires { AreRight t × IsArgument t a × Room out.old fact_room }
 {
-    let each = arguments.each;
-    let count = arguments.n;
-    let x = each[k];
-    let mut i: usize = 0;
-    while i < count {
-        let y = each[i];
-        if compare::same_argument(out, p, s, nodes, y.place, y.number, x.place, x.number) {
-            return i + 1;
+    for (i, n) in NAMES.iter().enumerate() {
+        if compare::is_public(out, t.p, t.list, t.rows, a.place, a.number, Public(*n)) {
+            return Some(i + 1);
         }
-        i += 1;
     }
-    0
-}
-
-// Of each argument.
-pub fn show_arguments(
-    rt: &impl Print,
-    arguments: Arguments,
-    out: &mut [u8],
-    p: &[u8],
-    s: &[u8],
-    nodes: &[usize],
-    n: usize,
-) -> io::Result<()>
-    requires { ArgumentsListed p.now s.now nodes.now n arguments × Asks₂ (RightNodes p.now s.now nodes.now n) × Room out.old fact_room }
-{
-    let count = arguments.n;
-    let mut k: usize = 0;
-    while k < count {
-        show_more(rt, first_argument(arguments, k, out, p, s, nodes, n))?;
-        k += 1;
-    }
-    Ok(())
-}
-
-// Which of the three public names an argument is, from 1; 0 if it is none of them.
-fn public_name(a: Argument, out: &mut [u8], p: &[u8], s: &[u8], nodes: &[usize], n: usize) -> usize
-    requires { IsArgument p.now s.now nodes.now n a × Asks₂ (RightNodes p.now s.now nodes.now n) × Room out.old fact_room }
-{
-    let x = a.place;
-    let i = a.number;
-    let one = Public(ONE_GROUP);
-    let two = Public(TWO_GROUPS);
-    let three = Public(THREE_GROUPS);
-    if compare::is_public(out, p, s, nodes, x, i, one) {
-        return FIRST;
-    }
-    if compare::is_public(out, p, s, nodes, x, i, two) {
-        return SECOND;
-    }
-    if compare::is_public(out, p, s, nodes, x, i, three) {
-        return THIRD;
-    }
-    NO_NAME
+    None
 }
 
 // Of each argument.
 pub fn show_names(
     rt: &impl Print,
-    arguments: Arguments,
+    t: NodeTable<'_>,
+    arguments: &[Argument],
     out: &mut [u8],
-    p: &[u8],
-    s: &[u8],
-    nodes: &[usize],
-    n: usize,
 ) -> io::Result<()>
-    requires { ArgumentsListed p.now s.now nodes.now n arguments × Asks₂ (RightNodes p.now s.now nodes.now n) × Room out.old fact_room }
+    requires { AreRight t × All (IsArgument t) arguments.now × Room out.old fact_room }
 {
-    let each = arguments.each;
-    let count = arguments.n;
-    let mut k: usize = 0;
-    while k < count {
-        show_more(rt, public_name(each[k], out, p, s, nodes, n))?;
-        k += 1;
+    for a in arguments {
+        show_number(rt, public_name(t, *a, out))?;
     }
     Ok(())
 }

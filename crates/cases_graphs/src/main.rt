@@ -3,51 +3,33 @@
 #![tactic(auto)]
 
 ghost use Rattle.std.specs.Prelude.{◌≤◌, length};
-ghost use Rattle.lists.specs.Asks.{Asks};
-ghost use Rattle.prepared.specs.Prepared.{Prepared};
-ghost use Rattle.case_file.specs.Case.{room};
+ghost use Rattle.case_file.specs.Room.{room};
 
-use case_file::part;
-use case_nodes::Fitness;
-use graph::ruling;
-use graph::ruling::GraphRuling;
+use case_file::Case;
+use case_nodes::Refusal;
 use std::io;
 
 const WORK: usize = graph::area::FACTS_END;
 
-// The graph's causes, under a prepared protocol.
-fn show_ruling(rt: &impl Print, p: &[u8; case_nodes::PREPARED], file: &[u8]) -> io::Result<()>
-    requires { Asks (Prepared p.now) × (length file.now ≤ room) }
-{
-    let mut nodes = [0usize; case_nodes::TABLE];
-    let mut edges = [0u32; graph::edges::TABLE];
-    let mut work = [0u8; WORK];
-    match ruling::rule_graph(p, file, &mut nodes, &mut edges, &mut work) {
-        GraphRuling::Good(n, m) => {
-            case_file::show(rt, b" good ", n)?;
-            case_file::show_more(rt, m)
-        }
-        GraphRuling::Refused(number, item) => case_file::show_refusal(rt, number, item),
-    }
-}
-
-// The protocol's causes, then those of the graph.
-fn show_case(rt: &impl Print, protocol: &[u8], file: &[u8]) -> io::Result<()>
+// The protocol's causes, then those of the graph; or how many nodes and edges it has.
+fn rule_case(protocol: &[u8], file: &[u8]) -> Result<(usize, usize), Refusal>
     requires { length file.now ≤ room }
 {
     let mut p = [0u8; case_nodes::PREPARED];
-    match case_nodes::prepare_case(protocol, &mut p) {
-        Fitness::Fit => show_ruling(rt, &p, file),
-        Fitness::Refused(number, item) => case_file::show_refusal(rt, number, item),
+    case_nodes::prepare_case(protocol, &mut p)?;
+    let mut nodes = [0usize; case_nodes::TABLE];
+    let mut edges = [0u32; graph::edges::TABLE];
+    let mut work = [0u8; WORK];
+    graph::ruling::rule_graph(&p, file, &mut nodes, &mut edges, &mut work)
+}
+
+fn show_case(rt: &impl Print, case: Case<'_>) -> io::Result<()> {
+    match rule_case(case.under, case.bytes) {
+        Ok((n, m)) => print!(rt; " good {n} {m}"),
+        Err(r) => case_file::show_refusal(rt, r.number, r.item),
     }
 }
 
 fn main(rt: HostRuntime) -> io::Result<()> {
-    let mut input = [0u8; case_file::ROOM];
-    let mut c = case_file::first(&rt, &mut input)?;
-    while c.at < c.next {
-        show_case(&rt, part(&input, c.under), part(&input, c.bytes))?;
-        c = case_file::next(&rt, &input, c)?;
-    }
-    Ok(())
+    case_file::show_cases(&rt, |case| show_case(&rt, case))
 }

@@ -3,107 +3,38 @@
 #![tactic(auto)]
 
 ghost use Rattle.std.specs.Prelude.{◌≤◌, length};
-ghost use Rattle.lists.specs.Asks.{Asks, Asks₂};
-ghost use Rattle.prepared.specs.Prepared.{Prepared};
-ghost use Rattle.steps.specs.Causes.Good.{RightNodes};
-ghost use Rattle.case_file.specs.Case.{room, Inside};
-ghost use Rattle.cases_properties.specs.Passes.{Passes};
+ghost use Rattle.case_file.specs.Room.{room};
 
-use case_file::{Range, part};
-use case_nodes::{Fitness, Ruled};
-use property::ruling;
-use property::ruling::PropertyRuling;
+use case_file::Case;
+use case_nodes::Refusal;
 use std::io;
+use verdict::Verdict;
 
 // The room for the canonical bytes of two facts.
 const WORK: usize = 2 * facts::writing::FACT_ROOM;
 
-// The property's truth over the trace of the n nodes.
-fn show_truth(
-    rt: &impl Print,
-    p: &[u8; case_nodes::PREPARED],
-    file: &[u8],
-    list: &[u8],
-    nodes: &[usize; case_nodes::TABLE],
-    n: usize,
-) -> io::Result<()>
-    requires { Passes p.now file.now × Asks₂ (RightNodes p.now list.now nodes.now n) }
-{
-    let mut work = [0u8; WORK];
-    let v = verdict::judge_nodes(p, file, list, nodes, n, &mut work);
-    if v.truth {
-        case_file::show(rt, b" true ", v.active)
-    } else {
-        case_file::show(rt, b" false ", v.active)
-    }
-}
-
-// The causes of the step list, under a prepared protocol, behind a good property.
-fn show_nodes(
-    rt: &impl Print,
-    p: &[u8; case_nodes::PREPARED],
-    file: &[u8],
-    list: &[u8],
-) -> io::Result<()>
-    requires { Asks (Prepared p.now) × Passes p.now file.now × (length list.now ≤ room) }
-{
-    let mut nodes = [0usize; case_nodes::TABLE];
-    match case_nodes::rule_list(p, list, &mut nodes) {
-        Ruled::Good(n) => show_truth(rt, p, file, list, &nodes, n),
-        Ruled::Refused(number, item) => case_file::show_refusal(rt, number, item),
-    }
-}
-
-// The property's causes, then those of the step list.
-fn show_property(
-    rt: &impl Print,
-    p: &[u8; case_nodes::PREPARED],
-    file: &[u8],
-    list: &[u8],
-) -> io::Result<()>
-    requires { Asks (Prepared p.now) × (length list.now ≤ room) }
-{
-    match ruling::rule_property(p, file) {
-        PropertyRuling::Good => show_nodes(rt, p, file, list),
-        PropertyRuling::Refused(number, item) => case_file::show_refusal(rt, number, item),
-    }
-}
-
-// The protocol's causes, then those of the property and of the step list.
-fn show_case(rt: &impl Print, protocol: &[u8], file: &[u8], list: &[u8]) -> io::Result<()>
+// The protocol's causes, then those of the property and of the step list; or the property's truth over the trace of the list's nodes.
+fn judge_case(protocol: &[u8], file: &[u8], list: &[u8]) -> Result<Verdict, Refusal>
     requires { length list.now ≤ room }
 {
     let mut p = [0u8; case_nodes::PREPARED];
-    match case_nodes::prepare_case(protocol, &mut p) {
-        Fitness::Fit => show_property(rt, &p, file, list),
-        Fitness::Refused(number, item) => case_file::show_refusal(rt, number, item),
-    }
+    case_nodes::prepare_case(protocol, &mut p)?;
+    property::ruling::rule_property(&p, file)?;
+    let mut nodes = [0usize; case_nodes::TABLE];
+    let n = case_nodes::rule_list(&p, list, &mut nodes)?;
+    let mut work = [0u8; WORK];
+    Ok(verdict::judge_nodes(&p, file, list, &nodes, n, &mut work))
 }
 
-// A case of the input: what it is read under, and its bytes.
-fn show_parts(
-    rt: &impl Print,
-    input: &[u8; case_file::ROOM],
-    under: Range,
-    bytes: Range,
-) -> io::Result<()>
-    requires { Inside under × Inside bytes }
-{
-    let end = bytes.end;
-    let file = case_file::counted(input, bytes.from, end);
-    let list = Range {
-        from: file.end,
-        end: end,
-    };
-    show_case(rt, part(input, under), part(input, file), part(input, list))
+// The bytes of a case are a property's file behind its length, and a step list; a file that is cut off is none.
+fn show_case(rt: &impl Print, case: Case<'_>) -> io::Result<()> {
+    let (file, list) = case_file::counted(case.bytes).unwrap_or((&[], case.bytes));
+    match judge_case(case.under, file, list) {
+        Ok(v) => print!(rt; " {} {}", v.truth, v.active),
+        Err(r) => case_file::show_refusal(rt, r.number, r.item),
+    }
 }
 
 fn main(rt: HostRuntime) -> io::Result<()> {
-    let mut input = [0u8; case_file::ROOM];
-    let mut c = case_file::first(&rt, &mut input)?;
-    while c.at < c.next {
-        show_parts(&rt, &input, c.under, c.bytes)?;
-        c = case_file::next(&rt, &input, c)?;
-    }
-    Ok(())
+    case_file::show_cases(&rt, |case| show_case(&rt, case))
 }

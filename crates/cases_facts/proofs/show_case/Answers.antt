@@ -1,8 +1,7 @@
--- A good case has right nodes, which is what show_nodes asks.
-use Rattle.case_nodes.specs.Good.{WhereGood}
-use mathlib.Core.Path.{subst}
+-- The nodes of a good case are right.
+use Rattle.cases_facts.specs.Table.{AreRight}
 use Rattle.cases_facts.proofs.show_case.Goals as goal
 
 pub show_nodes-requires : goal.show_nodes-requires
-show_nodes-requires g c =
-    subst (WhereGood _ c.args.list.now _) c.in-Good.is c.rule_case.ensures
+unfolding AreRight
+show_nodes-requires g c = c.in-Ok.ensures

@@ -1,13 +1,7 @@
--- The output keeps its length from turn to turn, and k stays below the count of arguments.
-use lib.ListN.{length}
-use mathlib.Core.Path.{◌≡◌}
-use Prim.Native.Nat.{◌-◌, ◌≤◌}
+-- The room stays.
+use Rattle.facts.specs.Writing.{fact_room}
+use Rattle.facts.specs.Calls.{Room}
 use Rattle.cases_facts.proofs.outcome.show_names.Given as goal
 
-abbrev pub invariant-loop-k : goal.invariant-loop-k
-invariant-loop-k g l =
-    (l.k ≤ l.count) × (length l.out ≡ length l.initial.out)
-
-abbrev pub decreases-loop-k : goal.decreases-loop-k
-decreases-loop-k g l =
-    l.count - l.k
+abbrev pub invariant-loop-a : goal.invariant-loop-a
+invariant-loop-a g l = Room l.out fact_room

@@ -1,24 +1,16 @@
--- The invariant is that all that is in the table are arguments of the nodes' facts; an empty table is so.
-use Rattle.cases_facts.specs.Table.{IsArgument, no_argument, filled_none}
+-- A number below the arity is that of an argument of the fact.
+use Rattle.std.proofs.lemmas.List.Elements.{All-push}
+use Rattle.facts.specs.Owed.{asks_listed, has_one}
 use native.Mathlib.Omega.{arith}
+use Rattle.cases_facts.specs.Table.{AreRight, IsFact, IsArgument}
 use Rattle.cases_facts.proofs.table.arguments_of.Goals as goal
 
-pub loop-k-init : goal.loop-k-init
-loop-k-init c =
-    (omega arith, filled_none (IsArgument _ _ _ _) no_argument 256)
+pub argument_count-number-end-requires : goal.argument_count-number-end-requires
+unfolding AreRight IsFact
+argument_count-number-end-requires c = asks_listed c.requires.0 (c.requires.1 _ _ c.loop-x-test.true)
 
-pub bounds-places-k : goal.bounds-places-k
-bounds-places-k c =
-    omega (arith, c.requires.1.few)
-
-pub with_arguments-arguments-requires : goal.with_arguments-arguments-requires
-with_arguments-arguments-requires c =
-    (c.requires.0, c.requires.1.each _ (omega arith), c.loop-k.invariant.1)
-
-pub overflow_add-k : goal.overflow_add-k
-overflow_add-k c =
-    omega (arith, c.loop-k-test.true, c.requires.1.few)
-
-pub loop-k-preserved : goal.loop-k-preserved
-loop-k-preserved c =
-    (omega arith, c.with_arguments-arguments.ensures)
+pub loop-number-preserved : goal.loop-number-preserved
+unfolding IsFact IsArgument
+loop-number-preserved c = rw c.in_ok-push.ensures.items (
+    All-push (IsArgument c.args.t) _ _ c.loop-number.invariant
+        (has_one (c.requires.1 _ _ c.loop-x-test.true) c.argument_count-number-end.ensures _ c.loop-number-test.true))

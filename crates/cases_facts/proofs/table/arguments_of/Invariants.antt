@@ -1,12 +1,10 @@
--- The invariant is that all that is in the table are arguments of the nodes' facts; an empty table is so.
-use Rattle.cases_facts.specs.Table.{ArgumentsListed}
-use Prim.Native.Nat.{◌-◌, ◌≤◌}
+-- All that was pushed are arguments of the facts.
+use Rattle.std.specs.List.{All}
+use Rattle.cases_facts.specs.Table.{IsArgument}
 use Rattle.cases_facts.proofs.table.arguments_of.Given as goal
 
-abbrev pub invariant-loop-k : goal.invariant-loop-k
-invariant-loop-k l =
-    (l.k ≤ l.count) × ArgumentsListed l.p l.s l.nodes l.n l.arguments
+abbrev pub invariant-loop-x : goal.invariant-loop-x
+invariant-loop-x l = All (IsArgument l.t) l.arguments.items
 
-abbrev pub decreases-loop-k : goal.decreases-loop-k
-decreases-loop-k l =
-    l.count - l.k
+abbrev pub invariant-loop-number : goal.invariant-loop-number
+invariant-loop-number l = All (IsArgument l.t) l.arguments.items

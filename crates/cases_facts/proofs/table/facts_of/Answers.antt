@@ -1,16 +1,17 @@
--- The invariant is that all that is in the table are facts of the nodes; an empty table is so.
-use Rattle.cases_facts.specs.Table.{IsFact, no_fact_id, filled_none}
+-- A number below the list's count is that of a fact of the node.
+use Rattle.std.proofs.lemmas.List.Elements.{All-push}
+use Rattle.facts.specs.declared.nodes.FactId.{FactId}
+use Rattle.facts.specs.Owed.{asks_node, has_fact}
 use native.Mathlib.Omega.{arith}
+use Rattle.cases_facts.specs.Table.{AreRight, IsFact}
 use Rattle.cases_facts.proofs.table.facts_of.Goals as goal
 
-pub loop-j-init : goal.loop-j-init
-loop-j-init c =
-    (omega arith, filled_none (IsFact _ _ _ _) no_fact_id 64)
+pub fact_count-number-end-requires : goal.fact_count-number-end-requires
+unfolding AreRight
+fact_count-number-end-requires c = (asks_node c.requires _ c.loop-node-test.true, c.loop-list-test.true)
 
-pub with_node-facts-requires : goal.with_node-facts-requires
-with_node-facts-requires c =
-    (c.requires, c.loop-j-test.true, c.loop-j.invariant.1)
-
-pub loop-j-preserved : goal.loop-j-preserved
-loop-j-preserved c =
-    (omega arith, c.with_node-facts.ensures)
+pub loop-number-preserved : goal.loop-number-preserved
+unfolding IsFact
+loop-number-preserved c = rw c.in_ok-push.ensures.items (
+    All-push (IsFact c.args.t) _ _ c.loop-number.invariant
+        (has_fact c.loop-node-test.true c.fact_count-number-end.ensures _ c.loop-number-test.true))

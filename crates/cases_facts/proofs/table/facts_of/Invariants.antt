@@ -1,12 +1,13 @@
--- The invariant is that all that is in the table are facts of the nodes; an empty table is so.
-use Rattle.cases_facts.specs.Table.{FactsListed}
-use Prim.Native.Nat.{◌-◌, ◌≤◌}
+-- All that was pushed are facts of the nodes.
+use Rattle.std.specs.List.{All}
+use Rattle.cases_facts.specs.Table.{IsFact}
 use Rattle.cases_facts.proofs.table.facts_of.Given as goal
 
-abbrev pub invariant-loop-j : goal.invariant-loop-j
-invariant-loop-j l =
-    (l.j ≤ l.n) × FactsListed l.p l.s l.nodes l.n l.facts
+abbrev pub invariant-loop-node : goal.invariant-loop-node
+invariant-loop-node l = All (IsFact l.t) l.facts.items
 
-abbrev pub decreases-loop-j : goal.decreases-loop-j
-decreases-loop-j l =
-    l.n - l.j
+abbrev pub invariant-loop-list : goal.invariant-loop-list
+invariant-loop-list l = All (IsFact l.t) l.facts.items
+
+abbrev pub invariant-loop-number : goal.invariant-loop-number
+invariant-loop-number l = All (IsFact l.t) l.facts.items

@@ -1,9 +1,0 @@
--- The place stays within the slice and grows.
-use Rattle.std.proofs.Common.{length, ◌≤◌, ◌-◌}
-use Rattle.cases_messages.proofs.show_bytes.Given as goal
-
-abbrev pub invariant-loop-i : goal.invariant-loop-i
-invariant-loop-i g l = l.i ≤ length l.s
-
-abbrev pub decreases-loop-i : goal.decreases-loop-i
-decreases-loop-i g l = length l.s - l.i
