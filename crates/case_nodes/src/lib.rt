@@ -8,7 +8,6 @@ ghost use Rattle.prepared.specs.Prepared.{Prepared};
 ghost use Rattle.case_nodes.specs.Good.{WhereGood};
 
 pub use rewriting::Refusal;
-
 use rules::fit::Unfit;
 use steps::ruling;
 
@@ -21,7 +20,11 @@ pub const PREPARED: usize = prepared::sections::PREPARED;
 pub const TABLE: usize = steps::nodes::TABLE;
 
 // The list's causes, under a prepared protocol; or how many nodes it has.
-pub fn rule_list(p: &[u8; PREPARED], list: &[u8], nodes: &mut [usize; TABLE]) -> Result<usize, Refusal>
+pub fn rule_list(
+    p: &[u8; PREPARED],
+    list: &[u8],
+    nodes: &mut [usize; TABLE],
+) -> Result<usize, Refusal>
     requires { Asks (Prepared p.now) × (length list.now ≤ longest) }
     ensures { WhereGood p.now list.now nodes.new result }
 {
