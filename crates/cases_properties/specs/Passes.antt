@@ -1,6 +1,8 @@
 -- What is left of a case whose property is good: it passes, and is posed over right nodes.
-use Rattle.std.specs.Prelude.{ℕ, List, ◌≡◌}
+use Rattle.std.specs.Prelude.{ℕ, List, ◌≡◌, Result, Ok}
 use Rattle.lists.specs.Asks.{Promises, Asks₂, Asks₃}
+use Rattle.case_nodes.specs.declared.Refusal.{Refusal}
+use Rattle.case_nodes.specs.Answers.{answered}
 use Rattle.protocol.specs.Protocol.{Protocol, fact_arities}
 use Rattle.prepared.specs.Prepared.{Body}
 use Rattle.steps.specs.Causes.Good.{RightNodes}
@@ -8,9 +10,7 @@ use Rattle.property.specs.Formula.{Formula}
 use Rattle.property.specs.Layout.{property}
 use Rattle.property.specs.Causes.{property_ruling}
 use Rattle.property.specs.Causes.Laws.{Passing}
-use Rattle.property.specs.Causes.Code.{ruling_of, plainly, good_passing}
-use Rattle.property.specs.declared.ruling.PropertyRuling.{PropertyRuling}
-use Rattle.property.specs.declared.ruling.PropertyRuling.TheVariants as pr
+use Rattle.property.specs.Causes.Code.{plainly, good_passing}
 use Rattle.verdict.specs.Judged.{Posed}
 
 -- under the prepared protocol some formula passes
@@ -19,8 +19,8 @@ Passes p file = Promises (Body p) (λ (P : Protocol). (φ : Formula) × Passing 
 
 -- as the ruling of the property says
 pub good_passes :
-    {p : List ℕ} (file : List ℕ) {r : PropertyRuling} → r ≡ pr.Good
-    → Promises (Body p) (λ (P : Protocol). ruling_of r ≡ plainly (property_ruling (property file (fact_arities P.symbols)))) → Passes p file
+    {p : List ℕ} (file : List ℕ) {r : Result (Unit {0}) Refusal} → r ≡ Ok tt
+    → Promises (Body p) (λ (P : Protocol). answered r ≡ plainly (property_ruling (property file (fact_arities P.symbols)))) → Passes p file
 good_passes file {r} is ruled P b = good_passing (property file (fact_arities P.symbols)) r (ruled P b) is
 
 -- over the right nodes of a step list
