@@ -2,6 +2,5 @@
 
 -- its step list is good
 pub mod Good
-
 -- a Result's answer as the refusal table's
 pub use Rattle.rewriting.specs.Answers

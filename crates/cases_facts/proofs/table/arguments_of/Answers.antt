@@ -1,7 +1,6 @@
 -- A number below the arity is that of an argument of the fact.
 use Rattle.std.proofs.lemmas.List.Elements.{All-push}
 use Rattle.facts.specs.Owed.{asks_listed, has_one}
-use native.Mathlib.Omega.{arith}
 use Rattle.cases_facts.specs.Table.{AreRight, IsFact, IsArgument}
 use Rattle.cases_facts.proofs.table.arguments_of.Goals as goal
 
@@ -13,4 +12,4 @@ pub loop-number-preserved : goal.loop-number-preserved
 unfolding IsFact IsArgument
 loop-number-preserved c = rw c.in_ok-push.ensures.items (
     All-push (IsArgument c.args.t) _ _ c.loop-number.invariant
-        (has_one (c.requires.1 _ _ c.loop-x-test.true) c.argument_count-number-end.ensures _ c.loop-number-test.true))
+    (has_one (c.requires.1 _ _ c.loop-x-test.true) c.argument_count-number-end.ensures _ c.loop-number-test.true))

@@ -1,8 +1,6 @@
 -- A number below the list's count is that of a fact of the node.
 use Rattle.std.proofs.lemmas.List.Elements.{All-push}
-use Rattle.facts.specs.declared.nodes.FactId.{FactId}
 use Rattle.facts.specs.Owed.{asks_node, has_fact}
-use native.Mathlib.Omega.{arith}
 use Rattle.cases_facts.specs.Table.{AreRight, IsFact}
 use Rattle.cases_facts.proofs.table.facts_of.Goals as goal
 
@@ -14,4 +12,4 @@ pub loop-number-preserved : goal.loop-number-preserved
 unfolding IsFact
 loop-number-preserved c = rw c.in_ok-push.ensures.items (
     All-push (IsFact c.args.t) _ _ c.loop-number.invariant
-        (has_fact c.loop-node-test.true c.fact_count-number-end.ensures _ c.loop-number-test.true))
+    (has_fact c.loop-node-test.true c.fact_count-number-end.ensures _ c.loop-number-test.true))
