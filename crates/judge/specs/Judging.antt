@@ -1,5 +1,6 @@
 -- What judge and walk ask and promise.
-use Rattle.std.specs.Prelude.{ℕ, ◌+◌, ◌≤◌, List, [], ◌++◌, Bool, true, ◌≡◌, length}
+use Rattle.std.specs.Prelude.{ℕ, ◌+◌, ◌≤◌, List, [], ◌++◌, Bool, true, ◌≡◌, length, Option, Some}
+use Rattle.std.specs.Option.{is_some}
 use Rattle.lists.specs.Lists.{any_by}
 use Rattle.number.specs.Groups.{number_limit}
 use Rattle.number.specs.Reading.{Read, got}
@@ -13,7 +14,6 @@ use Rattle.property.specs.Reads.{Reads}
 use Rattle.property.specs.Judge.{judge, test, matches, extended, entries_from}
 use Rattle.judge.specs.declared.reading.Coded.{Coded}
 use Rattle.judge.specs.declared.reading.Guard.{Guard}
-use Rattle.judge.specs.declared.matching.Matched.{Matched}
 use Rattle.judge.specs.declared.judging.Judged.{Judged}
 use Rattle.property.specs.Judge.Numbers.{numbers}
 use Rattle.judge.specs.Tables.{Arities, trace_of, entry_of}
@@ -108,9 +108,9 @@ module _ (base : ℕ) (b : List ℕ) where
   meets x e = matches (numbers base) (binds_to x e) x.guard.pattern x.guard.time e
 
 -- the guard against entry e of a node
-pub record Matching (symbols classes : List ℕ) (base : ℕ) (b : List ℕ) (node e : ℕ) (r : Matched) (x : Guarded) : Type 0 where
-  pub matched : r.yes ≡ meets base b x (entry_of x.ars symbols classes node e)
-  pub binds : r.yes ≡ true → bound (x.scope ++ x.sorts) r.values ≡ binds_to base b x (entry_of x.ars symbols classes node e)
+pub record Matching (symbols classes : List ℕ) (base : ℕ) (b : List ℕ) (node e : ℕ) (r : Option (List ℕ)) (x : Guarded) : Type 0 where
+  pub matched : is_some r ≡ meets base b x (entry_of x.ars symbols classes node e)
+  pub binds : (v : List ℕ) → r ≡ Some v → bound (x.scope ++ x.sorts) v ≡ binds_to base b x (entry_of x.ars symbols classes node e)
 
 -- of an atom, whatever the trace is under the arities
 pub record AtomSaid (tr : List ℕ → Trace ℕ) (base : ℕ) (b : List ℕ) (r : Judged) (x : Stated) : Type 0 where

@@ -25,42 +25,41 @@ pub struct Judged {
 
 // Whether some entry is the fact at its time; all its variables are bound.
 fn occurs(
-    fact: Coded,
+    fact: &Coded,
     starts: &[u32],
     symbols: &[u32],
     classes: &[u32],
     base: u32,
-    bound: Bindings,
+    bound: &Bindings,
 ) -> bool
-    requires { Shape starts.now symbols.now classes.now × (fact.count ≤ most_fact_arity) }
-    ensures { Promises (Fitting bound.count fact) (Occurs starts.now symbols.now classes.now base bound.values result) }
+    requires { Shape starts.now symbols.now classes.now × (fact.now.count ≤ most_fact_arity) }
+    ensures { Promises (Fitting bound.now.count fact.now) (Occurs starts.now symbols.now classes.now base bound.now.values result) }
 {
-    let codes = fact.codes;
-    let values = bound.values;
-    let time = matching::slot(&values, fact.time);
+    let values = &bound.values;
+    let time = matching::slot(values, fact.time);
     let count = entries::total(starts);
-    let mut found = false;
     let mut node = 0;
-    let mut e = entries::next_of(symbols, fact.symbol, 0, count);
-    while e < count {
-        node = entries::node_of(starts, node, e);
-        let p = figures::ARITY * e;
-        let same = matching::agree(&codes, fact.count, classes, p, &values, base);
-        found = found | ((time == node + 1) & same);
-        e = entries::next_of(symbols, fact.symbol, e + 1, count);
+    for e in 0..count {
+        if symbols[e] as usize == fact.symbol {
+            node = entries::node_of(starts, node, e);
+            let p = figures::ARITY * e;
+            let same = matching::agree(fact, classes, p, values, figures::SCOPE, base);
+            if (time == node + 1) & same {
+                return true;
+            }
+        }
     }
-    found
+    false
 }
 
 // Two terms: whether their classes are equal.
-fn equal(file: &[u8], at: usize, base: u32, bound: Bindings) -> Judged
-    ensures { (table : List ℕ) (tr : List ℕ → Trace ℕ) → Promises (AtomIs table (λ ars. equal_at file.now at) bound.count) (AtomSaid tr base bound.values result) }
+fn equal(file: &[u8], at: usize, base: u32, bound: &Bindings) -> Judged
+    ensures { (table : List ℕ) (tr : List ℕ → Trace ℕ) → Promises (AtomIs table (λ ars. equal_at file.now at) bound.now.count) (AtomSaid tr base bound.now.values result) }
 {
-    let values = bound.values;
     let t = reading::term(file, at);
     let u = reading::term(file, t.next);
-    let x = matching::class_of(base, &values, t.value as u32);
-    let y = matching::class_of(base, &values, u.value as u32);
+    let x = matching::class_of(base, &bound.values, t.value as u32);
+    let y = matching::class_of(base, &bound.values, u.value as u32);
     Judged {
         truth: x == y,
         next: u.next,
@@ -68,14 +67,13 @@ fn equal(file: &[u8], at: usize, base: u32, bound: Bindings) -> Judged
 }
 
 // Two time variables: whether the first is earlier, or they are the same.
-fn times(file: &[u8], at: usize, order: bool, bound: Bindings) -> Judged
-    ensures { (table : List ℕ) (tr : List ℕ → Trace ℕ) (base : ℕ) → Promises (AtomIs table (λ ars. times_at file.now order at) bound.count) (AtomSaid tr base bound.values result) }
+fn times(file: &[u8], at: usize, order: bool, bound: &Bindings) -> Judged
+    ensures { (table : List ℕ) (tr : List ℕ → Trace ℕ) (base : ℕ) → Promises (AtomIs table (λ ars. times_at file.now order at) bound.now.count) (AtomSaid tr base bound.now.values result) }
 {
-    let values = bound.values;
     let i = reading::read(file, at);
     let j = reading::read(file, i.next);
-    let x = matching::slot(&values, i.value);
-    let y = matching::slot(&values, j.value);
+    let x = matching::slot(&bound.values, i.value);
+    let y = matching::slot(&bound.values, j.value);
     Judged {
         truth: (order & (x < y)) | (!order & (x == y)),
         next: j.next,
@@ -91,10 +89,10 @@ fn atom(
     symbols: &[u32],
     classes: &[u32],
     base: u32,
-    bound: Bindings,
+    bound: &Bindings,
 ) -> Judged
     requires { Shape starts.now symbols.now classes.now }
-    ensures { Promises (AtomIs arities.now (λ ars. atom_at file.now ars tag.value tag.next) bound.count) (AtomSaid (traced starts.now symbols.now classes.now) base bound.values result) }
+    ensures { Promises (AtomIs arities.now (λ ars. atom_at file.now ars tag.value tag.next) bound.now.count) (AtomSaid (traced starts.now symbols.now classes.now) base bound.now.values result) }
 {
     if tag.value < property::figures::BEFORE {
         return equal(file, tag.next, base, bound);
@@ -103,7 +101,7 @@ fn atom(
         return times(file, tag.next, tag.value < figures::SAME_TIME, bound);
     }
     let fact = reading::read_fact(file, tag.next, arities);
-    let found = occurs(fact, starts, symbols, classes, base, bound);
+    let found = occurs(&fact, starts, symbols, classes, base, bound);
     Judged {
         truth: found,
         next: fact.next,
@@ -134,10 +132,10 @@ fn judge(
     symbols: &[u32],
     classes: &[u32],
     base: u32,
-    bound: Bindings,
+    bound: &Bindings,
 ) -> Judged
-    requires { Asks (Fits file.now arities.now at bound.count) × Shape starts.now symbols.now classes.now }
-    ensures { Promises (Fits file.now arities.now at bound.count) (Says starts.now symbols.now classes.now base bound.values result) }
+    requires { Asks (Fits file.now arities.now at bound.now.count) × Shape starts.now symbols.now classes.now }
+    ensures { Promises (Fits file.now arities.now at bound.now.count) (Says starts.now symbols.now classes.now base bound.now.values result) }
 {
     let tag = reading::read(file, at);
     if tag.value == property::figures::FALSE {
@@ -150,7 +148,7 @@ fn judge(
         let a = atom(file, tag, arities, starts, symbols, classes, base, bound);
         let truth = sign(tag.value % figures::SIGNS == figures::ASSERTS, a.truth);
         return Judged {
-            truth: truth,
+            truth,
             next: a.next,
         };
     }
@@ -160,12 +158,12 @@ fn judge(
         let y = judge(file, x.next, arities, starts, symbols, classes, base, bound);
         let truth = join(tag.value == property::figures::AND, x.truth, y.truth);
         return Judged {
-            truth: truth,
+            truth,
             next: y.next,
         };
     }
     let guard = reading::read_guard(file, tag.next, arities, tag.value == figures::EVERY);
-    walk(file, guard, arities, starts, symbols, classes, base, bound)
+    walk(file, &guard, arities, starts, symbols, classes, base, bound)
 }
 
 // The quantifier of a guard: the guard is compared with every entry of every node, in order, and the body judged once for each match. Where
@@ -173,45 +171,48 @@ fn judge(
 #[cycle(judge_walk)]
 fn walk(
     file: &[u8],
-    guard: Guard,
+    guard: &Guard,
     arities: &[u8],
     starts: &[u32],
     symbols: &[u32],
     classes: &[u32],
     base: u32,
-    bound: Bindings,
+    bound: &Bindings,
 ) -> Judged
-    requires { Asks₃ (Bodied file.now arities.now guard bound.count) × Shape starts.now symbols.now classes.now × (guard.fact.count ≤ most_fact_arity) }
-    ensures { Promises₃ (Bodied file.now arities.now guard bound.count) (Walked starts.now symbols.now classes.now base guard.every bound.values result) }
+    requires { Asks₃ (Bodied file.now arities.now guard.now bound.now.count) × Shape starts.now symbols.now classes.now × (guard.now.fact.count ≤ most_fact_arity) }
+    ensures { Promises₃ (Bodied file.now arities.now guard.now bound.now.count) (Walked starts.now symbols.now classes.now base guard.now.every bound.now.values result) }
 {
-    let fact = guard.fact;
-    let inner = bound.count + guard.fresh;
-    let count = entries::total(starts);
+    let count = bound.count + guard.fresh;
+    let total = entries::total(starts);
     let mut truth = guard.every;
-    let mut next = 0;
+    let mut next = None;
     let mut node = 0;
-    let mut e = entries::next_of(symbols, fact.symbol, 0, count);
-    while e < count {
-        node = entries::node_of(starts, node, e);
-        let m = matching::match_guard(fact, classes, base, node, e, bound);
-        if m.yes {
-            let values = m.values;
-            let b = Bindings {
-                values: values,
-                count: inner,
-            };
-            let r = judge(file, fact.next, arities, starts, symbols, classes, base, b);
-            truth = join(guard.every, truth, r.truth);
-            next = r.next;
+    for e in 0..total {
+        if symbols[e] as usize == guard.fact.symbol {
+            node = entries::node_of(starts, node, e);
+            if let Some(values) = matching::match_guard(
+                &guard.fact,
+                classes,
+                base,
+                node,
+                e,
+                bound,
+            ) {
+                let inner = Bindings { values, count };
+                let i = guard.fact.next;
+                let r = judge(file, i, arities, starts, symbols, classes, base, &inner);
+                truth = join(guard.every, truth, r.truth);
+                next = Some(r.next);
+            }
         }
-        e = entries::next_of(symbols, fact.symbol, e + 1, count);
     }
-    if next == 0 {
-        next = skipping::skip(file, fact.next, arities);
-    }
+    let behind = match next {
+        Some(k) => k,
+        None => skipping::skip(file, guard.fact.next, arities),
+    };
     Judged {
-        truth: truth,
-        next: next,
+        truth,
+        next: behind,
     }
 }
 
@@ -231,6 +232,5 @@ pub fn holds(
         values: [0; figures::SCOPE],
         count: 0,
     };
-    let r = judge(file, 0, arities, starts, symbols, classes, base, bound);
-    r.truth
+    judge(file, 0, arities, starts, symbols, classes, base, &bound).truth
 }

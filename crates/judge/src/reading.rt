@@ -5,7 +5,6 @@ ghost use Rattle.judge.specs.Tables.{arity_in};
 ghost use Rattle.judge.specs.Reading.{NumberIs, TermIs, TermsAre, SortsAre, FactIs, HeadIs};
 
 use crate::figures;
-use number::Number;
 
 // A number and the place behind it.
 #[derive(Clone, Copy)]
@@ -39,28 +38,14 @@ pub struct Guard {
     pub fact: Coded,
 }
 
-pub fn wide(x: u32) -> usize
-    ensures { result ≡ x }
-{
-    x as usize
-}
-
-fn byte(x: u8) -> usize
-    ensures { result ≡ x }
-{
-    x as usize
-}
-
 // A number.
 pub fn read(file: &[u8], at: usize) -> Num
     ensures { NumberIs file.now at result }
 {
-    match number::read_number(file, at) {
-        Number::Value(v, e) => Num {
-            value: v as usize,
-            next: e,
-        },
-        Number::Fault => Num { value: 0, next: 0 },
+    let (v, e) = number::read_number(file, at).unwrap_or((0, 0));
+    Num {
+        value: v as usize,
+        next: e,
     }
 }
 
@@ -84,19 +69,14 @@ fn terms(file: &[u8], at: usize, k: usize) -> Codes
     requires { k ≤ most_fact_arity }
     ensures { TermsAre file.now at k result }
 {
-    let mut codes: [u32; figures::ARITY] = [0; figures::ARITY];
+    let mut codes = [0u32; figures::ARITY];
     let mut i = at;
-    let mut j = 0;
-    while j < k {
+    for j in 0..k {
         let t = term(file, i);
         codes[j] = t.value as u32;
         i = t.next;
-        j += 1;
     }
-    Codes {
-        codes: codes,
-        next: i,
-    }
+    Codes { codes, next: i }
 }
 
 // The place behind k sorts.
@@ -104,11 +84,8 @@ fn pass_sorts(file: &[u8], at: usize, k: usize) -> usize
     ensures { SortsAre file.now at k result }
 {
     let mut i = at;
-    let mut j = 0;
-    while j < k {
-        let s = read(file, i);
-        i = s.next;
-        j += 1;
+    for _ in 0..k {
+        i = read(file, i).next;
     }
     i
 }
@@ -117,10 +94,7 @@ fn pass_sorts(file: &[u8], at: usize, k: usize) -> usize
 fn arity(arities: &[u8], symbol: usize) -> usize
     ensures { result ≡ arity_in arities.now symbol }
 {
-    if arities.len() <= symbol {
-        return 0;
-    }
-    let k = byte(arities[symbol]);
+    let k = usize::from(*arities.get(symbol).unwrap_or(&0));
     if figures::ARITY < k {
         return 0;
     }
@@ -132,16 +106,15 @@ pub fn read_fact(file: &[u8], at: usize, arities: &[u8]) -> Coded
     ensures { FactIs file.now arities.now at result }
 {
     let y = read(file, at);
-    let symbol = y.value;
-    let count = arity(arities, symbol);
+    let count = arity(arities, y.value);
     let ts = terms(file, y.next, count);
     let codes = ts.codes;
     let t = read(file, ts.next);
     Coded {
-        symbol: symbol,
-        count: count,
+        symbol: y.value,
+        count,
         time: t.value,
-        codes: codes,
+        codes,
         next: t.next,
     }
 }
@@ -154,8 +127,8 @@ pub fn read_guard(file: &[u8], at: usize, arities: &[u8], every: bool) -> Guard
     let k = pass_sorts(file, fresh.next, fresh.value);
     let fact = read_fact(file, k, arities);
     Guard {
-        every: every,
+        every,
         fresh: fresh.value,
-        fact: fact,
+        fact,
     }
 }

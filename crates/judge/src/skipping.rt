@@ -12,16 +12,13 @@ fn skip_atom(file: &[u8], at: usize, tag: usize, arities: &[u8]) -> usize
 {
     if tag < property::figures::BEFORE {
         let t = reading::term(file, at);
-        let u = reading::term(file, t.next);
-        return u.next;
+        return reading::term(file, t.next).next;
     }
     if tag < property::figures::ACTION {
         let i = reading::read(file, at);
-        let j = reading::read(file, i.next);
-        return j.next;
+        return reading::read(file, i.next).next;
     }
-    let g = reading::read_fact(file, at, arities);
-    g.next
+    reading::read_fact(file, at, arities).next
 }
 
 // The place behind the formula.
@@ -41,6 +38,5 @@ pub fn skip(file: &[u8], at: usize, arities: &[u8]) -> usize
         return skip(file, m, arities);
     }
     let g = reading::read_guard(file, tag.next, arities, true);
-    let fact = g.fact;
-    skip(file, fact.next, arities)
+    skip(file, g.fact.next, arities)
 }

@@ -1,9 +1,9 @@
 -- What a variable's slot holds, before and after an entry is bound.
-use Rattle.std.specs.Prelude.{ℕ, zero, suc, ◌+◌, ◌-◌, ◌≤◌, ◌<◌, List, [], ◌∷◌, ◌++◌, map, Bool, true, false, ◌||◌, ◌≡◌, refl, length, get_or, set, ltb, eqb, leb}
+use Rattle.std.specs.Prelude.{ℕ, zero, suc, ◌+◌, ◌-◌, ◌≤◌, ◌<◌, List, [], ◌∷◌, ◌++◌, map, Bool, true, false, ◌&&◌, ◌||◌, ◌≡◌, refl, length, get_or, set, ltb, eqb, leb}
 use Rattle.std.proofs.lemmas.Bool.{false≢true, eqb-false}
 use Rattle.std.proofs.Common.{sym, ap, ap₂, ◌∙◌, arith, length-set, get_or-set_same, get_or-set_other, leb-true, lt-ltb, le-ltb, ltb-true, eqb-true, ne_eqb}
 use Rattle.lists.specs.Choice.{pick}
-use Rattle.lists.specs.Tests.{and_split, and_both, le_leb, true_false}
+use Rattle.lists.specs.Tests.{by_bool, and_split, and_both, and_false, le_leb, gt_leb, true_false}
 use Rattle.lists.specs.Lists.{any_by, row}
 use Rattle.property.specs.Figures.{most_scope}
 use Rattle.property.specs.Formula.{Sort, msg, tmp, Term, var, public}
@@ -97,6 +97,12 @@ new_from n t h = leb-true n t (and_split (leb n t) (ltb t most_scope) h).0
 
 new_of : (n t : ℕ) → n ≤ t → t < most_scope → is_new n t ≡ true
 new_of n t l m = and_both (leb n t) (ltb t most_scope) (le_leb n t l) (lt-ltb t most_scope m)
+
+-- no variable is new where all are bound
+pub none_new : (t : ℕ) → is_new most_scope t ≡ false
+none_new t = by_bool (ltb t most_scope)
+    (λ y. ap₂ ◌&&◌ (gt_leb most_scope t (ltb-true t most_scope y)) y)
+    (λ y. ap (λ (z : Bool). leb most_scope t && z) y ∙ and_false (leb most_scope t))
 
 pub put_length : (n t v : ℕ) (c : List ℕ) → length (put n t v c) ≡ length c
 put_length n t v c = go (is_new n t)

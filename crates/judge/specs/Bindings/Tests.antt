@@ -3,8 +3,9 @@ use Rattle.std.specs.Prelude.{ℕ, zero, suc, ◌+◌, ◌≤◌, ◌<◌, List,
 use Rattle.std.proofs.lemmas.Bool.{false≢true}
 use Rattle.std.proofs.Math.Bool.{and_assoc}
 use Rattle.std.proofs.Common.{sym, ap, ap₂, ◌∙◌, arith, add-one}
+use Rattle.lists.specs.Choice.{by_size}
 use Rattle.lists.specs.Lists.{all_by, row}
-use Rattle.lists.specs.Tests.{by_bool, and_false, and_split}
+use Rattle.lists.specs.Tests.{by_bool, and_false, and_both, and_split}
 use Rattle.property.specs.Figures.{most_scope}
 use Rattle.property.specs.Formula.{Sort, Term}
 use Rattle.property.specs.Fit.{term_fits}
@@ -37,8 +38,15 @@ all_terms base s c (t ∷ ts) m l e =
     all_shift (λ j. eqb (value base c (get_or (map code (t ∷ ts)) j 0)) (m j)) (length ts)
     ∙ ap₂ ◌&&◌ (ap (λ (v : ℕ). eqb v (m 0)) (term_value base s c t l p.0)) (all_terms base s c ts (λ j. m (suc j)) l p.1)
 
-pub all_step : (t : ℕ → Bool) (j : ℕ) → (all_up t j && t j) ≡ all_up t (j + 1)
-all_step t j = rw add-one
+pub all_step : (t : ℕ → Bool) (j : ℕ) → all_up t j ≡ true → t j ≡ true → all_up t (j + 1) ≡ true
+all_step t j h k = rw add-one (and_both (all_up t j) (t j) h k)
+
+-- one of the first k tests fails
+pub all_stops : (t : ℕ → Bool) (k j : ℕ) → j < k → t j ≡ false → all_up t k ≡ false
+all_stops t zero j l h = absurd (omega arith)
+all_stops t (suc k) j l h =
+    by_size j k (λ b. ap (λ (z : Bool). z && t k) (all_stops t k j b h))
+    (λ b. let z : j ≡ k = omega arith in ap (λ (y : Bool). all_up t k && y) (ap t (sym z) ∙ h) ∙ and_false (all_up t k))
 
 -- a test that fails where another that it follows from fails
 pub all_fails : (t u : ℕ → Bool) (k : ℕ) → ((j : ℕ) → j < k → t j ≡ false → u j ≡ false) → all_up t k ≡ false → all_up u k ≡ false

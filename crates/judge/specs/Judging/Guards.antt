@@ -2,7 +2,8 @@
 use Rattle.std.specs.Prelude.{ℕ, suc, ◌+◌, ◌-◌, ◌≤◌, ◌<◌, List, [], ◌∷◌, ◌++◌, map, Bool, true, false, ◌&&◌, ◌||◌, ◌≡◌, refl, length, get_or, ltb, leb, eqb}
 use Rattle.std.proofs.lemmas.Bool.{false≢true}
 use Rattle.std.proofs.Common.{sym, ap, ap₂, ◌∙◌, arith, add-one, length-append, get_or-take, leb-false, eq-eqb, ne_eqb, eqb-true}
-use Rattle.lists.specs.Choice.{pick}
+use Rattle.std.specs.Prelude.{Some, None}
+use Rattle.lists.specs.Choice.{pick, clash}
 use Rattle.lists.specs.Tests.{by_bool, and_split, and_false, or_split}
 use Rattle.lists.specs.Lists.{any_by, all_by, row}
 use Rattle.property.specs.Figures.{most_scope}
@@ -16,7 +17,7 @@ use Rattle.property.specs.Judge.Numbers.{numbers}
 use Rattle.judge.specs.Tables.{class_at, entry_of}
 use Rattle.judge.specs.Bindings.{bound_from, bound, code, value, is_new, put, finish, all_up}
 use Rattle.judge.specs.Bindings.Slots.{scope_short, scope_append, scope_one, bound_append, bound_length, bound_same, time_value}
-use Rattle.judge.specs.Bindings.Slots.{put_low, put_at, finish_length, finish_low, finish_first}
+use Rattle.judge.specs.Bindings.Slots.{put_low, put_at, none_new, finish_length, finish_low, finish_first}
 use Rattle.judge.specs.Bindings.Tests.{all_same, all_terms, all_fails}
 use Rattle.judge.specs.Judging.{Guarded, Fitting, binds_to, meets, Matching}
 
@@ -50,6 +51,10 @@ module _ (classes : List ℕ) (c : Coded) (e : ℕ) where
   -- the same of the terms that are no new variables
   abbrev pub known_agree : ℕ → ℕ → List ℕ → Bool
   known_agree base n v = all_up (λ j. is_new n (code_at c j) || eqb (value base v (code_at c j)) (class_at classes e j)) c.count
+
+  -- where all are bound, these are all terms
+  pub all_known : (base : ℕ) (v : List ℕ) → known_agree base most_scope v ≡ agrees base v
+  all_known base v = all_same _ _ c.count (λ j l. ap (λ (z : Bool). z || eqb (value base v (code_at c j)) (class_at classes e j)) (none_new (code_at c j)))
 
   -- the entry's arguments are bound, then its node
   abbrev pub taken : ℕ → List ℕ → List ℕ
@@ -191,33 +196,46 @@ module _ (symbols classes : List ℕ) (base : ℕ) (c : Coded) (node e : ℕ) wh
 -- ── what the returns of the code say ──
 module _ (classes : List ℕ) (base : ℕ) (c : Coded) (node e : ℕ) (n : ℕ) (b : List ℕ) (long : length b ≡ most_scope) where
   pub matching_known :
-      {t : ℕ} {known : Bool} (v : List ℕ) → (c.time < most_scope → t ≡ get_or b c.time 0) → known ≡ known_agree classes c e base n b
+      {t : ℕ} {known : Bool} → (c.time < most_scope → t ≡ get_or b c.time 0) → known ≡ known_agree classes c e base n b
       → ((leb n c.time || eqb t (node + 1)) && known) ≡ false → (symbols : List ℕ) → get_or symbols e 0 ≡ c.symbol → (x : Guarded) → Fitting n c x
-      → Matching symbols classes base b node e (record { values = v; yes = false }) x
-  matching_known {t} {known} v tq k z symbols same x ok =
+      → Matching symbols classes base b node e None x
+  matching_known {t} {known} tq k z symbols same x ok =
       record {
         matched = sym (by_bool known
             (λ y. time_fails symbols classes base c node e x ok same b long t (tq (time_short symbols classes base c node e x ok))
             (ap (λ (m : ℕ). leb n c.time || eqb t m) (sym (add-one node)) ∙ last (leb n c.time || eqb t (node + 1)) y z))
             (λ y. known_fails symbols classes base c node e x ok same b long (sym k ∙ y)));
-        binds = λ q. absurd (false≢true q);
+        binds = λ v q. clash (cc);
       }
     where
       last : (a : Bool) {d : Bool} → d ≡ true → (a && d) ≡ false → a ≡ false
       last true y z = absurd (false≢true (sym z ∙ y))
       last false y z = refl
 
-  pub matching_made :
-      {t : ℕ} {same : Bool} (d v : List ℕ) → d ≡ taken classes c e n b
-      → v ≡ put n c.time (node + 1) d → (c.time < most_scope → t ≡ get_or v c.time 0) → same ≡ agrees classes c e base v
-      → (symbols : List ℕ) → get_or symbols e 0 ≡ c.symbol → (x : Guarded) → Fitting n c x
-      → Matching symbols classes base b node e (record { yes = eqb t (node + 1) && same; values = v }) x
-  matching_made {t} {same} d v dq vq tq sq symbols sym-is x ok =
-      let m : v ≡ made classes c e node n b = vq ∙ ap₂ (λ (i : ℕ) (l : List ℕ). put n c.time i l) (add-one node) dq in
-      record {
-        matched = ap₂ ◌&&◌
-            (ap₂ eqb (tq (time_short symbols classes base c node e x ok) ∙ ap (λ (l : List ℕ). get_or l c.time 0) m) (add-one node))
-            (sq ∙ ap (agrees classes c e base) m)
-            ∙ match_made symbols classes base c node e x ok sym-is b long;
-        binds = λ q. ap (bound (x.scope ++ x.sorts)) m ∙ bound_made symbols classes base c node e x ok sym-is b long;
-      }
+  -- under the values that are bound, all is known
+  module _ {t : ℕ} {same : Bool} (d v : List ℕ) (dq : d ≡ taken classes c e n b) (vq : v ≡ put n c.time (node + 1) d)
+      (tq : c.time < most_scope → t ≡ get_or v c.time 0) (sq : same ≡ known_agree classes c e base most_scope v)
+      (symbols : List ℕ) (sym-is : get_or symbols e 0 ≡ c.symbol) (x : Guarded) (ok : Fitting n c x) where
+    abbrev Found : Bool
+    Found = eqb t (node + 1) && same
+
+    values_made : v ≡ made classes c e node n b
+    values_made = vq ∙ ap₂ (λ (i : ℕ) (l : List ℕ). put n c.time i l) (add-one node) dq
+
+    found_meets : Found ≡ meets base b x (entry_of x.ars symbols classes node e)
+    found_meets =
+        ap₂ ◌&&◌
+        (ap₂ eqb (tq (time_short symbols classes base c node e x ok) ∙ ap (λ (l : List ℕ). get_or l c.time 0) values_made) (add-one node))
+        (sq ∙ all_known classes c e base v ∙ ap (agrees classes c e base) values_made)
+        ∙ match_made symbols classes base c node e x ok sym-is b long
+
+    pub matching_made : Found ≡ true → Matching symbols classes base b node e (Some v) x
+    matching_made z = record {
+      matched = sym z ∙ found_meets;
+      binds = λ w q.
+          let p : v ≡ w = cc in
+          ap (bound (x.scope ++ x.sorts)) (sym p ∙ values_made) ∙ bound_made symbols classes base c node e x ok sym-is b long;
+    }
+
+    pub matching_missed : Found ≡ false → Matching symbols classes base b node e None x
+    matching_missed z = record { matched = sym z ∙ found_meets; binds = λ w q. clash (cc) }

@@ -1,7 +1,8 @@
 -- The walk over the entries: what a loop has found up to an entry of the symbol, and the rest, are the whole.
-use Rattle.std.specs.Prelude.{ℕ, ◌+◌, ◌≤◌, ◌<◌, List, ◌++◌, Bool, true, false, ◌&&◌, ◌||◌, ◌⊎◌, ◌≡◌, refl, get_or, eqb}
-use Rattle.std.proofs.Math.Bool.{or_assoc, or-false}
-use Rattle.std.proofs.Common.{inl, inr, ⊎_elim, sym, ap, ap₂, ◌∙◌, subst, arith, add-one}
+use Rattle.std.specs.Prelude.{ℕ, ◌+◌, ◌≤◌, ◌<◌, List, ◌++◌, Bool, true, false, ◌&&◌, ◌||◌, ◌≡◌, get_or, eqb, Option, Some, None}
+use Rattle.std.specs.Option.{is_some}
+use Rattle.std.proofs.Common.{sym, ap, ap₂, ◌∙◌, subst, subst₂, arith, add-one}
+use Rattle.lists.specs.Choice.{clash}
 use Rattle.lists.specs.Lists.{any_by}
 use Rattle.property.specs.Figures.{most_scope}
 use Rattle.property.specs.Formula.{Formula}
@@ -11,22 +12,19 @@ use Rattle.property.specs.Judge.{judge, matches, entries_from}
 use Rattle.property.specs.Judge.Numbers.{numbers}
 use Rattle.judge.specs.declared.reading.Coded.{Coded}
 use Rattle.judge.specs.declared.reading.Guard.{Guard}
-use Rattle.judge.specs.declared.matching.Matched.{Matched}
 use Rattle.judge.specs.declared.judging.Judged.{Judged}
 use Rattle.judge.specs.Tables.{entry_of, rest, total, Shape, Past, Of}
-use Rattle.lists.specs.Scan.{Next}
-use Rattle.judge.specs.Tables.Entries.{rest_begins, rest_at, rest_ends, rest_next}
+use Rattle.judge.specs.Tables.Entries.{rest_begins, rest_at, rest_ends, rest_skip}
 use Rattle.judge.specs.Bindings.{bound}
 use Rattle.judge.specs.Folding.{join, join_assoc, join_unit, join_begin, over, over_any, over_all, over_miss, over_hit}
 use Rattle.judge.specs.Judging.{Written, written_of, Fits, Guarded, Fitting, Bodied, binds_to, meets, Matching, Occurs, Says, Walked, traced, truth_of}
-use Rattle.judge.specs.Judging.Guards.{agrees, time_short, other_misses, match_under}
+use Rattle.judge.specs.Judging.Guards.{known_agree, all_known, time_short, other_misses, match_under}
 
 -- ── what a loop has at entry e ──
 module _ (starts symbols classes : List ℕ) where
-  -- an entry of the symbol, and a node that is not behind it
-  pub record Standing (symbol node e : ℕ) : Type 0 where
+  -- a node that is not behind it
+  pub record Standing (node e : ℕ) : Type 0 where
     pub within : e ≤ total starts
-    pub here : e < total starts → get_or symbols e 0 ≡ symbol
     pub past : Past starts node e
 
   module _ (base : ℕ) where
@@ -37,11 +35,10 @@ module _ (starts symbols classes : List ℕ) where
     abbrev left : List ℕ → Guarded → ℕ → Bool
     left b x e = any_by (hits b x) (rest x.ars symbols classes starts e)
 
-    pub record Occurring (c : Coded) (b : List ℕ) (found : Bool) (node e : ℕ) : Type 0 where
-      pub stands : Standing c.symbol node e
-      pub so_far :
-          (n : ℕ) (x : Guarded) → Fitting n c x
-          → (found || left b x e) ≡ any_by (hits b x) (entries_from 1 (traced starts symbols classes x.ars))
+    -- not so far
+    pub record Occurring (c : Coded) (b : List ℕ) (node e : ℕ) : Type 0 where
+      pub stands : Standing node e
+      pub so_far : (n : ℕ) (x : Guarded) → Fitting n c x → left b x e ≡ any_by (hits b x) (entries_from 1 (traced starts symbols classes x.ars))
 
     -- the truth of a quantifier so far
     abbrev meet : List ℕ → Guarded → Entry ℕ → Bool
@@ -57,71 +54,86 @@ module _ (starts symbols classes : List ℕ) where
     wanted every b x φ = truth_of starts symbols classes base x.ars x.scope b (quantified every (head_of x.sorts x.guard) φ)
 
     -- and the place behind the body, once it was judged
-    pub record Walking (file table : List ℕ) (h : Guard) (n : ℕ) (b : List ℕ) (truth : Bool) (next node e : ℕ) : Type 0 where
-      pub stands : Standing h.fact.symbol node e
+    pub record Walking (file table : List ℕ) (h : Guard) (n : ℕ) (b : List ℕ) (truth : Bool) (next : Option ℕ) (node e : ℕ) : Type 0 where
+      pub stands : Standing node e
       pub so_far :
           (x : Guarded) (φ : Formula) (k : ℕ) → Bodied file table h n x φ k
           → join h.every truth (onward h.every b x φ e) ≡ wanted h.every b x φ
-      pub ended : (next ≡ 0) ⊎ ((x : Guarded) (φ : Formula) (k : ℕ) → Bodied file table h n x φ k → next ≡ k)
+      pub ended : (i : ℕ) → next ≡ Some i → (x : Guarded) (φ : Formula) (k : ℕ) → Bodied file table h n x φ k → i ≡ k
+
+-- the same at equal values
+module _ {starts symbols classes : List ℕ} {base : ℕ} {file table : List ℕ} {h : Guard} {n : ℕ} {b : List ℕ} {e : ℕ} where
+  pub walks :
+      {t u : Bool} {i j : Option ℕ} {x y : ℕ} → t ≡ u → i ≡ j → x ≡ y → Walking starts symbols classes base file table h n b t i x e
+      → Walking starts symbols classes base file table h n b u j y e
+  walks {t} {u} {i} {j} {x} {y} p q r w =
+      subst (λ (z : Bool). Walking starts symbols classes base file table h n b z j y e) p
+      (subst₂ (λ (k : Option ℕ) (m : ℕ). Walking starts symbols classes base file table h n b t k m e) q r w)
 
 -- ── step by step ──
 module _ {starts symbols classes : List ℕ} (shape : Shape starts symbols classes) where
-  abbrev At : ℕ → ℕ → ℕ → Type 0
-  At symbol node e = Standing starts symbols classes symbol node e
+  abbrev At : ℕ → ℕ → Type 0
+  At node e = Standing starts symbols classes node e
 
-  standing_begins : {symbol e : ℕ} → Next symbols symbol 0 (total starts) e → At symbol 0 e
-  standing_begins n = record { within = n.within; here = n.here; past = record { inside = shape.some; begun = omega (arith, shape.first) } }
+  standing_begins : At 0 0
+  standing_begins = record { within = omega arith; past = record { inside = shape.some; begun = omega (arith, shape.first) } }
 
-  standing_next : {symbol node e r : ℕ} → Of starts node e → Next symbols symbol (e + 1) (total starts) r → At symbol node r
-  standing_next o n =
-      record { within = n.within; here = n.here; past = record { inside = omega (arith, o.inside); begun = omega (arith, o.begun, n.later) } }
+  standing_next : {node e : ℕ} → e < total starts → Of starts node e → At node (e + 1)
+  standing_next l o = record { within = omega arith; past = record { inside = omega (arith, o.inside); begun = omega (arith, o.begun) } }
+
+  -- past an entry of another symbol
+  standing_skip : {node e : ℕ} → e < total starts → At node e → At node (e + 1)
+  standing_skip l s = record { within = omega arith; past = record { inside = s.past.inside; begun = omega (arith, s.past.begun) } }
 
   module _ (base : ℕ) (c : Coded) (b : List ℕ) where
     abbrev any : Guarded → List (Entry ℕ) → Bool
     any x = any_by (hits starts symbols classes base b x)
 
-    abbrev Found : Bool → ℕ → ℕ → Type 0
-    Found found node e = Occurring starts symbols classes base c b found node e
+    abbrev Found : ℕ → ℕ → Type 0
+    Found node e = Occurring starts symbols classes base c b node e
 
-    left_next :
-        {n : ℕ} (x : Guarded) → Fitting n c x → {e r : ℕ} → Next symbols c.symbol e (total starts) r
-        → left starts symbols classes base b x e ≡ left starts symbols classes base b x r
-    left_next x ok p =
-        rest_next x.ars shape (any x) p
-        (λ i node es d. ap (λ (z : Bool). z || any x es) (other_misses symbols classes base c node i x ok (bound (x.scope ++ x.sorts) b) d))
+    pub occurring_begins : Found 0 0
+    occurring_begins = record { stands = standing_begins; so_far = λ n x ok. ap (any x) (sym (rest_begins x.ars shape)) }
 
-    pub occurring_begins : {e : ℕ} → Next symbols c.symbol 0 (total starts) e → Found false 0 e
-    occurring_begins p = record {
-      stands = standing_begins p;
-      so_far = λ n x ok. sym (left_next x ok p) ∙ ap (any x) (sym (rest_begins x.ars shape));
-    }
-
-    pub occurring_next :
-        {found same : Bool} {node' node e r t : ℕ} → e < total starts → Found found node' e → Of starts node e
-        → (c.time < most_scope → t ≡ get_or b c.time 0) → same ≡ agrees classes c e base b → Next symbols c.symbol (e + 1) (total starts) r
-        → Found (found || (eqb t (node + 1) && same)) node r
-    occurring_next {found} {same} {node'} {node} {e} {r} {t} l w o tq sq p =
+    pub occurring_skip : {node e : ℕ} → e < total starts → ¬ (get_or symbols e 0 ≡ c.symbol) → Found node e → Found node (e + 1)
+    occurring_skip {node} {e} l d w =
         record {
-          stands = standing_next o p;
+          stands = standing_skip l w.stands;
           so_far = λ n x ok.
-              or_assoc found (eqb t (node + 1) && same) (left starts symbols classes base b x r)
-              ∙ ap (found ||◌) (ap₂ ◌||◌
-              (ap₂ ◌&&◌ (ap₂ eqb (tq (time_short symbols classes base c node e x ok)) (add-one node)) sq
-              ∙ match_under symbols classes base c node e x ok (w.stands.here l) b)
-              (sym (left_next x ok p))
-              ∙ sym (ap (any x) (rest_at x.ars shape o)))
+              sym (rest_skip x.ars shape (any x) e l (λ node es. ap (λ (z : Bool). z || any x es)
+              (other_misses symbols classes base c node e x ok (bound (x.scope ++ x.sorts) b) d)))
               ∙ w.so_far n x ok;
         }
 
-    pub occurring_ends :
-        {found : Bool} {node e n : ℕ} → ¬ (e < total starts) → Found found node e → (x : Guarded) → Fitting n c x
-        → Occurs starts symbols classes base b found x
-    occurring_ends {found} {node} {e} {n} l w x ok =
-        record {
-          found = sym (or-false found)
-              ∙ ap (λ (r : List (Entry ℕ)). found || any x r) (sym (rest_ends x.ars shape (omega (arith, w.stands.within))))
-              ∙ w.so_far n x ok;
-        }
+    -- the entry is of the symbol: what code compared is whether it hits
+    module _ {same : Bool} {node' node e t : ℕ} (l : e < total starts) (here : get_or symbols e 0 ≡ c.symbol) (w : Found node' e)
+        (o : Of starts node e) (tq : c.time < most_scope → t ≡ get_or b c.time 0) (sq : same ≡ known_agree classes c e base most_scope b) where
+      hit_is : {n : ℕ} (x : Guarded) → Fitting n c x
+          → (eqb t (node + 1) && same) ≡ hits starts symbols classes base b x (entry_of x.ars symbols classes node e)
+      hit_is x ok =
+          ap₂ ◌&&◌ (ap₂ eqb (tq (time_short symbols classes base c node e x ok)) (add-one node)) (sq ∙ all_known classes c e base b)
+          ∙ match_under symbols classes base c node e x ok here b
+
+      left_is : {n : ℕ} (x : Guarded) → Fitting n c x
+          → ((eqb t (node + 1) && same) || left starts symbols classes base b x (e + 1))
+          ≡ any_by (hits starts symbols classes base b x) (entries_from 1 (traced starts symbols classes x.ars))
+      left_is {n} x ok =
+          ap (λ (z : Bool). z || left starts symbols classes base b x (e + 1)) (hit_is x ok)
+          ∙ sym (ap (any x) (rest_at x.ars shape o))
+          ∙ w.so_far n x ok
+
+      pub occurring_next : (eqb t (node + 1) && same) ≡ false → Found node (e + 1)
+      occurring_next z = record {
+        stands = standing_next l o;
+        so_far = λ n x ok. ap (λ (y : Bool). y || left starts symbols classes base b x (e + 1)) (sym z) ∙ left_is x ok;
+      }
+
+      pub occurring_hit : {n : ℕ} → (eqb t (node + 1) && same) ≡ true → (x : Guarded) → Fitting n c x → Occurs starts symbols classes base b true x
+      occurring_hit z x ok = record { found = ap (λ (y : Bool). y || left starts symbols classes base b x (e + 1)) (sym z) ∙ left_is x ok }
+
+    pub occurring_ends : {node e n : ℕ} → ¬ (e < total starts) → Found node e → (x : Guarded) → Fitting n c x → Occurs starts symbols classes base b false x
+    occurring_ends {node} {e} {n} l w x ok =
+        record { found = ap (any x) (sym (rest_ends x.ars shape (omega (arith, w.stands.within)))) ∙ w.so_far n x ok }
 
   module _ (base : ℕ) (file table : List ℕ) (h : Guard) (n : ℕ) (b : List ℕ) where
     abbrev fold : Guarded → Formula → List (Entry ℕ) → Bool
@@ -130,7 +142,7 @@ module _ {starts symbols classes : List ℕ} (shape : Shape starts symbols class
     abbrev ahead : Guarded → Formula → ℕ → Bool
     ahead x φ e = onward starts symbols classes base h.every b x φ e
 
-    abbrev Walks : Bool → ℕ → ℕ → ℕ → Type 0
+    abbrev Walks : Bool → Option ℕ → ℕ → ℕ → Type 0
     Walks truth next node e = Walking starts symbols classes base file table h n b truth next node e
 
     abbrev every_entry : Guarded → List (Entry ℕ)
@@ -145,31 +157,31 @@ module _ {starts symbols classes : List ℕ} (shape : Shape starts symbols class
         go true = over_all (meet starts symbols classes base b x) (pass starts symbols classes base b x φ) (every_entry x)
         go false = over_any (meet starts symbols classes base b x) (pass starts symbols classes base b x φ) (every_entry x)
 
-    ahead_next :
-        (x : Guarded) (φ : Formula) → Fitting n h.fact x → {e r : ℕ} → Next symbols h.fact.symbol e (total starts) r
-        → ahead x φ e ≡ ahead x φ r
-    ahead_next x φ ok p =
-        rest_next x.ars shape (fold x φ) p
-        (λ i node es d. over_miss (meet starts symbols classes base b x) h.every (pass starts symbols classes base b x φ)
-        (entry_of x.ars symbols classes node i) es
-        (other_misses symbols classes base h.fact node i x ok (binds_to base b x (entry_of x.ars symbols classes node i)) d))
-
-    pub walking_begins : {e : ℕ} → Next symbols h.fact.symbol 0 (total starts) e → Walks h.every 0 0 e
-    walking_begins {e} p =
+    pub walking_begins : Walks h.every None 0 0
+    walking_begins =
         record {
-          stands = standing_begins p;
-          so_far = λ x φ k w. join_begin h.every (ahead x φ e) ∙ sym (ahead_next x φ w.fitting p) ∙ wanted_over x φ;
-          ended = inl refl;
+          stands = standing_begins;
+          so_far = λ x φ k w. join_begin h.every (ahead x φ 0) ∙ wanted_over x φ;
+          ended = λ i q. clash (cc);
         }
 
-    -- the place behind the body, once it was judged or passed over
-    pub walking_behind :
-        {truth : Bool} {next node e : ℕ} → Walks truth next node e → ¬ (next ≡ 0) → (x : Guarded) (φ : Formula) (k : ℕ) → Bodied file table h n x φ k
-        → next ≡ k
-    walking_behind v z = ⊎_elim (λ q. absurd (z q)) (λ l. l) v.ended
+    pub walking_skip :
+        {truth : Bool} {next : Option ℕ} {node e : ℕ} → e < total starts → ¬ (get_or symbols e 0 ≡ h.fact.symbol) → Walks truth next node e
+        → Walks truth next node (e + 1)
+    walking_skip {truth} {next} {node} {e} l d v =
+        record {
+          stands = standing_skip l v.stands;
+          so_far = λ x φ k w.
+              ap (join h.every truth) (sym (rest_skip x.ars shape (fold x φ) e l
+              (λ node es. over_miss (meet starts symbols classes base b x) h.every (pass starts symbols classes base b x φ)
+              (entry_of x.ars symbols classes node e) es
+              (other_misses symbols classes base h.fact node e x w.fitting (binds_to base b x (entry_of x.ars symbols classes node e)) d))))
+              ∙ v.so_far x φ k w;
+          ended = v.ended;
+        }
 
     pub walking_ends :
-        {truth : Bool} {next node e end : ℕ} → ¬ (e < total starts) → Walks truth next node e
+        {truth : Bool} {next : Option ℕ} {node e end : ℕ} → ¬ (e < total starts) → Walks truth next node e
         → ((x : Guarded) (φ : Formula) (k : ℕ) → Bodied file table h n x φ k → end ≡ k) → (x : Guarded) (φ : Formula) (k : ℕ)
         → Bodied file table h n x φ k → Walked starts symbols classes base h.every b (record { truth = truth; next = end }) x φ k
     walking_ends {truth} {e = e} l v ends x φ k w =
@@ -180,44 +192,44 @@ module _ {starts symbols classes : List ℕ} (shape : Shape starts symbols class
           next = ends x φ k w;
         }
 
-    module _ {truth : Bool} {next node' node e r : ℕ} (m : Matched) (o : Of starts node e) (p : Next symbols h.fact.symbol (e + 1) (total starts) r)
+    -- an entry of the symbol
+    module _ {truth : Bool} {next : Option ℕ} {node' node e : ℕ} (l : e < total starts) (m : Option (List ℕ)) (o : Of starts node e)
         (says : (x : Guarded) → Fitting n h.fact x → Matching symbols classes base b node e m x) (v : Walks truth next node' e) where
       abbrev here : Guarded → Entry ℕ
       here x = entry_of x.ars symbols classes node e
 
-      pub walking_miss : m.yes ≡ false → Walks truth next node r
+      pub walking_miss : m ≡ None → Walks truth next node (e + 1)
       walking_miss z =
           record {
-            stands = standing_next o p;
+            stands = standing_next l o;
             so_far = λ x φ k w.
-                ap (join h.every truth) (sym (ahead_next x φ w.fitting p)
-                ∙ sym (over_miss (meet starts symbols classes base b x) h.every (pass starts symbols classes base b x φ) (here x)
-                (rest x.ars symbols classes starts (e + 1)) (sym (says x w.fitting).matched ∙ z))
+                ap (join h.every truth) (sym (over_miss (meet starts symbols classes base b x) h.every (pass starts symbols classes base b x φ) (here x)
+                (rest x.ars symbols classes starts (e + 1)) (sym (says x w.fitting).matched ∙ ap is_some z))
                 ∙ sym (ap (fold x φ) (rest_at x.ars shape o)))
                 ∙ v.so_far x φ k w;
             ended = v.ended;
           }
 
       pub walking_match :
-          {inner : ℕ} {a : Judged} → m.yes ≡ true → inner ≡ n + h.fresh
-          → ((w : Written) → Fits file table h.fact.next inner w → Says starts symbols classes base m.values a w)
-          → Walks (join h.every truth a.truth) a.next node r
-      walking_match {inner} {a} z q judged =
+          {inner : ℕ} {values : List ℕ} {a : Judged} → m ≡ Some values → inner ≡ n + h.fresh
+          → ((w : Written) → Fits file table h.fact.next inner w → Says starts symbols classes base values a w)
+          → Walks (join h.every truth a.truth) (Some a.next) node (e + 1)
+      walking_match {inner} {values} {a} z q judged =
           record {
-            stands = standing_next o p;
+            stands = standing_next l o;
             so_far = λ x φ k w.
-                sym (join_assoc h.every truth a.truth (ahead x φ r))
-                ∙ ap (join h.every truth) (ap₂ (join h.every) (holds x φ k w) (sym (ahead_next x φ w.fitting p))
+                sym (join_assoc h.every truth a.truth (ahead x φ (e + 1)))
+                ∙ ap (join h.every truth) (ap (λ (y : Bool). join h.every y (ahead x φ (e + 1))) (holds x φ k w)
                 ∙ sym (over_hit (meet starts symbols classes base b x) h.every (pass starts symbols classes base b x φ) (here x)
-                (rest x.ars symbols classes starts (e + 1)) (sym (says x w.fitting).matched ∙ z))
+                (rest x.ars symbols classes starts (e + 1)) (sym (says x w.fitting).matched ∙ ap is_some z))
                 ∙ sym (ap (fold x φ) (rest_at x.ars shape o)))
                 ∙ v.so_far x φ k w;
-            ended = inr (λ x φ k w. (told x φ k w).next);
+            ended = λ i y x φ k w. let p : i ≡ a.next = cc in p ∙ (told x φ k w).next;
           }
         where
           told :
               (x : Guarded) (φ : Formula) (k : ℕ) → Bodied file table h n x φ k
-              → Says starts symbols classes base m.values a (written_of x.ars (x.scope ++ x.sorts) φ k)
+              → Says starts symbols classes base values a (written_of x.ars (x.scope ++ x.sorts) φ k)
           told x φ k w =
               judged (written_of x.ars (x.scope ++ x.sorts) φ k)
               (subst (λ (i : ℕ). Fits file table h.fact.next i (written_of x.ars (x.scope ++ x.sorts) φ k)) (sym q) w.body)
@@ -225,4 +237,4 @@ module _ {starts symbols classes : List ℕ} (shape : Shape starts symbols class
           holds : (x : Guarded) (φ : Formula) (k : ℕ) → Bodied file table h n x φ k → a.truth ≡ pass starts symbols classes base b x φ (here x)
           holds x φ k w =
               (told x φ k w).truth
-              ∙ ap (λ u. judge (numbers base) (traced starts symbols classes x.ars) u φ) ((says x w.fitting).binds z)
+              ∙ ap (λ u. judge (numbers base) (traced starts symbols classes x.ars) u φ) ((says x w.fitting).binds values z)

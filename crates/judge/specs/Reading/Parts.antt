@@ -11,6 +11,9 @@ use Rattle.number.specs.Groups.{number_limit}
 use Rattle.number.specs.Reading.{got, fault, read_number, below, many, counted}
 use Rattle.number.specs.Reading.Laws.{cut_got}
 use Rattle.number.specs.Reading.Many.{many_length}
+use Rattle.std.specs.Prelude.{Option, Some, None}
+use Rattle.std.specs.Option.{unwrap_or}
+use Rattle.number.specs.Reading.{as_read}
 use Rattle.number.specs.Reading.Numbers.{read_form}
 use Rattle.term.specs.Tags.{variable_tag}
 use Rattle.protocol.specs.Figures.{message_sort, most_fact_arity}
@@ -25,15 +28,23 @@ use Rattle.judge.specs.Bindings.{code}
 use Rattle.judge.specs.Reading.{NumberIs, TermIs, SortsAre, TermsAre, Carries, FactIs, HeadIs}
 
 -- ── a number ──
-pub number_is : {file : List ℕ} {at : ℕ} {r : Num} → Bytes file → read_number file at ≡ got r.value r.next → NumberIs file at r
+number_is : {file : List ℕ} {at : ℕ} {r : Num} → Bytes file → read_number file at ≡ got r.value r.next → NumberIs file at r
 number_is {file} {at} {r} bytes h = record {
   small = (read_form file bytes at r.value r.next h).0;
   says = λ v e k. ((cc), (cc));
 }
 
-pub number_none : {file : List ℕ} {at : ℕ} {r : Num} → r.value ≡ 0 → read_number file at ≡ fault → NumberIs file at r
+number_none : {file : List ℕ} {at : ℕ} {r : Num} → r.value ≡ 0 → read_number file at ≡ fault → NumberIs file at r
 unfolding number_limit
 number_none z h = record { small = omega (arith, z); says = λ v e k. clash (cc) }
+
+pub number_read :
+    {file : List ℕ} {at : ℕ} {p : ℕ × ℕ} → Bytes file → (o : Option (ℕ × ℕ)) → as_read o ≡ read_number file at → p ≡ unwrap_or o (0, 0)
+    → NumberIs file at (record { value = p.0; next = p.1 })
+number_read {file} {at} bytes (Some (v, e)) h q =
+    subst (λ (r : ℕ × ℕ). NumberIs file at (record { value = r.0; next = r.1 })) (sym q) (number_is bytes (sym h))
+number_read {file} {at} bytes None h q =
+    subst (λ (r : ℕ × ℕ). NumberIs file at (record { value = r.0; next = r.1 })) (sym q) (number_none refl (sym h))
 
 -- a number that stands there is the one that code has
 pub number_got :

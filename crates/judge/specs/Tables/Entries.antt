@@ -10,7 +10,6 @@ use Rattle.std.proofs.Math.ListN.{drop}
 use Rattle.std.proofs.Math.Seq.{drop-append-add, drop-nil}
 use Rattle.lists.specs.Choice.{by_size}
 use Rattle.lists.specs.Lists.{row}
-use Rattle.lists.specs.Scan.{Next}
 use Rattle.lists.specs.Lists.Laws.{row_same}
 use Rattle.property.specs.Meaning.{Fact, Entry, Trace}
 use Rattle.property.specs.Judge.{entries_from}
@@ -189,28 +188,14 @@ module _ (ars : List ℕ) {starts symbols classes : List ℕ} (shape : Shape sta
           (r.0, record { inside = omega (arith, r.1); begun = r.2; before = rw add-one r.3 })
       go (suc s ∷ ss) h l = absurd (omega (arith, h.first))
 
-  -- entries that a fold passes over
-  module _ (F : List (Entry ℕ) → Bool) where
-    passes : (k e : ℕ) → e + k ≤ total starts
-        → ((i node : ℕ) (es : List (Entry ℕ)) → e ≤ i → i < e + k → F (entry_of ars symbols classes node i ∷ es) ≡ F es)
-        → F (rest ars symbols classes starts e) ≡ F (rest ars symbols classes starts (e + k))
-    passes zero e l h = let z : e ≡ e + 0 = omega arith in ap (λ (i : ℕ). F (rest ars symbols classes starts i)) z
-    passes (suc k) e l h =
-        let o = node_at e (omega arith) in
-        let z : e + 1 + k ≡ e + suc k = omega arith in
-        ap F (rest_at o.1)
-        ∙ h e o.0 (rest ars symbols classes starts (e + 1)) (omega arith) (omega arith)
-        ∙ passes k (e + 1) (omega arith) (λ i node es a b. h i node es (omega arith) (omega arith))
-        ∙ ap (λ (i : ℕ). F (rest ars symbols classes starts i)) z
-
-    pub rest_next :
-        {symbol e r : ℕ} → Next symbols symbol e (total starts) r
-        → ((i node : ℕ) (es : List (Entry ℕ)) → ¬ (get_or symbols i 0 ≡ symbol) → F (entry_of ars symbols classes node i ∷ es) ≡ F es)
-        → F (rest ars symbols classes starts e) ≡ F (rest ars symbols classes starts r)
-    rest_next {symbol} {e} {r} n h =
-        let z : e + (r - e) ≡ r = omega (arith, n.later) in
-        passes (r - e) e (omega (arith, n.later, n.within)) (λ i node es a b. h i node es (n.others i a (omega (arith, z))))
-        ∙ ap (λ (i : ℕ). F (rest ars symbols classes starts i)) z
+  -- an entry that a fold passes over
+  pub rest_skip :
+      (F : List (Entry ℕ) → Bool) (e : ℕ) → e < total starts
+      → ((node : ℕ) (es : List (Entry ℕ)) → F (entry_of ars symbols classes node e ∷ es) ≡ F es)
+      → F (rest ars symbols classes starts e) ≡ F (rest ars symbols classes starts (e + 1))
+  rest_skip F e l h =
+      let o = node_at e l in
+      ap F (rest_at o.1) ∙ h o.0 (rest ars symbols classes starts (e + 1))
 
 -- ── as code walks them ──
 -- a node behind whose start the entry is, and which is not the last start, has a next one

@@ -31,8 +31,8 @@ loop-node-smaller c =
 
 pub loop-node-preserved : goal.loop-node-preserved
 loop-node-preserved c =
-    node_next c.loop-node.invariant c.requires.1 (omega (arith, c.wide.ensures))
+    node_next c.loop-node.invariant c.requires.1 (omega arith)
 
 pub returns : goal.returns
 returns c =
-    node_found c.loop-node.invariant c.requires.1 (omega (arith, c.wide.ensures))
+    node_found c.loop-node.invariant c.requires.1 (omega arith)

@@ -10,12 +10,8 @@ decreases-judge l =
 
 abbrev pub decreases-walk : goal.decreases-walk
 decreases-walk l =
-    2 * (length l.file.now - l.guard.fact.next) + 1
+    2 * (length l.file.now - l.guard.now.fact.next) + 1
 
 abbrev pub invariant-walk-loop-e : goal.invariant-walk-loop-e
 invariant-walk-loop-e l =
     Walking l.starts l.symbols l.classes l.base l.file l.arities l.guard l.bound.count l.bound.values l.truth l.next l.node l.e
-
-abbrev pub decreases-walk-loop-e : goal.decreases-walk-loop-e
-decreases-walk-loop-e l =
-    l.count - l.e

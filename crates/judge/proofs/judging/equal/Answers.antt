@@ -14,5 +14,5 @@ overflow_cast-u c =
 
 pub returns : goal.returns
 returns c =
-    λ table tr. said_equal c.args.file.now table tr c.args.base c.args.bound.count c.args.bound.values c.args.at
+    λ table tr. said_equal c.args.file.now table tr c.args.base c.args.bound.now.count c.args.bound.now.values c.args.at
     c.term-t.ensures c.term-u.ensures c.class_of-x.ensures c.class_of-y.ensures

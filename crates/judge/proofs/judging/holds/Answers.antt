@@ -2,11 +2,11 @@
 use Rattle.judge.specs.Judging.Returns.{property_fits, property_says}
 use Rattle.judge.proofs.judging.holds.Goals as goal
 
-pub judge-r-requires : goal.judge-r-requires
-judge-r-requires c =
+pub judge-requires : goal.judge-requires
+judge-requires c =
     (property_fits (λ i. (c.type_inv.file i).fits) c.requires.0, c.requires.1)
 
 pub returns : goal.returns
 returns c =
     property_says (λ i. (c.type_inv.file i).fits) c.args.starts.now c.args.symbols.now c.args.classes.now c.args.base _
-    c.judge-r.result c.judge-r.ensures
+    c.judge.result c.judge.ensures

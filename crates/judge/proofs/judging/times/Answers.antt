@@ -4,5 +4,5 @@ use Rattle.judge.proofs.judging.times.Goals as goal
 
 pub returns : goal.returns
 returns c =
-    λ table tr base. said_times c.args.file.now table tr base c.args.bound.count c.args.bound.values c.args.at c.args.order
+    λ table tr base. said_times c.args.file.now table tr base c.args.bound.now.count c.args.bound.now.values c.args.at c.args.order
     c.read-i.ensures c.read-j.ensures c.slot-x.ensures c.slot-y.ensures

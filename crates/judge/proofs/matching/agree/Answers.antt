@@ -1,58 +1,31 @@
--- The invariant is that `same` tells of the first j terms.
-use Rattle.judge.specs.Bindings.Tests.{all_step}
-use Rattle.judge.specs.Bindings.{all_up, value}
-use borrow.Author.Rules.{rules}
-use lib.Dec.{eqb}
-use lib.ListN.{get_or, length}
-use native.Mathlib.Omega.{arith}
-use Prim.Native.Nat.{◌+◌, ◌<◌}
-use mathlib.Core.Bool.{◌&&◌}
-use mathlib.Core.Path.{◌≡◌, refl, ap, ap₂, ◌∙◌}
+-- The invariant is that the first j terms agree.
+use Rattle.judge.specs.Bindings.Tests.{all_step, all_stops}
+use Rattle.judge.specs.Bindings.{value, is_new, all_up}
+use Rattle.std.proofs.Common.{◌≡◌, ◌||◌, ◌+◌, get_or, eqb, arith, ap, ap₂, ℕ, Bool}
+use mathlib.Core.Path.{refl, sym, ◌∙◌}
 use Rattle.judge.proofs.matching.agree.Goals as goal
 
 pub loop-j-init : goal.loop-j-init
-loop-j-init c =
-    (omega arith, refl)
+loop-j-init c = refl
 
-pub offset_bounds-codes-j : goal.offset_bounds-codes-j
-offset_bounds-codes-j c =
-    omega (arith, c.requires)
-
-pub bounds-codes-j : goal.bounds-codes-j
-bounds-codes-j c =
-    omega (arith, c.requires)
-
-pub overflow_add-p : goal.overflow_add-p
-overflow_add-p c =
-    omega (arith, c.requires, c.well_formed)
-
-pub offset_bounds-classes-p : goal.offset_bounds-classes-p
-offset_bounds-classes-p c =
-    let h : c.args.p + c.loop-j.j < length c.args.classes.now = omega (arith, c.requires) in
-    search rules
-
-pub bounds-classes-p : goal.bounds-classes-p
-bounds-classes-p c =
-    omega (arith, c.requires)
-
-pub overflow_add-j : goal.overflow_add-j
-overflow_add-j c =
-    omega (arith, c.requires)
-
-pub loop-j-smaller : goal.loop-j-smaller
-loop-j-smaller c =
-    omega arith
+pub returns-then-not-same : goal.returns-then-not-same
+returns-then-not-same c =
+    let T : ℕ → Bool = λ i. is_new c.args.n (get_or c.args.fact.now.codes i 0)
+    || eqb (value c.args.base c.args.values.now (get_or c.args.fact.now.codes i 0)) (get_or c.args.classes.now (c.args.p + i) 0) in
+    sym (all_stops T c.args.fact.now.count c.loop-j.j c.loop-j-test.true
+    (sym (ap₂ ◌||◌ c.is_new.ensures (ap (λ (v : ℕ). eqb v (get_or c.args.classes.now (c.args.p + c.loop-j.j) 0)) c.class_of-v.ensures))
+    ∙ c.if-not-same.true))
 
 pub loop-j-preserved : goal.loop-j-preserved
-loop-j-preserved c = (
-  omega arith,
-  ap₂ ◌&&◌ c.loop-j.invariant.1 (ap₂ eqb c.class_of-v.ensures c.wide-w.ensures) ∙ all_step
-      (λ i. eqb (value c.args.base c.args.values.now (get_or c.args.codes.now i 0)) (get_or c.args.classes.now (c.args.p + i) 0))
-      c.loop-j.j,
-)
+loop-j-preserved c =
+    let T : ℕ → Bool = λ i. is_new c.args.n (get_or c.args.fact.now.codes i 0)
+    || eqb (value c.args.base c.args.values.now (get_or c.args.fact.now.codes i 0)) (get_or c.args.classes.now (c.args.p + i) 0) in
+    all_step T c.loop-j.j c.loop-j.invariant
+    (sym (ap₂ ◌||◌ c.is_new.ensures (ap (λ (v : ℕ). eqb v (get_or c.args.classes.now (c.args.p + c.loop-j.j) 0)) c.class_of-v.ensures))
+    ∙ c.if-not-same.false)
 
 pub returns : goal.returns
 returns c =
-    let z : c.loop-j.j ≡ c.args.count = omega arith in
-    c.loop-j.invariant.1 ∙ ap (all_up (λ i. eqb (value c.args.base c.args.values.now (get_or c.args.codes.now i 0))
-    (get_or c.args.classes.now (c.args.p + i) 0))) z
+    let z : c.loop-j.j ≡ c.args.fact.now.count = omega arith in
+    sym c.loop-j.invariant ∙ ap (all_up (λ i. is_new c.args.n (get_or c.args.fact.now.codes i 0)
+    || eqb (value c.args.base c.args.values.now (get_or c.args.fact.now.codes i 0)) (get_or c.args.classes.now (c.args.p + i) 0))) z

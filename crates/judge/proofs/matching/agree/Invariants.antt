@@ -1,15 +1,8 @@
--- The invariant is that `same` tells of the first j terms.
-use Rattle.judge.specs.Bindings.{all_up, value}
-use lib.Dec.{eqb}
-use lib.ListN.{get_or}
-use Prim.Native.Nat.{◌+◌, ◌-◌, ◌≤◌}
-use mathlib.Core.Path.{◌≡◌}
+-- The invariant is that the first j terms agree.
+use Rattle.judge.specs.Bindings.{value, is_new, all_up}
+use Rattle.std.proofs.Common.{◌≡◌, true, ◌||◌, ◌+◌, get_or, eqb}
 use Rattle.judge.proofs.matching.agree.Given as goal
 
 abbrev pub invariant-loop-j : goal.invariant-loop-j
 invariant-loop-j l =
-    (l.j ≤ l.count) × (l.same ≡ all_up (λ i. eqb (value l.base l.values (get_or l.codes i 0)) (get_or l.classes (l.p + i) 0)) l.j)
-
-abbrev pub decreases-loop-j : goal.decreases-loop-j
-decreases-loop-j l =
-    l.count - l.j
+    all_up (λ i. is_new l.n (get_or l.fact.codes i 0) || eqb (value l.base l.values (get_or l.fact.codes i 0)) (get_or l.classes (l.p + i) 0)) l.j ≡ true

@@ -1,9 +1,8 @@
 -- The invariant is that the first j codes are those of the terms read up to i; each turn adds one.
 use Rattle.judge.specs.Reading.Parts.{code_fits}
 use Rattle.judge.specs.Reading.Lists.{coding_begins, coding_next, coding_ends}
-use lib.ListN.{length-replicate}
-use Prim.Native.Nat.{ℕ}
-use native.Mathlib.Omega.{arith}
+use Rattle.std.proofs.Common.{ℕ, arith}
+use Rattle.std.proofs.Math.ListN.{length-replicate}
 use Rattle.judge.proofs.reading.terms.Goals as goal
 
 pub loop-j-init : goal.loop-j-init
@@ -13,22 +12,6 @@ loop-j-init c =
 pub overflow_cast-codes : goal.overflow_cast-codes
 overflow_cast-codes c =
     omega (arith, code_fits c.term-t.ensures)
-
-pub offset_bounds-codes-j : goal.offset_bounds-codes-j
-offset_bounds-codes-j c =
-    omega (arith, c.requires)
-
-pub bounds-codes-j : goal.bounds-codes-j
-bounds-codes-j c =
-    omega (arith, c.requires)
-
-pub overflow_add-j : goal.overflow_add-j
-overflow_add-j c =
-    omega (arith, c.requires)
-
-pub loop-j-smaller : goal.loop-j-smaller
-loop-j-smaller c =
-    omega arith
 
 pub loop-j-preserved : goal.loop-j-preserved
 loop-j-preserved c =
