@@ -1,4 +1,5 @@
 -- The classes of arguments: places with the same canonical form get the same number.
+use Rattle.std.specs.Prelude.{Option, Some, None}
 use Rattle.std.specs.Prelude.{ℕ, suc, ◌*◌, ◌/◌, ◌%◌, ◌+◌, ◌≤◌, ◌<◌, List, ◌↔◌, ◌≡◌, length, get_or}
 use Rattle.term.specs.Term.{public, Term, leaf}
 use Rattle.message.specs.Canon.{canon}
@@ -41,10 +42,10 @@ pub record Walkable (p s nodes entries chains : List ℕ) (head q : ℕ) (P : Pr
   pub low : head ≤ q
   pub falls : Falls chains
 
--- a place of the chain and one, or 0 where none has the same form
-pub record Earlier (key : ℕ → Term) (chains : List ℕ) (head q h : ℕ) : Type 0 where
-  pub nowhere : h ≡ 0 → (l : ℕ) → InChain chains head l → key l ≡ key q → ⊥
-  pub somewhere : (r : ℕ) → h ≡ suc r → InChain chains head r × (key r ≡ key q)
+-- a place of the chain, or none where none has the same form
+pub record Earlier (key : ℕ → Term) (chains : List ℕ) (head q : ℕ) (o : Option ℕ) : Type 0 where
+  pub nowhere : o ≡ None → (l : ℕ) → InChain chains head l → key l ≡ key q → ⊥
+  pub somewhere : (r : ℕ) → o ≡ Some r → InChain chains head r × (key r ≡ key q)
 
 -- those before h in the chain have other forms
 pub record Walking (P : Protocol) (xs : List Node) (chains : List ℕ) (head q h : ℕ) : Type 0 where

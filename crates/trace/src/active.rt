@@ -12,13 +12,11 @@ pub fn active_nodes(starts: &[u32], n: usize) -> usize
     requires { n < length starts.now }
     ensures { Promises₂ (Starts starts.now) (λ (P : Protocol) (xs : List Node). length xs ≡ n → result ≡ count_by (is_active P) xs) }
 {
-    let mut active: usize = 0;
-    let mut k: usize = 0;
-    while k < n {
+    let mut active = 0;
+    for k in 0..n {
         if starts[k] < starts[k + 1] {
             active += 1;
         }
-        k += 1;
     }
     active
 }

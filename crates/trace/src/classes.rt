@@ -7,7 +7,7 @@ ghost use Rattle.facts.specs.Writing.{fact_room};
 ghost use Rattle.facts.specs.Calls.{Room};
 ghost use Rattle.trace.specs.Tables.{stride};
 ghost use Rattle.trace.specs.Entries.{ListedAll};
-ghost use Rattle.trace.specs.Chains.{few_actions, chain_of, HeadsBehind, Classed};
+ghost use Rattle.trace.specs.Chains.{most_chains, chain_of, HeadsBehind, Classed};
 ghost use Rattle.trace.specs.Classes.{Walkable, Earlier, key_at, Classing, Ready, ClassesAre};
 
 use crate::{entries, numbers};
@@ -37,7 +37,7 @@ fn head_place(mark: u32, size: usize) -> usize
     numbers::PLACES + mark as usize % HEADS
 }
 
-// A place in the chain from a head on whose argument is the same as that of place q, and one; 0 if there is none.
+// A place in the chain from a head on whose argument is the same as that of place q, if there is one.
 fn earlier(
     work: &mut [u8],
     p: &[u8],
@@ -47,11 +47,12 @@ fn earlier(
     chains: &[u16],
     head: u16,
     q: usize,
-) -> u16
+) -> Option<usize>
     requires { Asks₂ (Walkable p.now s.now nodes.now entries.now chains.now head q) × Room work.old fact_room × (q ≤ length chains.now) }
     ensures { Promises₂ (Walkable p.now s.now nodes.now entries.now chains.now head q) (λ (P : Protocol) (xs : List Node). Earlier (key_at P xs) chains.now head q result) }
 {
     let x = entries::action_of(entries[q / numbers::STRIDE]);
+    // A while: how many links there are to follow is not known before.
     let mut h = head;
     while h != 0 {
         let r = h as usize - 1;
@@ -66,11 +67,11 @@ fn earlier(
             y,
             r % numbers::STRIDE,
         ) {
-            return h;
+            return Some(r);
         }
         h = chains[r];
     }
-    0
+    None
 }
 
 // The class of place q: a public name keeps its number; else that of an earlier place with the same argument, or q itself.
@@ -93,14 +94,14 @@ fn class_place(
     }
     let chain = head_place(mark, chains.len());
     let head = chains[chain];
-    let h = earlier(work, p, s, nodes, entries, chains, head, q);
-    if h == 0 {
-        classes[q] = q as u32;
-        chains[q] = head;
-        chains[chain] = (q + 1) as u16;
-        return;
+    match earlier(work, p, s, nodes, entries, chains, head, q) {
+        Some(r) => classes[q] = classes[r],
+        None => {
+            classes[q] = q as u32;
+            chains[q] = head;
+            chains[chain] = (q + 1) as u16;
+        }
     }
-    classes[q] = classes[h as usize - 1];
 }
 
 // The classes of all places, from their first numbers. The chains are empty at first.
@@ -112,51 +113,30 @@ fn class_places(
     entries: &[u32],
     classes: &mut [u32],
     chains: &mut [u16],
-    total: usize,
 )
-    requires { Asks₂ (Ready p.now s.now nodes.now entries.now classes.old total) × Room work.old fact_room × (stride * total ≤ length classes.old) × HeadsBehind (length chains.old) (stride * total) × ((i : ℕ) → get_or chains.old i 0 ≡ 0) }
-    ensures { Promises₂ (Ready p.now s.now nodes.now entries.now classes.old total) (λ (P : Protocol) (xs : List Node). Classed (key_at P xs) classes.old classes.new chains.new (stride * total)) }
+    requires { Asks₂ (Ready p.now s.now nodes.now entries.now classes.old (length entries.now)) × Room work.old fact_room × (stride * length entries.now ≤ length classes.old) × HeadsBehind (length chains.old) (stride * length entries.now) × ((i : ℕ) → get_or chains.old i 0 ≡ 0) }
+    ensures { Promises₂ (Ready p.now s.now nodes.now entries.now classes.old (length entries.now)) (λ (P : Protocol) (xs : List Node). Classed (key_at P xs) classes.old classes.new chains.new (stride * length entries.now)) }
 {
-    let end = numbers::STRIDE * total;
-    let mut q: usize = 0;
-    while q < end {
+    let end = numbers::STRIDE * entries.len();
+    for q in 0..end {
         class_place(work, p, s, nodes, entries, classes, chains, q);
-        q += 1;
     }
 }
 
-// The same with chains for few actions.
-fn class_few(
+// The same with empty chains of a size.
+fn class_with<const SIZE: usize>(
     work: &mut [u8],
     p: &[u8],
     s: &[u8],
     nodes: &[usize],
     entries: &[u32],
     classes: &mut [u32],
-    total: usize,
 )
-    requires { Asks₂ (Ready p.now s.now nodes.now entries.now classes.old total) × Room work.old fact_room × (stride * total ≤ length classes.old) × (total ≤ few_actions) }
-    ensures { Promises₂ (Ready p.now s.now nodes.now entries.now classes.old total) (λ (P : Protocol) (xs : List Node). ClassesAre classes.new (stride * total) P xs) }
+    requires { Asks₂ (Ready p.now s.now nodes.now entries.now classes.old (length entries.now)) × Room work.old fact_room × (stride * length entries.now ≤ length classes.old) × HeadsBehind SIZE (stride * length entries.now) × (SIZE ≤ most_chains) }
+    ensures { Promises₂ (Ready p.now s.now nodes.now entries.now classes.old (length entries.now)) (λ (P : Protocol) (xs : List Node). ClassesAre classes.new (stride * length entries.now) P xs) }
 {
-    let mut chains = [0u16; FEW_CHAINS];
-    class_places(work, p, s, nodes, entries, classes, &mut chains, total);
-}
-
-// The same with chains for as many actions as there may be.
-fn class_many(
-    work: &mut [u8],
-    p: &[u8],
-    s: &[u8],
-    nodes: &[usize],
-    entries: &[u32],
-    classes: &mut [u32],
-    total: usize,
-)
-    requires { Asks₂ (Ready p.now s.now nodes.now entries.now classes.old total) × Room work.old fact_room × (stride * total ≤ length classes.old) }
-    ensures { Promises₂ (Ready p.now s.now nodes.now entries.now classes.old total) (λ (P : Protocol) (xs : List Node). ClassesAre classes.new (stride * total) P xs) }
-{
-    let mut chains = [0u16; CHAINS];
-    class_places(work, p, s, nodes, entries, classes, &mut chains, total);
+    let mut chains = [0u16; SIZE];
+    class_places(work, p, s, nodes, entries, classes, &mut chains);
 }
 
 // The class of each argument of the actions that are listed.
@@ -166,19 +146,18 @@ pub fn class_arguments(
     s: &[u8],
     nodes: &[usize],
     entries: &[u32],
-    total: usize,
     classes: &mut [u32],
 )
-    requires { Asks₂ (ListedAll p.now s.now nodes.now entries.now total) × Room work.old fact_room × (stride * total ≤ length classes.old) }
-    ensures { Promises₂ (ListedAll p.now s.now nodes.now entries.now total) (λ (P : Protocol) (xs : List Node). ClassesAre classes.new (stride * total) P xs) }
+    requires { Asks₂ (ListedAll p.now s.now nodes.now entries.now (length entries.now)) × Room work.old fact_room × (stride * length entries.now ≤ length classes.old) }
+    ensures { Promises₂ (ListedAll p.now s.now nodes.now entries.now (length entries.now)) (λ (P : Protocol) (xs : List Node). ClassesAre classes.new (stride * length entries.now) P xs) }
 {
-    if total == 0 {
+    if entries.is_empty() {
         return;
     }
-    numbers::number_actions(work, p, s, nodes, entries, total, classes);
-    if total <= FEW_ACTIONS {
-        class_few(work, p, s, nodes, entries, classes, total);
-        return;
+    numbers::number_actions(work, p, s, nodes, entries, classes);
+    if entries.len() <= FEW_ACTIONS {
+        class_with::<FEW_CHAINS>(work, p, s, nodes, entries, classes);
+    } else {
+        class_with::<CHAINS>(work, p, s, nodes, entries, classes);
     }
-    class_many(work, p, s, nodes, entries, classes, total);
 }

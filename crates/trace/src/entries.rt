@@ -36,10 +36,8 @@ fn enter_actions(p: &[u8], nodes: &[usize], k: usize, from: usize, entries: &mut
     ensures { Promises₃ (Begun p.now nodes.now entries.old k from) (λ (s : List ℕ) (P : Protocol) (xs : List Node). NodeEntered p.now nodes.now entries.new (k + 1) result s P xs) }
 {
     let count = counts::fact_count(p, nodes, k, figures::ACTIONS);
-    let mut i: usize = 0;
-    while i < count {
+    for i in 0..count {
         entries[from + i] = (NODE_ACTIONS * k + i) as u32;
-        i += 1;
     }
     from + count
 }
@@ -55,26 +53,22 @@ pub fn enter_nodes(
     requires { Asks₃ (TableOf p.now nodes.now n) × (n < length starts.old) × (actions_of n ≤ length entries.old) }
     ensures { Promises₃ (TableOf p.now nodes.now n) (λ (s : List ℕ) (P : Protocol) (xs : List Node). AllEntered p.now nodes.now starts.new entries.new result s P xs) }
 {
-    let mut from: usize = 0;
-    let mut k: usize = 0;
-    while k < n {
+    let mut from = 0;
+    for k in 0..n {
         starts[k] = from as u32;
         from = enter_actions(p, nodes, k, from, entries);
-        k += 1;
     }
     starts[n] = from as u32;
     from
 }
 
 // The symbol of each action takes the place of its entry.
-pub fn put_symbols(p: &[u8], nodes: &[usize], total: usize, symbols: &mut [u32])
-    requires { Asks₃ (EntriesOf p.now nodes.now symbols.old total) }
-    ensures { Promises₃ (EntriesOf p.now nodes.now symbols.old total) (λ (s : List ℕ) (P : Protocol) (xs : List Node). SymbolsTo symbols.new total P xs) }
+pub fn put_symbols(p: &[u8], nodes: &[usize], symbols: &mut [u32])
+    requires { Asks₃ (EntriesOf p.now nodes.now symbols.old (length symbols.old)) }
+    ensures { Promises₃ (EntriesOf p.now nodes.now symbols.old (length symbols.old)) (λ (s : List ℕ) (P : Protocol) (xs : List Node). SymbolsTo symbols.new (length symbols.old) P xs) }
 {
-    let mut e: usize = 0;
-    while e < total {
-        let x = action_of(symbols[e]);
-        symbols[e] = symbols::fact_symbol(p, nodes, x) as u32;
-        e += 1;
+    for y in symbols.iter_mut() {
+        let x = action_of(*y);
+        *y = symbols::fact_symbol(p, nodes, x) as u32;
     }
 }

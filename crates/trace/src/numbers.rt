@@ -36,9 +36,9 @@ fn form_number(form: &[u8], p: &[u8]) -> u32
     ensures { Promises (FormIn form.now p.now) (λ (t : Term). result ≡ form_number t) }
 {
     match steps::values::name_at(form, &p[..sections::ARITIES], 0) {
-        Name::FreshName(_) => marks::mark_bytes(form, NO_MARK),
-        Name::PublicName(name) => BASE + name.0,
-        Name::Other => marks::mark_bytes(form, NO_MARK),
+        Some(Name::PublicName(name)) => BASE + name.0,
+        Some(Name::FreshName(_name)) => marks::mark_bytes(form, NO_MARK),
+        None => marks::mark_bytes(form, NO_MARK),
     }
 }
 
@@ -91,16 +91,11 @@ fn number_action(
     ensures { Promises₂ (ActionOf p.now s.now nodes.now x e) (λ (P : Protocol) (xs : List Node). NumberedTo classes.old (stride * e) P xs → NumberedTo classes.new (stride * (e + 1)) P xs) }
 {
     let place = facts::nodes::fact_place(p, nodes, x);
-    let f = PlacedFact {
-        id: x,
-        place: place,
-    };
+    let f = PlacedFact { id: x, place };
     let y = finding::symbol_of(p, place);
     let count = finding::arity_of(p, y);
-    let mut j: usize = 0;
-    while j < STRIDE {
+    for j in 0..STRIDE {
         classes[STRIDE * e + j] = place_number(work, p, s, nodes, f, count, j);
-        j += 1;
     }
 }
 
@@ -111,16 +106,13 @@ pub fn number_actions(
     s: &[u8],
     nodes: &[usize],
     entries: &[u32],
-    total: usize,
     classes: &mut [u32],
 )
-    requires { Asks₂ (ListedAll p.now s.now nodes.now entries.now total) × Room work.old 0 × (stride * total ≤ length classes.old) }
-    ensures { Promises₂ (ListedAll p.now s.now nodes.now entries.now total) (λ (P : Protocol) (xs : List Node). NumberedTo classes.new (stride * total) P xs) }
+    requires { Asks₂ (ListedAll p.now s.now nodes.now entries.now (length entries.now)) × Room work.old 0 × (stride * length entries.now ≤ length classes.old) }
+    ensures { Promises₂ (ListedAll p.now s.now nodes.now entries.now (length entries.now)) (λ (P : Protocol) (xs : List Node). NumberedTo classes.new (stride * length entries.now) P xs) }
 {
-    let mut e: usize = 0;
-    while e < total {
-        let x = entries::action_of(entries[e]);
+    for (e, code) in entries.iter().enumerate() {
+        let x = entries::action_of(*code);
         number_action(work, p, s, nodes, x, e, classes);
-        e += 1;
     }
 }

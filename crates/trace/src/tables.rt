@@ -41,6 +41,7 @@ pub fn make_tables(
     ensures { Promises₂ (RightNodes p.now s.now nodes.now n) (λ (P : Protocol) (xs : List Node). Tables starts.new symbols.new classes.new P xs) }
 {
     let total = entries::enter_nodes(p, nodes, n, starts, symbols);
-    classes::class_arguments(work, p, s, nodes, symbols, total, classes);
-    entries::put_symbols(p, nodes, total, symbols);
+    let listed = &mut symbols[..total];
+    classes::class_arguments(work, p, s, nodes, listed, classes);
+    entries::put_symbols(p, nodes, listed);
 }

@@ -1,5 +1,6 @@
 -- The class of one place more.
 use Rattle.std.specs.Prelude.{ℕ, suc, ◌+◌, ◌*◌, ◌%◌, ◌≤◌, ◌<◌, List, Bool, true, false, ◌≡◌, refl, length, get_or, set, ltb}
+use Rattle.std.specs.Prelude.{Option, Some, None}
 use Rattle.std.proofs.Common.{ap, sym, ◌∙◌, subst, arith, ltb-true}
 use Rattle.lists.specs.Choice.{pick}
 use Rattle.message.specs.Canon.{canon}
@@ -73,22 +74,22 @@ module _ {p s nodes entries classes chains : List ℕ} {m : ℕ} {raw : List ℕ
         marked_number g.numbered q (omega (arith, l, g.less)) k ∙ ap form_number e
         ∙ sym (marked_number g.numbered r (omega (arith, n, g.less)) j)
 
-    module _ (room : m < length classes) (chain : ℕ) {h : ℕ} (a : Earlier (key_at P xs) chains (get_or chains chain 0) m h) where
-      found_before : (r : ℕ) → h ≡ suc r → (r < m) × Marked raw r
+    module _ (room : m < length classes) (chain : ℕ) {o : Option ℕ} (a : Earlier (key_at P xs) chains (get_or chains chain 0) m o) where
+      found_before : (r : ℕ) → o ≡ Some r → (r < m) × Marked raw r
       found_before r e =
           chain_has (λ q. (q < m) × Marked raw q) g.classed.sound (a.somewhere r e).0 (g.classed.sound chain)
 
-      pub found_small : (r : ℕ) → h ≡ suc r → r < length classes
-      found_small r e = omega (arith, (found_before r e).0, room)
+      pub found_small : (r : ℕ) → o ≡ Some r → (r < m) × (r < length classes)
+      found_small r e = let l = (found_before r e).0 in (l, omega (arith, l, room))
 
-      pub class_found : (r : ℕ) → h ≡ suc r → Classed (key_at P xs) raw (set classes m (get_or classes r 0)) chains (m + 1)
+      pub class_found : (r : ℕ) → o ≡ Some r → Classed (key_at P xs) raw (set classes m (get_or classes r 0)) chains (m + 1)
       class_found r e =
-          let (l, o) = found_before r e in
-          classed_same (key_at P xs) raw g.classed room is_marked marks r l o (a.somewhere r e).1
+          let (l, k) = found_before r e in
+          classed_same (key_at P xs) raw g.classed room is_marked marks r l k (a.somewhere r e).1
 
       module _ (is : chain ≡ chain_of (length chains) (get_or classes m 0)) where
         -- the chain of its mark would have one with its form
-        new : h ≡ 0 → (q : ℕ) → q < m → Marked raw q → key_at P xs q ≡ key_at P xs m → ⊥
+        new : o ≡ None → (q : ℕ) → q < m → Marked raw q → key_at P xs q ≡ key_at P xs m → ⊥
         new z q l k e =
             let (x, d, i) = g.classed.found q l k in
             a.nowhere z x
@@ -96,7 +97,7 @@ module _ {p s nodes entries classes chains : List ℕ} {m : ℕ} {raw : List ℕ
             (ap (chain_of (length chains)) (marks q m (omega arith) (omega arith) k is_marked e ∙ sym same_raw) ∙ sym is) i) (d ∙ e)
 
         pub class_new :
-            h ≡ 0 → HeadsBehind (length chains) (m + 1)
+            o ≡ None → HeadsBehind (length chains) (m + 1)
             → Classed (key_at P xs) raw (set classes m m)
             (set (set chains m (get_or chains chain 0)) chain (m + 1)) (m + 1)
         class_new z behind =

@@ -1,6 +1,8 @@
 -- The arguments at two places, compared; the chain of a place, walked.
 use Rattle.std.specs.Prelude.{ℕ, suc, ◌/◌, ◌%◌, ◌<◌, List, Bool, true, ◌↔◌, ◌≡◌, length, get_or}
 use Rattle.std.proofs.Math.Path.{ap}
+use Rattle.std.specs.Prelude.{Some, None}
+use Rattle.std.proofs.lemmas.Option.{none-some, same_Some}
 use Rattle.std.proofs.Common.{sym, ◌∙◌, subst, arith}
 use Rattle.lists.specs.All.Laws.{all_inside}
 use Rattle.lists.specs.Reflects.{reflects_true, reflects_back}
@@ -38,16 +40,16 @@ module _ {p s nodes entries chains : List ℕ} {head q : ℕ} {P : Protocol} {xs
       left = λ l i k. chain_behind (g.left l i k) r e (λ z. n (ap (key_at P xs) (sym z) ∙ k));
     }
 
-    pub walking_found : (r : ℕ) → h ≡ suc r → key_at P xs r ≡ key_at P xs q → Earlier (key_at P xs) chains head q h
+    pub walking_found : (r : ℕ) → h ≡ suc r → key_at P xs r ≡ key_at P xs q → Earlier (key_at P xs) chains head q (Some r)
     walking_found r e k = record {
-      nowhere = λ z. absurd (omega arith);
-      somewhere = λ i z. let o : r ≡ i = omega arith in (g.back i (here z), ap (key_at P xs) (sym o) ∙ k);
+      nowhere = λ z. absurd (none-some r (sym z));
+      somewhere = λ i z. let o : r ≡ i = same_Some r i z in (g.back i (here (e ∙ ap suc o)), ap (key_at P xs) (sym o) ∙ k);
     }
 
-    pub walking_ends : h ≡ 0 → Earlier (key_at P xs) chains head q 0
+    pub walking_ends : h ≡ 0 → Earlier (key_at P xs) chains head q None
     walking_ends z = record {
       nowhere = λ o l i k. chain_ends (g.left l i k) z;
-      somewhere = λ r o. absurd (omega arith);
+      somewhere = λ r o. absurd (none-some r o);
     }
 
 -- ── two places ──

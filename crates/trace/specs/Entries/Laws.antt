@@ -1,5 +1,7 @@
 -- How the entries are filled: action by action, node by node.
-use Rattle.std.specs.Prelude.{ℕ, zero, suc, ◌+◌, ◌*◌, ◌/◌, ◌%◌, ◌≤◌, ◌<◌, List, ◌≡◌, refl, length, get_or, set}
+use Rattle.std.specs.Prelude.{ℕ, zero, suc, ◌+◌, ◌*◌, ◌/◌, ◌%◌, ◌≤◌, ◌<◌, List, ◌≡◌, refl, length, get_or, set, take}
+use Rattle.std.proofs.lemmas.List.{get_or-take}
+use Rattle.std.proofs.Math.Seq.{length-take-le}
 use Rattle.std.proofs.Common.{ap, sym, ◌∙◌, subst, subst₂, arith, get_or-set_same, get_or-set_other}
 use Rattle.lists.specs.Asks.{Promises₃}
 use Rattle.lists.specs.Choice.{by_order}
@@ -176,12 +178,19 @@ module _ {p nodes starts entries : List ℕ} {total n : ℕ} {s : List ℕ} {P :
   pub total_of : total ≤ actions_of n
   total_of = omega (arith, a.all, actions_of_lem r)
 
-  pub all_listed : actions_of n ≤ length entries → ListedAll p s nodes entries total P xs
-  all_listed room = record {
-    listed = record {
-      right = a.entered.right;
-      long = omega (arith, actions_of_lem r, room);
-      each = λ e l. a.entered.each e (omega (arith, a.all));
-    };
-    count = a.all;
-  }
+  pub taken : actions_of n ≤ length entries → length (take total entries) ≡ total
+  taken room = length-take-le total entries (omega (arith, total_of, room))
+
+  -- they are the first ones
+  pub all_listed : actions_of n ≤ length entries → ListedAll p s nodes (take total entries) (length (take total entries)) P xs
+  all_listed room =
+      let z : length (take total entries) ≡ total = taken room in
+      record {
+        listed = record {
+          right = a.entered.right;
+          long = omega (arith, z, a.all);
+          each = λ e l.
+              subst (λ (v : ℕ). EntryIs P xs v e) (sym (get_or-take total entries e 0 (omega (arith, l, a.all)))) (a.entered.each e (omega (arith, l, a.all)));
+        };
+        count = z ∙ a.all;
+      }

@@ -1,6 +1,7 @@
 -- The symbols of the actions, which take the places of their entries one by one.
-use Rattle.std.specs.Prelude.{ℕ, ◌+◌, ◌≤◌, ◌<◌, List, ◌≡◌, refl, length, get_or, set}
+use Rattle.std.specs.Prelude.{ℕ, ◌+◌, ◌≤◌, ◌<◌, List, ◌++◌, ◌≡◌, refl, length, get_or, set}
 use Rattle.std.proofs.Common.{ap, sym, ◌∙◌, arith, get_or-set_same, get_or-set_other}
+use Rattle.std.proofs.lemmas.List.{get_or_append_left}
 use Rattle.lists.specs.Asks.{Promises₃}
 use Rattle.lists.specs.Choice.{by_order}
 use Rattle.protocol.specs.Protocol.{Fact, Protocol, no_fact}
@@ -38,6 +39,13 @@ module _ {symbols : List ℕ} where
           ∙ sym (ap (λ (i : ℕ). (get_or (actions_in P xs) i no_fact).symbol) c))
           (λ c. absurd (omega arith));
     }
+
+-- before others that follow
+pub symbols_before :
+    {symbols : List ℕ} (others : List ℕ) {m : ℕ} {P : Protocol} {xs : List Node} → SymbolsTo symbols m P xs → m ≤ length symbols
+    → SymbolsTo (symbols ++ others) m P xs
+symbols_before {symbols} others t room =
+    record { each = λ e l. get_or_append_left symbols others 0 e (omega (arith, l, room)) ∙ t.each e l }
 
 -- ── the action of an entry that is still there ──
 module _ {p s nodes entries symbols : List ℕ} {total e : ℕ} {P : Protocol} {xs : List Node} (l : ListedAll p s nodes entries total P xs) (less : e < total)

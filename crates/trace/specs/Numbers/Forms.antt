@@ -1,7 +1,7 @@
 -- The number of a canonical form, by the name that its bytes begin with; the form of an argument that was written.
 use Rattle.std.specs.Prelude.{ℕ, ◌+◌, ◌^◌, ◌<◌, List, [], ◌++◌, ◌≡◌, refl, take}
 use Rattle.std.proofs.Common.{append-nil, ⊎_elim, ap, sym, ◌∙◌, arith}
-use Rattle.std.specs.Prelude.{Option, None}
+use Rattle.std.specs.Prelude.{Option, Some, None}
 use Rattle.std.proofs.Math.Path.{subst}
 use Rattle.lists.specs.Choice.{clash}
 use Rattle.lists.specs.All.{All}
@@ -26,7 +26,6 @@ use Rattle.steps.specs.Facts.{value_at, filled_fact, filled_list, facts_of}
 use Rattle.steps.specs.Facts.Formed.{list_within}
 use Rattle.steps.specs.Values.Parts.{no_term}
 use Rattle.steps.specs.Values.Code.{NameIs}
-use Rattle.term.specs.declared.Fresh.{Fresh}
 use Rattle.term.specs.declared.Public.{Public}
 use Rattle.steps.specs.declared.values.Name.{Name}
 use Rattle.steps.specs.declared.values.Name.TheVariants as nm
@@ -43,7 +42,7 @@ module _ {form p : List ℕ} where
   begins : (t : Term) → FormIn form p t → form ≡ encode t ++ []
   begins t f = f.bytes ∙ sym (append-nil (encode t))
 
-  public_there : (t : Term) → FormIn form p t → (n e : ℕ) → symbol_at form (slots_of p) 0 ≡ sy.Leaf 1 n e → t ≡ leaf public n
+  public_there : (t : Term) → FormIn form p t → (n e : ℕ) → symbol_at form (slots_of p) 0 ≡ Some (sy.Leaf 1 n e) → t ≡ leaf public n
   public_there (leaf variable m) f n e h =
       let g = symbol_of_leaf form (slots_of p) variable m 0 [] f.range (begins (leaf variable m) f) in
       let z : ◌≡◌ {A = ℕ} 0 1 = cc in
@@ -60,7 +59,7 @@ module _ {form p : List ℕ} where
       let g = symbol_of_app form (slots_of p) k ts 0 [] f.formed.0 f.range.0 (begins (app k ts) f) in
       clash (cc)
 
-  no_public : (t : Term) → FormIn form p t → ((n e : ℕ) → symbol_at form (slots_of p) 0 ≡ sy.Leaf 1 n e → ⊥) → public_number t ≡ None
+  no_public : (t : Term) → FormIn form p t → ((n e : ℕ) → symbol_at form (slots_of p) 0 ≡ Some (sy.Leaf 1 n e) → ⊥) → public_number t ≡ None
   no_public (leaf variable m) f h = refl
   no_public (leaf public m) f h =
       absurd (h m _ (symbol_of_leaf form (slots_of p) public m 0 [] f.range (begins (leaf public m) f)))
@@ -68,29 +67,29 @@ module _ {form p : List ℕ} where
   no_public (app k ts) f h = refl
 
   -- by the name that code finds
-  module _ {t : Term} (f : FormIn form p t) (x : Name) (is : NameIs (symbol_at form (slots_of p) 0) x) where
-    is_public : {y : Public} → x ≡ nm.PublicName y → t ≡ leaf public y.0
+  module _ {t : Term} (f : FormIn form p t) (x : Option Name) (is : NameIs (symbol_at form (slots_of p) 0) x) where
+    is_public : {y : Public} → x ≡ Some (nm.PublicName y) → t ≡ leaf public y.0
     is_public {y} e = let (d, h) = subst (NameIs (symbol_at form (slots_of p) 0)) e is in public_there t f y.0 d h
 
-    pub public_small : {y : Public} → x ≡ nm.PublicName y → base + y.0 < 2 ^ 32
+    pub public_small : {y : Public} → x ≡ Some (nm.PublicName y) → base + y.0 < 2 ^ 32
     unfolding number_limit
     public_small {y} e = let r : InRange (leaf public y.0) = subst InRange (is_public e) f.range in omega (arith, r)
 
-    pub public_number_lem : {y : Public} → x ≡ nm.PublicName y → (r : ℕ) → r ≡ base + y.0 → r ≡ form_number t
+    pub public_number_lem : {y : Public} → x ≡ Some (nm.PublicName y) → (r : ℕ) → r ≡ base + y.0 → r ≡ form_number t
     public_number_lem e r h = h ∙ sym (ap form_number (is_public e))
 
-    other_number : ((n e : ℕ) → symbol_at form (slots_of p) 0 ≡ sy.Leaf 1 n e → ⊥) → (r : ℕ) → r ≡ mark_from 0 form → r ≡ form_number t
-    other_number n r h =
-        h ∙ ap (mark_from 0) f.bytes ∙ sym (ap (λ (o : Option ℕ). number_by o (mark_from 0 (encode t))) (no_public t f n))
-
-    pub fresh_number : {y : Fresh} → x ≡ nm.FreshName y → (r : ℕ) → r ≡ mark_from 0 form → r ≡ form_number t
-    fresh_number {y} e = other_number (λ n d h. absurd (two (subst (NameIs (symbol_at form (slots_of p) 0)) e is) n d h))
+    -- another name, or none
+    other_name : ((y : Public) → x ≡ Some (nm.PublicName y) → ⊥) → (n e : ℕ) → symbol_at form (slots_of p) 0 ≡ Some (sy.Leaf 1 n e) → ⊥
+    other_name h n e g = go x is h
       where
-        two : (d : ℕ) × (symbol_at form (slots_of p) 0 ≡ sy.Leaf 2 y.0 d) → (n e : ℕ) → symbol_at form (slots_of p) 0 ≡ sy.Leaf 1 n e → ⊥
-        two (d, g) n e h = let z : ◌≡◌ {A = ℕ} 2 1 = cc in omega arith
+        go : (o : Option Name) → NameIs (symbol_at form (slots_of p) 0) o → ((y : Public) → o ≡ Some (nm.PublicName y) → ⊥) → ⊥
+        go (Some (nm.FreshName y)) (d, k) h = let z : ◌≡◌ {A = ℕ} 2 1 = cc in omega arith
+        go (Some (nm.PublicName y)) k h = h y refl
+        go None k h = (k n e).1 g
 
-    pub no_number : x ≡ nm.Other → (r : ℕ) → r ≡ mark_from 0 form → r ≡ form_number t
-    no_number e = other_number (λ n d. (subst (NameIs (symbol_at form (slots_of p) 0)) e is n d).1)
+    pub no_number : ((y : Public) → x ≡ Some (nm.PublicName y) → ⊥) → (r : ℕ) → r ≡ mark_from 0 form → r ≡ form_number t
+    no_number n r h =
+        h ∙ ap (mark_from 0) f.bytes ∙ sym (ap (λ (o : Option ℕ). number_by o (mark_from 0 (encode t))) (no_public t f (other_name n)))
 
 -- ── for crate steps: the terms of a node's facts are in range ──
 module _ (v : ℕ) where

@@ -10,7 +10,7 @@ use Rattle.trace.proofs.active.active_nodes.Goals.{then-starts-k, else-starts-k}
 
 pub loop-k-init : goal.loop-k-init
 loop-k-init c =
-    (omega arith, omega arith, λ P xs b e. refl)
+    (omega arith, λ P xs b e. refl)
 
 pub offset_bounds-starts-k : goal.offset_bounds-starts-k
 offset_bounds-starts-k c =
@@ -18,10 +18,6 @@ offset_bounds-starts-k c =
 
 pub bounds-starts-k : goal.bounds-starts-k
 bounds-starts-k c =
-    omega (arith, c.requires, c.loop-k-test.true)
-
-pub overflow_add-k : goal.overflow_add-k
-overflow_add-k c =
     omega (arith, c.requires, c.loop-k-test.true)
 
 pub offset_bounds-starts-k-in-loop-k : goal.offset_bounds-starts-k-in-loop-k
@@ -35,18 +31,17 @@ bounds-starts-k-in-loop-k c =
 
 pub overflow_add-active : goal.overflow_add-active
 overflow_add-active c =
-    omega (arith, c.loop-k.invariant.1, c.loop-k-test.true, c.ranges.n.fits)
+    omega (arith, c.loop-k.invariant.0, c.loop-k-test.true, c.ranges.n.fits)
 
 pub loop-k-preserved : goal.loop-k-preserved
 loop-k-preserved c = (
-  omega arith,
   elim c.if-starts-k.branch [
-    | then-starts-k w ↦ omega (arith, w.active-is, c.loop-k.invariant.1)
-    | else-starts-k w ↦ omega (arith, w.active-is, c.loop-k.invariant.1)
+    | then-starts-k w ↦ omega (arith, w.active-is, c.loop-k.invariant.0)
+    | else-starts-k w ↦ omega (arith, w.active-is, c.loop-k.invariant.0)
   ],
   λ P xs b e.
       let l : c.loop-k.k < length xs = omega (arith, e, c.loop-k-test.true) in
-      let o = c.loop-k.invariant.2 P xs b e in
+      let o = c.loop-k.invariant.1 P xs b e in
       elim c.if-starts-k.branch [
         | then-starts-k w ↦ w.active-is ∙ active_more b c.loop-k.k l _ o w.if-starts-k.true
         | else-starts-k w ↦ w.active-is ∙ active_same b c.loop-k.k l _ o (omega (arith, w.if-starts-k.false))
@@ -55,4 +50,4 @@ loop-k-preserved c = (
 
 pub returns : goal.returns
 returns c =
-    λ P xs b e. active_all P xs c.loop-k.k _ (omega (arith, e, c.loop-k.invariant.0, c.loop-k-test.false)) (c.loop-k.invariant.2 P xs b e)
+    λ P xs b e. active_all P xs c.loop-k.k _ (omega (arith, e)) (c.loop-k.invariant.1 P xs b e)

@@ -2,7 +2,7 @@
 use lib.ListN.{length, take}
 use mathlib.Core.Path.{◌≡◌}
 use mathlib.Core.List.{List}
-use Prim.Native.Nat.{◌-◌, ◌≤◌}
+use Prim.Native.Nat.{◌≤◌}
 use Rattle.steps.specs.Nodes.{Node}
 use Rattle.protocol.specs.Protocol.{Protocol}
 use Rattle.lists.specs.Lists.{count_by}
@@ -13,8 +13,4 @@ use Rattle.trace.proofs.active.active_nodes.Given as goal
 
 abbrev pub invariant-loop-k : goal.invariant-loop-k
 invariant-loop-k l =
-    (l.k ≤ l.n) × (l.active ≤ l.k) × Promises₂ (Starts l.starts) (λ (P : Protocol) (xs : List Node). length xs ≡ l.n → l.active ≡ count_by (is_active P) (take l.k xs))
-
-abbrev pub decreases-loop-k : goal.decreases-loop-k
-decreases-loop-k l =
-    l.n - l.k
+    (l.active ≤ l.k) × Promises₂ (Starts l.starts) (λ (P : Protocol) (xs : List Node). length xs ≡ l.n → l.active ≡ count_by (is_active P) (take l.k xs))

@@ -1,6 +1,5 @@
 -- A public name keeps its number; a place found in the chain gives its class; one not found begins a class and its chain's new head.
-use Prim.Native.Nat.{suc, ◌-◌, ◌<◌}
-use mathlib.Core.Path.{◌≡◌}
+use Prim.Native.Nat.{◌<◌}
 use Rattle.trace.specs.Classes.Places.{classing_small, classing_walkable, class_past, class_new, class_found, found_small}
 use Rattle.trace.specs.Chains.Laws.{chain_small}
 use Rattle.trace.specs.Tables.{base}
@@ -29,8 +28,8 @@ pub bounds-chains-chain : goal.bounds-chains-chain
 bounds-chains-chain c =
     omega (arith, c.head_place-chain.ensures, (c.requires.3 (get_or c.args.classes.now c.args.q 0)).1)
 
-pub earlier-h-requires : goal.earlier-h-requires
-earlier-h-requires c =
+pub earlier-requires : goal.earlier-requires
+earlier-requires c =
     let (raw, P, xs, g) = c.requires.0 in
     ((P, xs, classing_walkable g (omega (arith, c.if-mark-ge-BASE.false)) _), c.requires.1, omega (arith, c.requires.3 0))
 
@@ -41,15 +40,15 @@ overflow_cast-classes c =
       classing_small c.requires.0.3,
     )
 
-pub offset_bounds-classes-q-then-h-eq0 : goal.offset_bounds-classes-q-then-h-eq0
-offset_bounds-classes-q-then-h-eq0 c =
+pub offset_bounds-classes-q-in-None : goal.offset_bounds-classes-q-in-None
+offset_bounds-classes-q-in-None c =
     omega (
       arith,
       classing_small c.requires.0.3,
     )
 
-pub bounds-classes-q-then-h-eq0 : goal.bounds-classes-q-then-h-eq0
-bounds-classes-q-then-h-eq0 c =
+pub bounds-classes-q-in-None : goal.bounds-classes-q-in-None
+bounds-classes-q-in-None c =
     omega (
       arith,
       c.requires.2,
@@ -83,12 +82,12 @@ overflow_cast-chains c =
       classing_small c.requires.0.3,
     )
 
-pub offset_bounds-chains-chain-then-h-eq0 : goal.offset_bounds-chains-chain-then-h-eq0
-offset_bounds-chains-chain-then-h-eq0 c =
+pub offset_bounds-chains-chain-in-None : goal.offset_bounds-chains-chain-in-None
+offset_bounds-chains-chain-in-None c =
     omega (arith, c.head_place-chain.ensures, chain_small (length c.args.chains.now) (get_or c.args.classes.now c.args.q 0))
 
-pub bounds-chains-chain-then-h-eq0 : goal.bounds-chains-chain-then-h-eq0
-bounds-chains-chain-then-h-eq0 c =
+pub bounds-chains-chain-in-None : goal.bounds-chains-chain-in-None
+bounds-chains-chain-in-None c =
     let k : c.head_place-chain.result < length c.args.chains.now = omega (
       arith,
       c.head_place-chain.ensures,
@@ -97,35 +96,25 @@ bounds-chains-chain-then-h-eq0 c =
     ) in
     lt-length-set c.args.chains.now _ _ k
 
-pub returns-then-h-eq0 : goal.returns-then-h-eq0
-returns-then-h-eq0 c =
+pub returns-in-None : goal.returns-in-None
+returns-in-None c =
     λ raw P xs g. let k : get_or c.args.classes.now c.args.q 0 < base = omega (arith, c.if-mark-ge-BASE.false) in
-    class_new g k c.requires.2 _ (c.earlier-h.ensures P xs (classing_walkable g k _)) c.head_place-chain.ensures c.if-h-eq0.true c.requires.3
+    class_new g k c.requires.2 _ (c.earlier.ensures P xs (classing_walkable g k _)) c.head_place-chain.ensures c.in-None.is c.requires.3
 
-pub bounds-classes-h : goal.bounds-classes-h
-bounds-classes-h c =
+pub offset_bounds-classes-r : goal.offset_bounds-classes-r
+offset_bounds-classes-r c =
     let (raw, P, xs, g) = c.requires.0 in
-    let e : c.earlier-h.result ≡ suc (c.earlier-h.result - 1) = omega (arith, c.if-h-eq0.false) in
     let k : get_or c.args.classes.now c.args.q 0 < base = omega (arith, c.if-mark-ge-BASE.false) in
-    omega (arith, found_small g k c.requires.2 _ (c.earlier-h.ensures P xs (classing_walkable g k _)) _ e)
+    omega (arith, classing_small g, (found_small g k c.requires.2 _ (c.earlier.ensures P xs (classing_walkable g k _)) _ c.in-Some.is).0)
 
-pub offset_bounds-classes-q-2 : goal.offset_bounds-classes-q-2
-offset_bounds-classes-q-2 c =
-    omega (
-      arith,
-      classing_small c.requires.0.3,
-    )
+pub bounds-classes-r : goal.bounds-classes-r
+bounds-classes-r c =
+    let (raw, P, xs, g) = c.requires.0 in
+    let k : get_or c.args.classes.now c.args.q 0 < base = omega (arith, c.if-mark-ge-BASE.false) in
+    omega (arith, (found_small g k c.requires.2 _ (c.earlier.ensures P xs (classing_walkable g k _)) _ c.in-Some.is).1)
 
-pub bounds-classes-q-2 : goal.bounds-classes-q-2
-bounds-classes-q-2 c =
-    omega (
-      arith,
-      c.requires.2,
-    )
-
-pub returns : goal.returns
-returns c =
+pub returns-in-Some : goal.returns-in-Some
+returns-in-Some c =
     λ raw P xs g.
-    let e : c.earlier-h.result ≡ suc (c.earlier-h.result - 1) = omega (arith, c.if-h-eq0.false) in
     let k : get_or c.args.classes.now c.args.q 0 < base = omega (arith, c.if-mark-ge-BASE.false) in
-    class_found g k c.requires.2 _ (c.earlier-h.ensures P xs (classing_walkable g k _)) _ e
+    class_found g k c.requires.2 _ (c.earlier.ensures P xs (classing_walkable g k _)) _ c.in-Some.is

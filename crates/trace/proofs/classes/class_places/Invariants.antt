@@ -2,7 +2,6 @@
 use lib.ListN.{length}
 use mathlib.Core.Path.{◌≡◌}
 use mathlib.Core.List.{List}
-use Prim.Native.Nat.{◌-◌, ◌≤◌}
 use Rattle.steps.specs.Nodes.{Node}
 use Rattle.lists.specs.Asks.{Promises₂}
 use Rattle.protocol.specs.Protocol.{Protocol}
@@ -12,9 +11,5 @@ use Rattle.trace.proofs.classes.class_places.Given as goal
 
 abbrev pub invariant-loop-q : goal.invariant-loop-q
 invariant-loop-q l =
-    (l.q ≤ l.end) × (length l.work ≡ length l.initial.work) × (length l.classes ≡ length l.initial.classes) × (length l.chains ≡ length l.initial.chains) × Promises₂
-    (Ready l.p l.s l.nodes l.entries l.initial.classes l.total) (λ (P : Protocol) (xs : List Node). Classed (key_at P xs) l.initial.classes l.classes l.chains l.q)
-
-abbrev pub decreases-loop-q : goal.decreases-loop-q
-decreases-loop-q l =
-    l.end - l.q
+    (length l.work ≡ length l.initial.work) × (length l.classes ≡ length l.initial.classes) × (length l.chains ≡ length l.initial.chains) × Promises₂
+    (Ready l.p l.s l.nodes l.entries l.initial.classes (length l.entries)) (λ (P : Protocol) (xs : List Node). Classed (key_at P xs) l.initial.classes l.classes l.chains l.q)

@@ -13,7 +13,7 @@ fact_count-count-requires c =
 
 pub loop-i-init : goal.loop-i-init
 loop-i-init c =
-    (omega arith, search rules, λ s P xs b. begun_first b)
+    (search rules, λ s P xs b. begun_first b)
 
 pub overflow_mul-entries : goal.overflow_mul-entries
 overflow_mul-entries c =
@@ -37,14 +37,13 @@ offset_bounds-entries-from c =
 
 pub bounds-entries-from : goal.bounds-entries-from
 bounds-entries-from c =
-    omega (arith, bounds c.requires.0.3 _ c.fact_count-count.ensures _ c.loop-i-test.true, c.loop-i.invariant.1, c.requires.1)
+    omega (arith, bounds c.requires.0.3 _ c.fact_count-count.ensures _ c.loop-i-test.true, c.loop-i.invariant.0, c.requires.1)
 
 pub loop-i-preserved : goal.loop-i-preserved
 loop-i-preserved c = (
-  omega arith,
   search rules,
   λ s P xs b. begun_more b c.loop-i.i (inside b _ c.fact_count-count.ensures _ c.loop-i-test.true)
-      (c.loop-i.invariant.2 s P xs b) (omega (arith, c.loop-i.invariant.1, c.requires.1)),
+      (c.loop-i.invariant.1 s P xs b) (omega (arith, c.loop-i.invariant.0, c.requires.1)),
 )
 
 pub overflow_add-result : goal.overflow_add-result
@@ -53,5 +52,5 @@ overflow_add-result c =
 
 pub returns : goal.returns
 returns c =
-    λ s P xs b. node_entered b _ c.fact_count-count.ensures c.loop-i.i (omega (arith, c.loop-i.invariant.0, c.loop-i-test.false))
-    (c.loop-i.invariant.2 s P xs b)
+    λ s P xs b. node_entered b _ c.fact_count-count.ensures c.loop-i.i (omega arith)
+    (c.loop-i.invariant.1 s P xs b)

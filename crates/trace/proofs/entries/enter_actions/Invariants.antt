@@ -3,7 +3,7 @@ use Rattle.trace.specs.Entries.{Begun, Entered}
 use Rattle.lists.specs.Asks.{Promises₃}
 use Rattle.protocol.specs.Protocol.{Protocol}
 use Rattle.steps.specs.Nodes.{Node}
-use Prim.Native.Nat.{ℕ, ◌+◌, ◌-◌, ◌≤◌}
+use Prim.Native.Nat.{ℕ, ◌+◌}
 use mathlib.Core.List.{List}
 use mathlib.Core.Path.{◌≡◌}
 use lib.ListN.{length}
@@ -11,9 +11,5 @@ use Rattle.trace.proofs.entries.enter_actions.Given as goal
 
 abbrev pub invariant-loop-i : goal.invariant-loop-i
 invariant-loop-i l =
-    (l.i ≤ l.count) × (length l.entries ≡ length l.initial.entries) × Promises₃ (Begun l.p l.nodes l.initial.entries l.k l.from)
+    (length l.entries ≡ length l.initial.entries) × Promises₃ (Begun l.p l.nodes l.initial.entries l.k l.from)
     (λ (s : List ℕ) (P : Protocol) (xs : List Node). Entered l.p l.nodes l.entries (l.from + l.i) s P xs)
-
-abbrev pub decreases-loop-i : goal.decreases-loop-i
-decreases-loop-i l =
-    l.count - l.i

@@ -3,7 +3,7 @@ use Rattle.trace.specs.Entries.{TableOf, Entering}
 use Rattle.lists.specs.Asks.{Promises₃}
 use Rattle.protocol.specs.Protocol.{Protocol}
 use Rattle.steps.specs.Nodes.{Node}
-use Prim.Native.Nat.{ℕ, ◌-◌, ◌≤◌}
+use Prim.Native.Nat.{ℕ}
 use mathlib.Core.List.{List}
 use mathlib.Core.Path.{◌≡◌}
 use lib.ListN.{length}
@@ -11,9 +11,5 @@ use Rattle.trace.proofs.entries.enter_nodes.Given as goal
 
 abbrev pub invariant-loop-k : goal.invariant-loop-k
 invariant-loop-k l =
-    (l.k ≤ l.n) × (length l.starts ≡ length l.initial.starts) × (length l.entries ≡ length l.initial.entries) × Promises₃ (TableOf l.p l.nodes l.n)
+    (length l.starts ≡ length l.initial.starts) × (length l.entries ≡ length l.initial.entries) × Promises₃ (TableOf l.p l.nodes l.n)
     (λ (s : List ℕ) (P : Protocol) (xs : List Node). Entering l.p l.nodes l.starts l.entries l.k l.from s P xs)
-
-abbrev pub decreases-loop-k : goal.decreases-loop-k
-decreases-loop-k l =
-    l.n - l.k

@@ -30,7 +30,7 @@ arity_of-count-requires c =
 
 pub loop-j-init : goal.loop-j-init
 loop-j-init c =
-    (omega arith, search rules, search rules, λ P xs a t. numbered_at _ _ (omega arith) t)
+    (search rules, search rules, λ P xs a t. numbered_at _ _ (omega arith) t)
 
 pub place_number-requires : goal.place_number-requires
 place_number-requires c =
@@ -42,7 +42,7 @@ place_number-requires c =
         action_counted a _
             (λ t Q m f. c.arity_of-count.ensures ∙ arity_is f _ (symbol_is f.node _ _ f.listed _ _ c.fact_place-place.ensures c.symbol_of-y.ensures)),
       ),
-      room_kept _ _ _ c.loop-j.invariant.1 c.requires.1,
+      room_kept _ _ _ c.loop-j.invariant.0 c.requires.1,
     )
 
 pub overflow_mul-classes : goal.overflow_mul-classes
@@ -59,15 +59,14 @@ offset_bounds-classes-e c =
 
 pub bounds-classes-e : goal.bounds-classes-e
 bounds-classes-e c =
-    omega (arith, c.requires.2, c.requires.3, c.loop-j.invariant.2, c.loop-j-test.true)
+    omega (arith, c.requires.2, c.requires.3, c.loop-j.invariant.1, c.loop-j-test.true)
 
 pub loop-j-preserved : goal.loop-j-preserved
 loop-j-preserved c = (
-  omega arith,
   search rules,
   search rules,
-  λ P xs a t. numbered_more c.args.e c.loop-j.j _ c.loop-j-test.true (c.loop-j.invariant.3 P xs a t)
-      (omega (arith, c.requires.2, c.requires.3, c.loop-j.invariant.2, c.loop-j-test.true))
+  λ P xs a t. numbered_more c.args.e c.loop-j.j _ c.loop-j-test.true (c.loop-j.invariant.2 P xs a t)
+      (omega (arith, c.requires.2, c.requires.3, c.loop-j.invariant.1, c.loop-j-test.true))
       (c.place_number.ensures P _ (action_counted a _ (λ t Q m f. c.arity_of-count.ensures ∙ arity_is f _
       (symbol_is f.node _ _ f.listed _ _ c.fact_place-place.ensures c.symbol_of-y.ensures))) ∙ ap (λ (g : Fact). argument_number g c.loop-j.j)
       a.is),
@@ -75,4 +74,4 @@ loop-j-preserved c = (
 
 pub returns : goal.returns
 returns c =
-    λ P xs a t. numbered_at _ _ (omega (arith, c.loop-j.invariant.0, c.loop-j-test.false)) (c.loop-j.invariant.3 P xs a t)
+    λ P xs a t. numbered_at _ _ (omega arith) (c.loop-j.invariant.2 P xs a t)

@@ -4,7 +4,7 @@ use Rattle.trace.specs.Tables.{stride}
 use Rattle.protocol.specs.Protocol.{Protocol}
 use Rattle.lists.specs.Asks.{Promises₂}
 use Rattle.steps.specs.Nodes.{Node}
-use Prim.Native.Nat.{◌+◌, ◌*◌, ◌-◌, ◌≤◌}
+use Prim.Native.Nat.{◌+◌, ◌*◌}
 use mathlib.Core.List.{List}
 use mathlib.Core.Path.{◌≡◌}
 use lib.ListN.{length}
@@ -12,9 +12,5 @@ use Rattle.trace.proofs.numbers.number_action.Given as goal
 
 abbrev pub invariant-loop-j : goal.invariant-loop-j
 invariant-loop-j l =
-    (l.j ≤ stride) × (length l.work ≡ length l.initial.work) × (length l.classes ≡ length l.initial.classes) × Promises₂ (ActionOf l.p l.s l.nodes l.f.id l.e)
+    (length l.work ≡ length l.initial.work) × (length l.classes ≡ length l.initial.classes) × Promises₂ (ActionOf l.p l.s l.nodes l.f.id l.e)
     (λ (P : Protocol) (xs : List Node). NumberedTo l.initial.classes (stride * l.e) P xs → NumberedTo l.classes (stride * l.e + l.j) P xs)
-
-abbrev pub decreases-loop-j : goal.decreases-loop-j
-decreases-loop-j l =
-    stride - l.j

@@ -8,40 +8,26 @@ use Rattle.trace.proofs.numbers.number_actions.Goals as goal
 
 pub loop-e-init : goal.loop-e-init
 loop-e-init c =
-    (omega arith, search rules, search rules, λ P xs a. numbered_at _ _ (omega arith) numbered_none)
-
-pub offset_bounds-entries-e : goal.offset_bounds-entries-e
-offset_bounds-entries-e c =
-    omega (arith, total_few c.requires.0.2, c.loop-e-test.true)
-
-pub bounds-entries-e : goal.bounds-entries-e
-bounds-entries-e c =
-    let (P, xs, a) = c.requires.0 in
-    omega (arith, a.count, a.listed.long, c.loop-e-test.true)
+    (search rules, search rules, λ P xs a. numbered_at _ _ (omega arith) numbered_none)
 
 pub number_action-requires : goal.number_action-requires
 number_action-requires c =
     let (P, xs, a) = c.requires.0 in (
-      (P, xs, listed_action a.listed _ (omega (arith, a.count, c.loop-e-test.true)) _ c.action_of-x.ensures),
+      (P, xs, listed_action a.listed _ (omega (arith, a.count, c.loop-e.auto.e-end)) _ c.action_of-x.ensures),
       room_kept _ _ _
-          c.loop-e.invariant.1 c.requires.1,
-      omega (arith, total_few a, c.loop-e-test.true),
-      omega (arith, c.loop-e.invariant.2, c.requires.2, c.loop-e-test.true),
+          c.loop-e.invariant.0 c.requires.1,
+      omega (arith, total_few a, c.loop-e.auto.e-end),
+      omega (arith, c.loop-e.invariant.1, c.requires.2, c.loop-e.auto.e-end),
     )
-
-pub overflow_add-e : goal.overflow_add-e
-overflow_add-e c =
-    omega (arith, c.loop-e-test.true)
 
 pub loop-e-preserved : goal.loop-e-preserved
 loop-e-preserved c = (
-  omega arith,
   search rules,
   search rules,
   λ P xs a. c.number_action.ensures P xs
-      (listed_action a.listed _ (omega (arith, a.count, c.loop-e-test.true)) _ c.action_of-x.ensures) (c.loop-e.invariant.3 P xs a),
+      (listed_action a.listed _ (omega (arith, a.count, c.loop-e.auto.e-end)) _ c.action_of-x.ensures) (c.loop-e.invariant.2 P xs a),
 )
 
 pub returns : goal.returns
 returns c =
-    λ P xs a. numbered_at _ _ (omega (arith, c.loop-e.invariant.0, c.loop-e-test.false)) (c.loop-e.invariant.3 P xs a)
+    λ P xs a. numbered_at _ _ (omega arith) (c.loop-e.invariant.2 P xs a)

@@ -2,7 +2,7 @@
 use lib.ListN.{length}
 use mathlib.Core.Path.{◌≡◌}
 use mathlib.Core.List.{List}
-use Prim.Native.Nat.{◌*◌, ◌-◌, ◌≤◌}
+use Prim.Native.Nat.{◌*◌}
 use Rattle.steps.specs.Nodes.{Node}
 use Rattle.lists.specs.Asks.{Promises₂}
 use Rattle.protocol.specs.Protocol.{Protocol}
@@ -13,9 +13,5 @@ use Rattle.trace.proofs.numbers.number_actions.Given as goal
 
 abbrev pub invariant-loop-e : goal.invariant-loop-e
 invariant-loop-e l =
-    (l.e ≤ l.total) × (length l.work ≡ length l.initial.work) × (length l.classes ≡ length l.initial.classes) × Promises₂ (ListedAll l.p l.s l.nodes l.entries l.total)
+    (length l.work ≡ length l.initial.work) × (length l.classes ≡ length l.initial.classes) × Promises₂ (ListedAll l.p l.s l.nodes l.entries (length l.entries))
     (λ (P : Protocol) (xs : List Node). NumberedTo l.classes (stride * l.e) P xs)
-
-abbrev pub decreases-loop-e : goal.decreases-loop-e
-decreases-loop-e l =
-    l.total - l.e
