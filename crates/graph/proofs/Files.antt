@@ -1,40 +1,38 @@
 -- What the code answers of a whole graph file.
-use Rattle.std.specs.Prelude.{ℕ, ◌≤◌, List, ◌≡◌, length}
-use Rattle.std.proofs.Math.Path.{ap, sym, subst}
+use Rattle.std.specs.Prelude.{Result, Ok, Err, ⊤, ℕ, ◌≤◌, List, ◌≡◌, length}
+use Rattle.std.proofs.Math.Path.{ap, subst}
 use Rattle.std.proofs.Common.{◌∙◌}
 use Rattle.octets.specs.Head.{Bytes}
 use Rattle.octets.specs.Limits.{longest}
-use Rattle.rewriting.specs.Table.{refused, and_then}
+use Rattle.rewriting.specs.Table.{passed, refused, and_then}
 use Rattle.protocol.specs.Protocol.{Protocol}
 use Rattle.prepared.specs.Prepared.{Prepared}
 use Rattle.steps.specs.Nodes.{Reading}
 use Rattle.steps.specs.Table.Laws.{nodes_in}
 use Rattle.steps.specs.Causes.{graph_item, read_ruling}
-use Rattle.steps.specs.Causes.Good.{RightNodes}
-use Rattle.graph.specs.declared.reading.GraphEnd.{GraphEnd}
-use Rattle.graph.specs.declared.reading.GraphEnd.TheVariants as end
-use Rattle.graph.specs.declared.ruling.GraphRuling.{GraphRuling}
-use Rattle.graph.specs.declared.ruling.GraphRuling.TheVariants as gr
+use Rattle.graph.specs.declared.reading.NodesFault.{NodesFault}
+use Rattle.graph.specs.declared.reading.NodesFault.TheVariants as fault
+use Rattle.graph.specs.declared.ruling.Refusal.{Refusal}
 use Rattle.graph.specs.Graph.{Graph}
 use Rattle.graph.proofs.Graph.Exact.{graph_form}
 use Rattle.graph.specs.Causes.{ruling, graph_ruling}
 use Rattle.graph.specs.Table.{ReadIn}
 use Rattle.graph.specs.Reading.{GraphIs, GraphTold}
-use Rattle.graph.specs.Ruling.{ReadDecided, Answered}
+use Rattle.graph.specs.Ruling.{GoodGraph, ReadDecided}
 
-module _ (P : Protocol) (p s nodes edges : List ℕ) (r : GraphEnd) (told : GraphTold P p s nodes edges r) where
-  as_told : {q : GraphEnd} → r ≡ q → GraphTold P p s nodes edges q
+module _ (P : Protocol) (p s nodes edges : List ℕ) (r : Result (ℕ × ℕ) NodesFault) (told : GraphTold P p s nodes edges r) where
+  as_told : {q : Result (ℕ × ℕ) NodesFault} → r ≡ q → GraphTold P p s nodes edges q
   as_told h = subst (GraphTold P p s nodes edges) h told
 
-  pub file_broken : r ≡ end.Broken → graph_ruling P s ≡ refused 3 graph_item
+  pub file_broken : r ≡ Err fault.Broken → graph_ruling P s ≡ refused 3 graph_item
   unfolding graph_ruling
   file_broken h = ap (λ (q : Reading Graph). and_then (read_ruling graph_item q) (ruling P)) (as_told h)
 
-  pub file_unknown : {k : ℕ} → r ≡ end.NoRule k → graph_ruling P s ≡ refused 6 k
+  pub file_unknown : {k : ℕ} → r ≡ Err (fault.NoRule k) → graph_ruling P s ≡ refused 6 k
   unfolding graph_ruling
   file_unknown h = ap (λ (q : Reading Graph). and_then (read_ruling graph_item q) (ruling P)) (as_told h)
 
-  module _ {n m : ℕ} (h : r ≡ end.End n m) (prepared : Prepared p P) (bytes : Bytes s) (short : length s ≤ longest)
+  module _ {n m : ℕ} (h : r ≡ Ok (n, m)) (prepared : Prepared p P) (bytes : Bytes s) (short : length s ≤ longest)
     where
       pub file_read : GraphIs P p s nodes edges n m
       file_read = as_told h
@@ -47,15 +45,21 @@ module _ (P : Protocol) (p s nodes edges : List ℕ) (r : GraphEnd) (told : Grap
             edges_in = t.edges_in;
           }
 
-      pub file_answered : (q : GraphRuling) → ReadDecided P file_read.is n m q → Answered P p s nodes q
-      unfolding graph_ruling
-      file_answered (gr.Good k l) (d, right) =
-          let t = file_read in
-          record {
-            is = t.is;
-            ruled = ap (λ (o : Reading Graph). and_then (read_ruling graph_item o) (ruling P)) t.there ∙ d.0;
-            nodes_in = subst (λ (i : ℕ). RightNodes p s nodes i P t.is.nodes) (sym d.1) (record { stand = file_in.nodes_in; right = right d.0 });
-            edge_count = t.edges_in.count ∙ sym d.2;
-          }
-      file_answered (gr.Refused a b) (d, right) =
-          ap (λ (o : Reading Graph). and_then (read_ruling graph_item o) (ruling P)) file_read.there ∙ d
+      module _ {q : Result ⊤ Refusal} (decided : ReadDecided P file_read.is q) where
+        pub file_passed : {u : ⊤} → q ≡ Ok u → GoodGraph P p s nodes n m
+        unfolding graph_ruling
+        file_passed e =
+            let t = file_read in
+            let d : ruling P t.is ≡ passed t.is = (subst (ReadDecided P t.is) e decided).0 in
+            record {
+              is = t.is;
+              ruled = ap (λ (o : Reading Graph). and_then (read_ruling graph_item o) (ruling P)) t.there ∙ d;
+              nodes_in = record { stand = file_in.nodes_in; right = decided.1 d };
+              edge_count = t.edges_in.count;
+            }
+
+        pub file_refused : {d : Refusal} → q ≡ Err d → graph_ruling P s ≡ refused d.number d.item
+        unfolding graph_ruling
+        file_refused {d} e =
+            ap (λ (o : Reading Graph). and_then (read_ruling graph_item o) (ruling P)) file_read.there
+            ∙ (subst (ReadDecided P file_read.is) e decided).0

@@ -1,14 +1,16 @@
 -- 12 and 13 of a node by the counts of ends.
 use Prim.Native.Nat.{ℕ, zero, suc, ◌+◌, ◌*◌, ◌≤◌, ◌<◌}
 use mathlib.Core.List.{List, [], ◌∷◌}
-use Rattle.std.specs.Prelude.{Bool, true, false, not, ◌&&◌, ◌||◌, ◌≡◌, eqb, leb, length}
+use Rattle.std.specs.Prelude.{Bool, true, false, not, ◌&&◌, ◌||◌, ◌≡◌, eqb, leb, length, take, drop}
+use Rattle.std.specs.Bool.{MatchBool}
+use Rattle.std.specs.List.{AllWithin, HoldsAt}
 use Rattle.std.proofs.Math.Bool.{and_assoc, and-true}
 use Rattle.std.proofs.Math.Path.{refl, ap, ap₂}
-use Rattle.std.proofs.Common.{sym, ◌∙◌, ne_eqb}
+use Rattle.std.proofs.Common.{sym, ◌∙◌, eq-eqb, ne_eqb, get_or-take, get_or-drop}
 use native.Mathlib.Omega.{arith}
 use Rattle.std.proofs.Math.ListN.{get_or}
 use Rattle.lists.specs.Tests.{gt_leb}
-use Rattle.lists.specs.Below.{all_below, all_stop}
+use Rattle.lists.specs.Below.{all_below, all_stop, below_from}
 use Rattle.lists.specs.Lists.{all_by}
 use Rattle.rewriting.specs.Graph.{Edge, into, out_of}
 use Rattle.rewriting.specs.Places.{Placed, placed}
@@ -89,6 +91,22 @@ module _ {A : Type 0} (ok : Placed A → Bool) (d : A) (k : ℕ) where
       below_placed q 1 fs (λ i l.
       let e : suc i ≡ 1 + i = omega arith in
       h i l ∙ ap (λ (n : ℕ). ok (record { place = place_of k n; fact = get_or fs i d })) e)
+
+-- ── the premises of node j, by a look at the counts of so many facts ──
+module _ (uses : List ℕ) (j count : ℕ) where
+  abbrev pub counts_of : List ℕ
+  counts_of = take count (drop (most_facts * j) uses)
+
+  count_at : (i : ℕ) → i < count → get_or counts_of i 0 ≡ get_or uses (most_facts * j + i) 0
+  count_at i l = get_or-take count (drop (most_facts * j) uses) i 0 l ∙ get_or-drop (most_facts * j) uses i 0
+
+  pub all_fed : (r : Bool) → length counts_of ≡ count
+      → MatchBool r (AllWithin (λ c. c ≡ 1) counts_of 0 (length counts_of)) ((i : ℕ) × (i < length counts_of) × HoldsAt (λ c. c ≡ 1 → ⊥) counts_of i)
+      → r ≡ all_below (fed_at uses j) count
+  all_fed true long h = sym (below_from (fed_at uses j) count (λ i l. eq-eqb _ 1 (sym (count_at i l) ∙ h i 0 (omega arith) (omega arith))))
+  all_fed false long (i, l, h) =
+      let inside : i < count = omega arith in
+      sym (all_stop (fed_at uses j) count i (ne_eqb _ 1 (λ e. h 0 (count_at i inside ∙ e))) inside)
 
 -- ── of node j in the table ──
 module _ {p s nodes : List ℕ} {j : ℕ} {P : Protocol} {x : Node} (h : NodeIn p s nodes j P x) where

@@ -1,6 +1,6 @@
 -- What the code answers of a graph file.
-use Rattle.std.specs.Prelude.{ℕ, List, ◌≡◌, refl, length}
-use Rattle.std.specs.Prelude.{Option, Some, None}
+use Rattle.std.specs.Prelude.{ℕ, List, ⊤, ◌≡◌, refl, length}
+use Rattle.std.specs.Prelude.{Option, Some, None, Result, Ok, Err}
 use Rattle.std.proofs.Math.Path.{ap, sym, subst}
 use Rattle.std.proofs.Common.{ap₂, ◌∙◌, arith}
 use Rattle.lists.specs.All.{All}
@@ -19,8 +19,7 @@ use Rattle.steps.specs.Causes.Code.{ruling_of, counted}
 use Rattle.steps.specs.Causes.Good.{RightNodes, count_of, good_passing}
 use Rattle.steps.specs.declared.ruling.NodesRuling.{NodesRuling}
 use Rattle.steps.specs.declared.ruling.NodesRuling.TheVariants as nr
-use Rattle.graph.specs.declared.ruling.GraphRuling.{GraphRuling}
-use Rattle.graph.specs.declared.ruling.GraphRuling.TheVariants as gr
+use Rattle.graph.specs.declared.ruling.Refusal.{Refusal}
 use Rattle.graph.specs.Graph.{Graph}
 use Rattle.graph.specs.Causes.{ruling, graph_ruling}
 use Rattle.graph.specs.Table.{no_edge, ReadIn, GraphIn}
@@ -40,14 +39,14 @@ module _ (P : Protocol) (g : Graph) where
       (or_refuse 11 (first_bad (λ k e. facts_ok (protocol_facts P) (rewrittens P g.nodes) e) 1 g.edges) uses_ruling)
 
 -- ── what the code's answer says of a ruling ──
--- it passes the graph, which has so many nodes and edges, or refuses it
-abbrev pub Decided : Ruling Graph → Graph → ℕ → ℕ → GraphRuling → Type 0
-Decided q g n m (gr.Good k l) = (q ≡ passed g) × (k ≡ n) × (l ≡ m)
-Decided q g n m (gr.Refused a b) = q ≡ refused a b
+-- it passes the graph, or refuses it
+abbrev pub Decided : Ruling Graph → Graph → Result ⊤ Refusal → Type 0
+Decided q g (Ok _) = q ≡ passed g
+Decided q g (Err d) = q ≡ refused d.number d.item
 
 -- of nodes that were read, also that they are right
-abbrev pub ReadDecided : Protocol → Graph → ℕ → ℕ → GraphRuling → Type 0
-ReadDecided P g n m r = Decided (ruling P g) g n m r × (ruling P g ≡ passed g → All (NodeRight P) g.nodes)
+abbrev pub ReadDecided : Protocol → Graph → Result ⊤ Refusal → Type 0
+ReadDecided P g r = Decided (ruling P g) g r × (ruling P g ≡ passed g → All (NodeRight P) g.nodes)
 
 -- of a file: the graph that passes, its nodes right in their table, and how many edges it has; or the refusal
 pub record GoodGraph (P : Protocol) (p s nodes : List ℕ) (n m : ℕ) : Type 0 where
@@ -56,14 +55,22 @@ pub record GoodGraph (P : Protocol) (p s nodes : List ℕ) (n m : ℕ) : Type 0 
   pub nodes_in : RightNodes p s nodes n P is.nodes
   pub edge_count : length is.edges ≡ m
 
-abbrev pub Answered : Protocol → List ℕ → List ℕ → List ℕ → GraphRuling → Type 0
-Answered P p s nodes (gr.Good n m) = GoodGraph P p s nodes n m
-Answered P p s nodes (gr.Refused a b) = graph_ruling P s ≡ refused a b
+abbrev pub Answered : Protocol → List ℕ → List ℕ → List ℕ → Result (ℕ × ℕ) Refusal → Type 0
+Answered P p s nodes (Ok (n, m)) = GoodGraph P p s nodes n m
+Answered P p s nodes (Err d) = graph_ruling P s ≡ refused d.number d.item
 
 -- ── laws ──
 -- an answer of what follows is one of the whole
-pub decided_as : {q q' : Ruling Graph} → q ≡ q' → (g : Graph) (n m : ℕ) (r : GraphRuling) → Decided q g n m r → Decided q' g n m r
-decided_as e g n m r h = subst (λ (q : Ruling Graph). Decided q g n m r) e h
+pub decided_as : {q q' : Ruling Graph} → q ≡ q' → (g : Graph) (r : Result ⊤ Refusal) → Decided q g r → Decided q' g r
+decided_as e g r h = subst (λ (q : Ruling Graph). Decided q g r) e h
+
+-- a pass that finds an item refuses it, and one that finds none goes on
+module _ {A : Type 0} (n : ℕ) (r : Ruling A) {o found : Option ℕ} (is : found ≡ o) where
+  pub found_refused : {k : ℕ} → found ≡ Some k → or_refuse n o r ≡ refused n k
+  found_refused h = ap (λ (q : Option ℕ). or_refuse n q r) (sym is ∙ h)
+
+  pub found_passed : found ≡ None → or_refuse n o r ≡ r
+  found_passed h = ap (λ (q : Option ℕ). or_refuse n q r) (sym is ∙ h)
 
 -- ── the causes of nodes come first, and what follows them does not change them ──
 module _ {A B : Type 0} (n : ℕ) where
@@ -98,8 +105,8 @@ module _ (P : Protocol) (g : Graph) (r : NodesRuling) (told : ruling_of r ≡ co
   abbrev names : Option ℕ
   names = first_name_twice (rewrittens P g.nodes)
 
-  pub nodes_refused : (a b n m : ℕ) → r ≡ nr.Refused a b → ReadDecided P g n m (gr.Refused a b)
-  nodes_refused a b n m h =
+  pub nodes_refused : (a b : ℕ) → r ≡ nr.Refused a b → ReadDecided P g (Err (record { number = a; item = b }))
+  nodes_refused a b h =
       let q = counted_refused (node_ruling P g.nodes) a b (ap ruling_of (sym h) ∙ told) in
       let e : ruling P g ≡ refused a b =
       refused_first 7 values _ _ a b (refused_first 8 sizes _ _ a b (refused_first 9 names _ _ a b (λ z. absurd (refused_passed a b g.nodes (sym z))))) q in
@@ -112,12 +119,12 @@ module _ (P : Protocol) (g : Graph) (r : NodesRuling) (told : ruling_of r ≡ co
     pub nodes_right : All (NodeRight P) g.nodes
     nodes_right = (good_passing P g.nodes within k good).1.right
 
-    pub nodes_passed : (n m : ℕ) (q : GraphRuling) → Decided (edges_ruling P g) g n m q → ReadDecided P g n m q
-    nodes_passed n m q d =
+    pub nodes_passed : (q : Result ⊤ Refusal) → Decided (edges_ruling P g) g q → ReadDecided P g q
+    nodes_passed q d =
         let (ys, e, l) = count_of (node_ruling P g.nodes) k good in
         let same : edges_ruling P g ≡ ruling P g =
         passed_first 7 values _ _ _ ys (passed_first 8 sizes _ _ _ ys (passed_first 9 names _ _ _ ys (λ z. refl))) e in
-        (decided_as same g n m q d, λ z. nodes_right)
+        (decided_as same g q d, λ z. nodes_right)
 
     pub read_right :
         {p s nodes : List ℕ} {n : ℕ} {edges : List ℕ} {m : ℕ} → ReadIn p s nodes n edges m P g → GraphIn p s nodes n edges m P g

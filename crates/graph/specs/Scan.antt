@@ -1,21 +1,22 @@
 -- A pass over the edges or the nodes by their numbers, from 0, as they stand in a table.
 use Rattle.lists.specs.Tests.{some_none}
-use Rattle.std.specs.Prelude.{ℕ, suc, ◌+◌, ◌≤◌, ◌<◌, List, Bool, true, false, ◌≡◌, length, get_or}
+use Rattle.std.specs.Prelude.{ℕ, zero, suc, ◌+◌, ◌≤◌, ◌<◌, List, Bool, true, false, ◌≡◌, refl, length, get_or}
 use Rattle.std.specs.Prelude.{Option, Some, None}
-use Rattle.std.proofs.Common.{ap, sym, ◌∙◌, arith}
+use Rattle.std.proofs.Common.{ap, sym, ◌∙◌, subst, arith}
 use Rattle.std.proofs.lemmas.List.{length-map}
 use Rattle.lists.specs.Lists.{first_bad}
 use Rattle.lists.specs.Lists.Laws.{at_inside}
 use Rattle.lists.specs.Tests.{by_bool}
 use Rattle.lists.specs.All.Laws.{map_at}
-use Rattle.rewriting.specs.Table.{Fails, Finds}
+use Rattle.rewriting.specs.Table.{Finds}
+use Rattle.rewriting.specs.Table as table
 use Rattle.rewriting.specs.Table.Passes.{first_bad_lem}
 use Rattle.rewriting.specs.Graph.{Edge}
 use Rattle.protocol.specs.Protocol.{Protocol}
 use Rattle.steps.specs.Nodes.{Node, no_node}
 use Rattle.steps.specs.Runs.{rewritten, rewrittens}
 use Rattle.steps.specs.Table.{NodesIn}
-use Rattle.steps.specs.Values.Scan.{as_found, Rest, rest_more, rest_bad, rest_none}
+use Rattle.steps.specs.Values.Scan.{Rest, found_is, rest_all, rest_more, rest_bad, rest_none}
 use Rattle.graph.specs.Table.{edge_at, no_edge, EdgesIn}
 
 -- n elements, by number; d where there is none
@@ -43,17 +44,37 @@ module _ {A : Type 0} {d : A} {ys : List A} {n : ℕ} {item : ℕ → A} (listed
     pub scan_more : b ≡ true → Rest ok d ys j → Rest ok d ys (j + 1)
     scan_more t h = rest_more ok d ys j (omega (arith, listed.count)) (tested ∙ t) h
 
-    pub scan_bad : b ≡ false → Rest ok d ys j → as_found (j + 1) ≡ first_bad ok 1 ys
-    scan_bad f h = rest_bad ok d ys j (omega (arith, listed.count)) (tested ∙ f) h
+    pub scan_bad : b ≡ false → Rest ok d ys j → Some (j + 1) ≡ first_bad ok 1 ys
+    scan_bad f h = sym (found_is j) ∙ rest_bad ok d ys j (omega (arith, listed.count)) (tested ∙ f) h
 
   pub scan_none : n ≤ j → Rest ok d ys j → None ≡ first_bad ok 1 ys
   scan_none l h = rest_none ok d ys j (omega (arith, listed.count)) h
+
+-- ── a search of the numbers below n for one that fails the test ──
+module _ {A : Type 0} {d : A} {ys : List A} {n : ℕ} {item : ℕ → A} (listed : Listed d ys n item) (ok : ℕ → A → Bool) where
+  abbrev pub Passes : ℕ → Type 0
+  Passes j = ok (j + 1) (item j) ≡ true
+
+  abbrev pub Fails : ℕ → Type 0
+  Fails j = ok (j + 1) (item j) ≡ false
+
+  rest_to : (j : ℕ) → j ≤ n → ((k : ℕ) → k < j → Passes k) → Rest ok d ys j
+  rest_to zero l h = rest_all ok d ys
+  rest_to (suc j) l h =
+      let one : j + 1 ≡ suc j = omega arith in
+      subst (Rest ok d ys) one (scan_more listed ok j (omega arith) (sym (h j (omega arith))) refl (rest_to j (omega arith) (λ k a. h k (omega arith))))
+
+  pub searched_none : ((k : ℕ) → 0 ≤ k → k < n → Passes k) → None ≡ first_bad ok 1 ys
+  searched_none h = scan_none listed ok n (omega arith) (rest_to n (omega arith) (λ k l. h k (omega arith) l))
+
+  pub searched_some : (j : ℕ) → j < n → Fails j → ((k : ℕ) → 0 ≤ k → k < j → Passes k) → Some (j + 1) ≡ first_bad ok 1 ys
+  searched_some j l f h = scan_bad listed ok j l (sym f) refl (rest_to j (omega arith) (λ k a. h k (omega arith) a))
 
 -- where a pass finds none, each passes the test
 pub none_bad : {A : Type 0} (ok : A → Bool) (d : A) (ys : List A) → first_bad (λ k. ok) 1 ys ≡ None → (j : ℕ) → j < length ys → ok (get_or ys j d) ≡ true
 none_bad {A} ok d ys h j l =
     by_bool (ok (get_or ys j d)) (λ t. t) (λ f. absurd (found (first_bad (λ k. ok) 1 ys) (first_bad_lem (λ k. ok) ys) h f))
   where
-    found : (o : Option ℕ) → Finds (Fails (λ k. ok) ys) o → o ≡ None → ok (get_or ys j d) ≡ false → ⊥
+    found : (o : Option ℕ) → Finds (table.Fails (λ k. ok) ys) o → o ≡ None → ok (get_or ys j d) ≡ false → ⊥
     found None nowhere e f = nowhere (suc j) (record { which = get_or ys j d; stands = at_inside d ys j l; is_false = f })
     found (Some k) least e f = some_none k e

@@ -23,65 +23,47 @@ pub const TABLE: usize = FIELDS * MOST_EDGES;
 // The numbers of a small file's edges: no more than its bytes.
 pub const FEW_FIELDS: usize = 1024;
 
-// Some numbers: the place behind them, or a fault.
-#[derive(Drop)]
-pub enum Numbers {
-    End(usize),
-    Fault,
-}
-
-// The edges: how many, and the place behind them; or a fault.
-#[derive(Drop)]
-pub enum Edges {
-    End(usize, usize),
-    Fault,
-}
-
-// k numbers go into the table.
-fn read_numbers(s: &[u8], at: usize, k: usize, edges: &mut [u32]) -> Numbers
+// k numbers go into the table; the place behind them.
+fn read_numbers(s: &[u8], at: usize, k: usize, edges: &mut [u32]) -> Option<usize>
     requires { k ≤ length edges.old }
     ensures { NumbersRead s.now at k edges.new result }
 {
     let mut i = at;
-    let mut j: usize = 0;
-    while j < k {
+    for j in 0..k {
         match number::read_number(s, i) {
             Number::Value(v, e) => {
                 edges[j] = v;
                 i = e;
-                j += 1;
             }
             Number::Fault => {
-                return Numbers::Fault;
+                return None;
             }
         }
     }
-    Numbers::End(i)
+    Some(i)
 }
 
-// m edges. Each of their numbers takes a byte at least.
-fn edges_from(s: &[u8], at: usize, m: usize, edges: &mut [u32]) -> Edges
+// m edges: how many, and the place behind them. Each of their numbers takes a byte at least.
+fn edges_from(s: &[u8], at: usize, m: usize, edges: &mut [u32]) -> Option<(usize, usize)>
     requires { (m ≤ most_edges) × FieldsOf s.now edges.old }
     ensures { EdgesFrom s.now at m edges.new result }
 {
     let k = FIELDS * m;
     if s.len() < k {
-        return Edges::Fault;
+        return None;
     }
-    match read_numbers(s, at, k, edges) {
-        Numbers::End(e) => Edges::End(m, e),
-        Numbers::Fault => Edges::Fault,
-    }
+    let e = read_numbers(s, at, k, edges)?;
+    Some((m, e))
 }
 
-// The count, 4,096 at most, and the edges.
-pub fn read_edges(s: &[u8], at: usize, edges: &mut [u32]) -> Edges
+// The count, 4,096 at most, and the edges: how many, and the place behind them.
+pub fn read_edges(s: &[u8], at: usize, edges: &mut [u32]) -> Option<(usize, usize)>
     requires { FieldsOf s.now edges.old }
     ensures { EdgesRead s.now at edges.new result }
 {
     match number::below(s, at, EDGE_LIMIT) {
         Number::Value(m, e) => edges_from(s, e, m as usize, edges),
-        Number::Fault => Edges::Fault,
+        Number::Fault => None,
     }
 }
 
@@ -90,11 +72,5 @@ pub fn number_at(edges: &[u32], i: usize) -> usize
     requires { i < length edges.now }
     ensures { result ≡ get_or edges.now i 0 }
 {
-    wide(edges[i])
-}
-
-fn wide(x: u32) -> usize
-    ensures { result ≡ x }
-{
-    x as usize
+    edges[i] as usize
 }

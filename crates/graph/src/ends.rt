@@ -8,7 +8,6 @@ ghost use Rattle.protocol.specs.Figures.{list_count};
 ghost use Rattle.protocol.specs.Protocol.{Protocol};
 ghost use Rattle.steps.specs.Nodes.{Node};
 ghost use Rattle.steps.specs.Runs.{protocol_facts, rewrittens};
-ghost use Rattle.steps.specs.Values.Scan.{as_found};
 ghost use Rattle.graph.specs.Graph.{Graph, place_of};
 ghost use Rattle.graph.specs.Table.{edge_fields, edge_at, NodesOf, GraphOf};
 ghost use Rattle.graph.specs.Ends.{has_fact};
@@ -51,18 +50,11 @@ fn ends_ok(p: &[u8], nodes: &[usize], n: usize, edges: &[u32], j: usize) -> bool
     has_source & (has_target & (source < target))
 }
 
-// The least edge that has not; 0 where there is none.
-pub fn end_pass(p: &[u8], nodes: &[usize], n: usize, edges: &[u32], m: usize) -> usize
+// The least edge that has not.
+pub fn end_pass(p: &[u8], nodes: &[usize], n: usize, edges: &[u32], m: usize) -> Option<usize>
     requires { Asks₃ (GraphOf p.now nodes.now n edges.now m) }
-    ensures { Promises₃ (GraphOf p.now nodes.now n edges.now m) (λ (s : List ℕ) (P : Protocol) (g : Graph). as_found result ≡ first_bad (λ (k : ℕ) (e : Edge). ends_ok (protocol_facts P) (rewrittens P g.nodes) e) 1 g.edges) }
+    ensures { Promises₃ (GraphOf p.now nodes.now n edges.now m) (λ (s : List ℕ) (P : Protocol) (g : Graph). result ≡ first_bad (λ (k : ℕ) (e : Edge). ends_ok (protocol_facts P) (rewrittens P g.nodes) e) 1 g.edges) }
 {
-    let mut j: usize = 0;
-    while j < m {
-        if ends_ok(p, nodes, n, edges, j) {
-            j += 1;
-        } else {
-            return j + 1;
-        }
-    }
-    0
+    let bad = (0..m).find(|&j| !ends_ok(p, nodes, n, edges, j))?;
+    Some(bad + 1)
 }

@@ -7,7 +7,6 @@ ghost use Rattle.rewriting.specs.Checker.{facts_ok};
 ghost use Rattle.protocol.specs.Protocol.{Protocol};
 ghost use Rattle.steps.specs.Nodes.{Node};
 ghost use Rattle.steps.specs.Runs.{protocol_facts, rewrittens};
-ghost use Rattle.steps.specs.Values.Scan.{as_found};
 ghost use Rattle.facts.specs.Writing.{fact_room};
 ghost use Rattle.facts.specs.Calls.{Room};
 ghost use Rattle.graph.specs.Graph.{Graph};
@@ -39,7 +38,7 @@ fn facts_ok(out: &mut [u8], p: &[u8], s: &[u8], nodes: &[usize], edges: &[u32], 
     compare::same_fact(out, p, s, nodes, source, target)
 }
 
-// The least edge whose facts differ; 0 where there is none.
+// The least edge whose facts differ.
 pub fn fact_pass(
     out: &mut [u8],
     p: &[u8],
@@ -48,17 +47,14 @@ pub fn fact_pass(
     n: usize,
     edges: &[u32],
     m: usize,
-) -> usize
+) -> Option<usize>
     requires { Asks₂ (EndedIn p.now s.now nodes.now n edges.now m) × Room out.old fact_room }
-    ensures { Promises₂ (EndedIn p.now s.now nodes.now n edges.now m) (λ (P : Protocol) (g : Graph). as_found result ≡ first_bad (λ (k : ℕ) (e : Edge). facts_ok (protocol_facts P) (rewrittens P g.nodes) e) 1 g.edges) }
+    ensures { Promises₂ (EndedIn p.now s.now nodes.now n edges.now m) (λ (P : Protocol) (g : Graph). result ≡ first_bad (λ (k : ℕ) (e : Edge). facts_ok (protocol_facts P) (rewrittens P g.nodes) e) 1 g.edges) }
 {
-    let mut j: usize = 0;
-    while j < m {
-        if facts_ok(out, p, s, nodes, edges, j) {
-            j += 1;
-        } else {
-            return j + 1;
+    for j in 0..m {
+        if !facts_ok(out, p, s, nodes, edges, j) {
+            return Some(j + 1);
         }
     }
-    0
+    None
 }

@@ -9,7 +9,6 @@ ghost use Rattle.protocol.specs.Protocol.{Protocol};
 ghost use Rattle.steps.specs.Nodes.{Node};
 ghost use Rattle.steps.specs.Facts.{is_linear};
 ghost use Rattle.steps.specs.Runs.{protocol_facts, rewritten, rewrittens};
-ghost use Rattle.steps.specs.Values.Scan.{as_found};
 ghost use Rattle.facts.specs.Calls.{NodeOf, ListedFact, fact_at};
 ghost use Rattle.graph.specs.Graph.{Graph};
 ghost use Rattle.graph.specs.Table.{NodesOf};
@@ -31,31 +30,20 @@ fn premises_ok(p: &[u8], nodes: &[usize], j: usize, uses: &[u8]) -> bool
 {
     let count = counts::fact_count(p, nodes, j, figures::PREMISES);
     let first = figures::MOST_FACTS * j;
-    let mut i: usize = 0;
-    while i < count {
-        if uses[first + i] == ONE {
-            i += 1;
-        } else {
-            return false;
-        }
-    }
-    true
+    uses[first..first + count].iter().all(|&c| c == ONE)
 }
 
-// The least node that has a premise without exactly one edge, by the counts; 0 where there is none.
-fn least_unfed(p: &[u8], nodes: &[usize], n: usize, uses: &[u8]) -> usize
+// The least node that has a premise without exactly one edge, by the counts.
+fn least_unfed(p: &[u8], nodes: &[usize], n: usize, uses: &[u8]) -> Option<usize>
     requires { Asks₃ (NodesOf p.now nodes.now n) × (most_facts * n ≤ length uses.now) }
-    ensures { Promises₃ (NodesOf p.now nodes.now n) (λ (s : List ℕ) (P : Protocol) (xs : List Node). (es : List Edge) → Into uses.now es → as_found result ≡ first_bad (premises_ok (protocol_facts P) es) 1 (rewrittens P xs)) }
+    ensures { Promises₃ (NodesOf p.now nodes.now n) (λ (s : List ℕ) (P : Protocol) (xs : List Node). (es : List Edge) → Into uses.now es → result ≡ first_bad (premises_ok (protocol_facts P) es) 1 (rewrittens P xs)) }
 {
-    let mut j: usize = 0;
-    while j < n {
-        if premises_ok(p, nodes, j, uses) {
-            j += 1;
-        } else {
-            return j + 1;
+    for j in 0..n {
+        if !premises_ok(p, nodes, j, uses) {
+            return Some(j + 1);
         }
     }
-    0
+    None
 }
 
 // Whether a conclusion that is so often the source of an edge is persistent, or used once at most.
@@ -79,39 +67,33 @@ fn conclusions_ok(p: &[u8], nodes: &[usize], j: usize, uses: &[u8]) -> bool
 {
     let count = counts::fact_count(p, nodes, j, figures::CONCLUSIONS);
     let first = figures::MOST_FACTS * j;
-    let mut i: usize = 0;
-    while i < count {
+    for i in 0..count {
         let x = FactId {
             node: j,
             list: figures::CONCLUSIONS,
             number: i,
         };
-        if one_out(p, nodes, x, uses[first + i]) {
-            i += 1;
-        } else {
+        if !one_out(p, nodes, x, uses[first + i]) {
             return false;
         }
     }
     true
 }
 
-// The least node that has a linear conclusion used twice, by the counts; 0 where there is none.
-fn least_spent(p: &[u8], nodes: &[usize], n: usize, uses: &[u8]) -> usize
+// The least node that has a linear conclusion used twice, by the counts.
+fn least_spent(p: &[u8], nodes: &[usize], n: usize, uses: &[u8]) -> Option<usize>
     requires { Asks₃ (NodesOf p.now nodes.now n) × (most_facts * n ≤ length uses.now) }
-    ensures { Promises₃ (NodesOf p.now nodes.now n) (λ (s : List ℕ) (P : Protocol) (xs : List Node). (es : List Edge) → OutOf uses.now es → as_found result ≡ first_bad (conclusions_ok (protocol_facts P) es) 1 (rewrittens P xs)) }
+    ensures { Promises₃ (NodesOf p.now nodes.now n) (λ (s : List ℕ) (P : Protocol) (xs : List Node). (es : List Edge) → OutOf uses.now es → result ≡ first_bad (conclusions_ok (protocol_facts P) es) 1 (rewrittens P xs)) }
 {
-    let mut j: usize = 0;
-    while j < n {
-        if conclusions_ok(p, nodes, j, uses) {
-            j += 1;
-        } else {
-            return j + 1;
+    for j in 0..n {
+        if !conclusions_ok(p, nodes, j, uses) {
+            return Some(j + 1);
         }
     }
-    0
+    None
 }
 
-// 12: the least node that has a premise without exactly one edge; 0 where there is none. The counts go into the lent part.
+// 12: the least node that has a premise without exactly one edge. The counts go into the lent part.
 pub fn premise_pass(
     p: &[u8],
     nodes: &[usize],
@@ -119,15 +101,15 @@ pub fn premise_pass(
     edges: &[u32],
     m: usize,
     uses: &mut [u8],
-) -> usize
+) -> Option<usize>
     requires { Asks₃ (EndedOf p.now nodes.now n edges.now m) × (most_facts * n ≤ length uses.old) }
-    ensures { Promises₃ (EndedOf p.now nodes.now n edges.now m) (λ (s : List ℕ) (P : Protocol) (g : Graph). as_found result ≡ first_bad (premises_ok (protocol_facts P) g.edges) 1 (rewrittens P g.nodes)) }
+    ensures { Promises₃ (EndedOf p.now nodes.now n edges.now m) (λ (s : List ℕ) (P : Protocol) (g : Graph). result ≡ first_bad (premises_ok (protocol_facts P) g.edges) 1 (rewrittens P g.nodes)) }
 {
     uses::count_ends(edges, m, edges::TARGET, uses);
     least_unfed(p, nodes, n, uses)
 }
 
-// 13: the least node that has a linear conclusion used twice; 0 where there is none.
+// 13: the least node that has a linear conclusion used twice.
 pub fn conclusion_pass(
     p: &[u8],
     nodes: &[usize],
@@ -135,9 +117,9 @@ pub fn conclusion_pass(
     edges: &[u32],
     m: usize,
     uses: &mut [u8],
-) -> usize
+) -> Option<usize>
     requires { Asks₃ (EndedOf p.now nodes.now n edges.now m) × (most_facts * n ≤ length uses.old) }
-    ensures { Promises₃ (EndedOf p.now nodes.now n edges.now m) (λ (s : List ℕ) (P : Protocol) (g : Graph). as_found result ≡ first_bad (conclusions_ok (protocol_facts P) g.edges) 1 (rewrittens P g.nodes)) }
+    ensures { Promises₃ (EndedOf p.now nodes.now n edges.now m) (λ (s : List ℕ) (P : Protocol) (g : Graph). result ≡ first_bad (conclusions_ok (protocol_facts P) g.edges) 1 (rewrittens P g.nodes)) }
 {
     uses::count_ends(edges, m, edges::SOURCE, uses);
     least_spent(p, nodes, n, uses)

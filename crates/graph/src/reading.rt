@@ -9,41 +9,43 @@ ghost use Rattle.graph.specs.Table.{FieldsOf};
 ghost use Rattle.graph.specs.Reading.{BehindNodes, GraphTold};
 
 use crate::edges;
-use crate::edges::Edges;
 use steps::nodes;
 use steps::nodes::Nodes;
 
-// How many nodes and edges there are; a layout fault; the node that has no such rule.
 #[derive(Drop)]
-pub enum GraphEnd {
-    End(usize, usize),
+pub enum NodesFault {
     Broken,
     NoRule(usize),
 }
 
-// Behind n nodes: the edges, and nothing behind them.
-fn behind_nodes(s: &[u8], n: usize, at: usize, edges: &mut [u32]) -> GraphEnd
+// Behind the nodes: how many edges there are, and nothing behind them.
+fn behind_nodes(s: &[u8], at: usize, edges: &mut [u32]) -> Option<usize>
     requires { FieldsOf s.now edges.old }
-    ensures { BehindNodes s.now n at edges.new result }
+    ensures { BehindNodes s.now at edges.new result }
 {
-    match edges::read_edges(s, at, edges) {
-        Edges::End(m, e) => {
-            if e == s.len() {
-                return GraphEnd::End(n, m);
-            }
-            GraphEnd::Broken
-        }
-        Edges::Fault => GraphEnd::Broken,
+    let (m, e) = edges::read_edges(s, at, edges)?;
+    if e != s.len() {
+        return None;
     }
+    Some(m)
 }
 
-pub fn read_graph(p: &[u8], s: &[u8], nodes: &mut [usize], edges: &mut [u32]) -> GraphEnd
+// How many nodes and edges there are.
+pub fn read_graph(
+    p: &[u8],
+    s: &[u8],
+    nodes: &mut [usize],
+    edges: &mut [u32],
+) -> Result<(usize, usize), NodesFault>
     requires { Asks (Prepared p.now) × (length s.now ≤ longest) × RowsOf s.now 0 nodes.old × FieldsOf s.now edges.old }
     ensures { Promises (Prepared p.now) (λ (P : Protocol). GraphTold P p.now s.now nodes.new edges.new result) }
 {
     match nodes::read_nodes(p, s, 0, nodes) {
-        Nodes::End(n, e) => behind_nodes(s, n, e, edges),
-        Nodes::Broken => GraphEnd::Broken,
-        Nodes::NoRule(k) => GraphEnd::NoRule(k),
+        Nodes::End(n, e) => {
+            let m = behind_nodes(s, e, edges).ok_or(NodesFault::Broken)?;
+            Ok((n, m))
+        }
+        Nodes::Broken => Err(NodesFault::Broken),
+        Nodes::NoRule(k) => Err(NodesFault::NoRule(k)),
     }
 }

@@ -12,17 +12,16 @@ ghost use Rattle.graph.specs.Joins.{EndedOf};
 ghost use Rattle.graph.specs.Area.{Area};
 ghost use Rattle.graph.specs.Ruling.{uses_ruling, edges_ruling, Decided, ReadDecided, Answered};
 
-use crate::reading::GraphEnd;
+use crate::reading::NodesFault;
 use crate::{area, ends, joins, passes, reading};
 use protocol::figures;
 use steps::ruling;
 use steps::ruling::NodesRuling;
 
-// How many nodes and edges there are, or the number and the item of a refusal.
-#[derive(Drop)]
-pub enum GraphRuling {
-    Good(usize, usize),
-    Refused(usize, usize),
+#[derive(Clone, Copy)]
+pub struct Refusal {
+    pub number: usize,
+    pub item: usize,
 }
 
 // 12 and 13 of a graph of which 10 is absent. As many counts are cleared as its nodes can need.
@@ -33,19 +32,23 @@ fn rule_uses(
     edges: &[u32],
     m: usize,
     uses: &mut [u8],
-) -> GraphRuling
+) -> Result<(), Refusal>
     requires { Asks₃ (EndedOf p.now nodes.now n edges.now m) × (most_facts * n ≤ length uses.old) }
-    ensures { Promises₃ (EndedOf p.now nodes.now n edges.now m) (λ (s : List ℕ) (P : Protocol) (g : Graph). Decided (uses_ruling P g) g n m result) }
+    ensures { Promises₃ (EndedOf p.now nodes.now n edges.now m) (λ (s : List ℕ) (P : Protocol) (g : Graph). Decided (uses_ruling P g) g result) }
 {
-    let unfed = passes::premise_pass(p, nodes, n, edges, m, uses);
-    if unfed != 0 {
-        return GraphRuling::Refused(rewriting::NOT_ONE_EDGE, unfed);
+    if let Some(item) = passes::premise_pass(p, nodes, n, edges, m, uses) {
+        return Err(Refusal {
+            number: rewriting::NOT_ONE_EDGE,
+            item,
+        });
     }
-    let spent = passes::conclusion_pass(p, nodes, n, edges, m, uses);
-    if spent != 0 {
-        return GraphRuling::Refused(rewriting::USED_TWICE, spent);
+    if let Some(item) = passes::conclusion_pass(p, nodes, n, edges, m, uses) {
+        return Err(Refusal {
+            number: rewriting::USED_TWICE,
+            item,
+        });
     }
-    GraphRuling::Good(n, m)
+    Ok(())
 }
 
 // 10 to 13 of right nodes and their edges.
@@ -57,25 +60,22 @@ fn rule_edges(
     edges: &[u32],
     m: usize,
     work: &mut [u8],
-) -> GraphRuling
+) -> Result<(), Refusal>
     requires { Asks₂ (GraphIn p.now s.now nodes.now n edges.now m) × Area work.old }
-    ensures { Promises₂ (GraphIn p.now s.now nodes.now n edges.now m) (λ (P : Protocol) (g : Graph). Decided (edges_ruling P g) g n m result) }
+    ensures { Promises₂ (GraphIn p.now s.now nodes.now n edges.now m) (λ (P : Protocol) (g : Graph). Decided (edges_ruling P g) g result) }
 {
-    let missing = ends::end_pass(p, nodes, n, edges, m);
-    if missing != 0 {
-        return GraphRuling::Refused(rewriting::END_MISSING, missing);
+    if let Some(item) = ends::end_pass(p, nodes, n, edges, m) {
+        return Err(Refusal {
+            number: rewriting::END_MISSING,
+            item,
+        });
     }
-    let differs = joins::fact_pass(
-        &mut work[area::FACTS..area::FACTS_END],
-        p,
-        s,
-        nodes,
-        n,
-        edges,
-        m,
-    );
-    if differs != 0 {
-        return GraphRuling::Refused(rewriting::FACTS_DIFFER, differs);
+    let facts = &mut work[area::FACTS..area::FACTS_END];
+    if let Some(item) = joins::fact_pass(facts, p, s, nodes, n, edges, m) {
+        return Err(Refusal {
+            number: rewriting::FACTS_DIFFER,
+            item,
+        });
     }
     rule_uses(
         p,
@@ -96,30 +96,39 @@ fn rule_read(
     edges: &[u32],
     m: usize,
     work: &mut [u8],
-) -> GraphRuling
+) -> Result<(), Refusal>
     requires { Asks₂ (ReadIn p.now s.now nodes.now n edges.now m) × Area work.old }
-    ensures { Promises₂ (ReadIn p.now s.now nodes.now n edges.now m) (λ (P : Protocol) (g : Graph). ReadDecided P g n m result) }
+    ensures { Promises₂ (ReadIn p.now s.now nodes.now n edges.now m) (λ (P : Protocol) (g : Graph). ReadDecided P g result) }
 {
     match ruling::rule_nodes(p, s, nodes, n) {
         NodesRuling::Good(_) => rule_edges(p, s, nodes, n, edges, m, work),
-        NodesRuling::Refused(number, item) => GraphRuling::Refused(number, item),
+        NodesRuling::Refused(number, item) => Err(Refusal { number, item }),
     }
 }
 
-// 3 and 6 to 13 of a graph file. The tables of its nodes and edges are filled in.
+// 3 and 6 to 13 of a graph file: how many nodes and edges there are. Their tables are filled in.
 pub fn rule_graph(
     p: &[u8],
     s: &[u8],
     nodes: &mut [usize],
     edges: &mut [u32],
     work: &mut [u8],
-) -> GraphRuling
+) -> Result<(usize, usize), Refusal>
     requires { Asks (Prepared p.now) × (length s.now ≤ longest) × RowsOf s.now 0 nodes.old × FieldsOf s.now edges.old × Area work.old }
     ensures { Promises (Prepared p.now) (λ (P : Protocol). Answered P p.now s.now nodes.new result) }
 {
     match reading::read_graph(p, s, nodes, edges) {
-        GraphEnd::End(n, m) => rule_read(p, s, nodes, n, edges, m, work),
-        GraphEnd::Broken => GraphRuling::Refused(rewriting::LAYOUT, rewriting::GRAPH_ITEM),
-        GraphEnd::NoRule(k) => GraphRuling::Refused(rewriting::NO_SUCH_RULE, k),
+        Ok((n, m)) => {
+            rule_read(p, s, nodes, n, edges, m, work)?;
+            Ok((n, m))
+        }
+        Err(NodesFault::Broken) => Err(Refusal {
+            number: rewriting::LAYOUT,
+            item: rewriting::GRAPH_ITEM,
+        }),
+        Err(NodesFault::NoRule(item)) => Err(Refusal {
+            number: rewriting::NO_SUCH_RULE,
+            item,
+        }),
     }
 }

@@ -35,10 +35,8 @@ pub fn count_ends(edges: &[u32], m: usize, field: usize, counts: &mut [u8])
     ensures { Counted edges.now m field counts.new }
 {
     octets::clear(counts);
-    let mut j: usize = 0;
-    while j < m {
+    for j in 0..m {
         let at = count_place(edges, edges::FIELDS * j + field);
         counts[at] = one_more(counts[at]);
-        j += 1;
     }
 }

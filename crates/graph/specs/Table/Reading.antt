@@ -1,7 +1,7 @@
 -- What reading leaves in the table: the numbers of the edges one behind the other, and so the edges.
 use Prim.Native.Nat.{ℕ, zero, suc, ◌+◌, ◌*◌, ◌≤◌, ◌<◌}
 use mathlib.Core.List.{List, [], ◌∷◌, ◌++◌}
-use Rattle.std.specs.Prelude.{◌≡◌, length, get_or, drop, set}
+use Rattle.std.specs.Prelude.{Option, Some, None, ◌≡◌, length, get_or, drop, set}
 use Rattle.std.proofs.Math.Path.{refl, ap, sym}
 use Rattle.std.proofs.Common.{ap₂, ◌∙◌, subst, arith, add-one, get_or-drop, get_or-set_same, get_or-set_other}
 use Rattle.std.proofs.Math.ListN.{get_or-append}
@@ -16,10 +16,6 @@ use Rattle.number.specs.Reading.{Read, got, fault, and_then, read_number, below,
 use Rattle.number.specs.Reading.Laws.{then_got, then_fault, then_then, then_ext, then_same_at}
 use Rattle.number.specs.Reading.Many.{many_split, many_snoc, many_stop, many_length, counted_got, counted_fault}
 use Rattle.rewriting.specs.Graph.{Edge}
-use Rattle.graph.specs.declared.edges.Numbers.{Numbers}
-use Rattle.graph.specs.declared.edges.Numbers.TheVariants as nums
-use Rattle.graph.specs.declared.edges.Edges.{Edges}
-use Rattle.graph.specs.declared.edges.Edges.TheVariants as all
 use Rattle.graph.specs.Graph.{place_of, edge_of, most_edges, place, edge, edge_list}
 use Rattle.graph.specs.Table.{edge_fields, edge_at, no_edge, FieldsFor, EdgesIn}
 
@@ -30,9 +26,10 @@ pub record NumbersAre (s : List ℕ) (at k : ℕ) (edges : List ℕ) (e : ℕ) :
   pub there : many (read_number s) k at ≡ got items e
   pub each : (i : ℕ) → i < k → get_or edges i 0 ≡ get_or items i 0
 
-abbrev pub NumbersRead : List ℕ → ℕ → ℕ → List ℕ → Numbers → Type 0
-NumbersRead s at k edges (nums.End e) = NumbersAre s at k edges e
-NumbersRead s at k edges nums.Fault = many (read_number s) k at ≡ fault
+-- the place behind them, or a fault
+abbrev pub NumbersRead : List ℕ → ℕ → ℕ → List ℕ → Option ℕ → Type 0
+NumbersRead s at k edges (Some e) = NumbersAre s at k edges e
+NumbersRead s at k edges None = many (read_number s) k at ≡ fault
 
 -- edges that were read stand in the table
 pub record EdgesAre (r : Read (List Edge)) (edges : List ℕ) (m e : ℕ) : Type 0 where
@@ -40,15 +37,16 @@ pub record EdgesAre (r : Read (List Edge)) (edges : List ℕ) (m e : ℕ) : Type
   pub there : r ≡ got items e
   pub stand : EdgesIn edges m items
 
-abbrev EdgesTold : Read (List Edge) → List ℕ → Edges → Type 0
-EdgesTold r edges (all.End m e) = EdgesAre r edges m e
-EdgesTold r edges all.Fault = r ≡ fault
+-- how many, and the place behind them, or a fault
+abbrev EdgesTold : Read (List Edge) → List ℕ → Option (ℕ × ℕ) → Type 0
+EdgesTold r edges (Some (m, e)) = EdgesAre r edges m e
+EdgesTold r edges None = r ≡ fault
 
 -- m of them; a count and that many
-abbrev pub EdgesFrom : List ℕ → ℕ → ℕ → List ℕ → Edges → Type 0
+abbrev pub EdgesFrom : List ℕ → ℕ → ℕ → List ℕ → Option (ℕ × ℕ) → Type 0
 EdgesFrom s at m edges r = EdgesTold (many (edge s) m at) edges r
 
-abbrev pub EdgesRead : List ℕ → ℕ → List ℕ → Edges → Type 0
+abbrev pub EdgesRead : List ℕ → ℕ → List ℕ → Option (ℕ × ℕ) → Type 0
 EdgesRead s at edges r = EdgesTold (edge_list s at) edges r
 
 -- ── four numbers are an edge ──
@@ -141,11 +139,11 @@ module _ (s : List ℕ) (at : ℕ) where
     numbers_end k h = subst (λ (n : ℕ). NumbersAre s at n edges i) h came
 
 -- ── m edges ──
-module _ (s : List ℕ) (at m : ℕ) (edges : List ℕ) (r : Numbers) (told : NumbersRead s at (4 * m) edges r) where
-  as_read : {q : Numbers} → r ≡ q → NumbersRead s at (4 * m) edges q
+module _ (s : List ℕ) (at m : ℕ) (edges : List ℕ) (r : Option ℕ) (told : NumbersRead s at (4 * m) edges r) where
+  as_read : {q : Option ℕ} → r ≡ q → NumbersRead s at (4 * m) edges q
   as_read h = subst (NumbersRead s at (4 * m) edges) h told
 
-  pub edges_end : {e : ℕ} → r ≡ nums.End e → m ≤ most_edges → FieldsFor edges m → EdgesAre (many (edge s) m at) edges m e
+  pub edges_end : {e : ℕ} → r ≡ Some e → m ≤ most_edges → FieldsFor edges m → EdgesAre (many (edge s) m at) edges m e
   edges_end q few long =
       let h = as_read q in
       record {
@@ -159,7 +157,7 @@ module _ (s : List ℕ) (at m : ℕ) (edges : List ℕ) (r : Numbers) (told : Nu
         };
       }
 
-  pub edges_fault : r ≡ nums.Fault → many (edge s) m at ≡ fault
+  pub edges_fault : r ≡ None → many (edge s) m at ≡ fault
   edges_fault q = edges_numbers s m at ∙ then_fault (many (read_number s) (4 * m) at) _ (as_read q)
 
 -- ── each number takes a byte at least, so a file of fewer bytes has fewer ──
@@ -174,7 +172,7 @@ edges_short s bytes at m h = edges_numbers s m at ∙ then_fault (many (read_num
         absurd (omega (arith, f.0.0, flat_long groups groups_some ns, f.1.ends, stands_within f.1 some))
 
 -- the count and then the edges
-pub edges_told : (s : List ℕ) (at n e : ℕ) (edges : List ℕ) (r : Edges) → below s (suc most_edges) at ≡ got n e → EdgesFrom s e n edges r → EdgesRead s at edges
+pub edges_told : (s : List ℕ) (at n e : ℕ) (edges : List ℕ) (r : Option (ℕ × ℕ)) → below s (suc most_edges) at ≡ got n e → EdgesFrom s e n edges r → EdgesRead s at edges
     r
 unfolding edge_list
 edges_told s at n e edges r h t =

@@ -11,17 +11,17 @@ pub read_numbers-requires : goal.read_numbers-requires
 read_numbers-requires c =
     omega (arith, c.requires.1 c.args.m c.requires.0 (omega (arith, c.if-s-k.false)))
 
-pub returns-in-End : goal.returns-in-End
-returns-in-End c =
+pub returns : goal.returns
+returns c =
     edges_end c.args.s.now c.args.at c.args.m c.read_numbers.new.edges c.read_numbers.result c.read_numbers.ensures
-    c.in-End.is c.requires.0 (omega (
+    c.in_ok-e.was c.requires.0 (omega (
       arith,
       c.read_numbers.auto.edges,
       c.requires.1 c.args.m c.requires.0
           (omega (arith, c.if-s-k.false)),
     ))
 
-pub returns-in-Fault : goal.returns-in-Fault
-returns-in-Fault c =
-    edges_fault c.args.s.now c.args.at c.args.m c.read_numbers.new.edges c.read_numbers.result c.read_numbers.ensures
-    c.in-Fault.is
+pub returns-in_err-e : goal.returns-in_err-e
+returns-in_err-e c =
+    rw c.from_residual.ensures
+    (edges_fault c.args.s.now c.args.at c.args.m c.read_numbers.new.edges c.read_numbers.result c.read_numbers.ensures c.in_err-e.was)

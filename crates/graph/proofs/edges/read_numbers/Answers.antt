@@ -9,28 +9,27 @@ use Rattle.graph.proofs.edges.read_numbers.Goals as goal
 
 pub loop-j-init : goal.loop-j-init
 loop-j-init c =
-    (omega arith, search rules, numbers_none _ _ _)
+    (search rules, numbers_none _ _ _)
 
 pub offset_bounds-edges-j : goal.offset_bounds-edges-j
 offset_bounds-edges-j c =
-    omega (arith, c.loop-j.invariant.1, c.requires)
+    omega (arith, c.loop-j.invariant.0, c.requires)
 
 pub bounds-edges-j : goal.bounds-edges-j
 bounds-edges-j c =
-    omega (arith, c.loop-j.invariant.1, c.requires)
+    omega (arith, c.loop-j.invariant.0, c.requires)
 
 pub loop-j-preserved : goal.loop-j-preserved
 loop-j-preserved c = (
-  omega arith,
-  simp length-set c.loop-j.invariant.1,
-  numbers_more _ _ _ _ _ c.loop-j.invariant.2 _ _ (omega (arith, c.loop-j.invariant.1, c.requires))
+  simp length-set c.loop-j.invariant.0,
+  numbers_more _ _ _ _ _ c.loop-j.invariant.1 _ _ (omega (arith, c.loop-j.invariant.0, c.requires))
       (sym c.read_number.ensures ∙ ap as_read c.in-Value.is),
 )
 
 pub returns-in-Fault : goal.returns-in-Fault
 returns-in-Fault c =
-    numbers_fault _ _ _ _ _ c.loop-j.invariant.2 _ c.loop-j-test.true (sym c.read_number.ensures ∙ ap as_read c.in-Fault.is)
+    numbers_fault _ _ _ _ _ c.loop-j.invariant.1 _ c.loop-j-test.true (sym c.read_number.ensures ∙ ap as_read c.in-Fault.is)
 
 pub returns : goal.returns
 returns c =
-    numbers_end _ _ _ _ _ c.loop-j.invariant.2 _ (omega (arith, c.loop-j.invariant.0, c.loop-j-test.false))
+    numbers_end _ _ _ _ _ c.loop-j.invariant.1 _ (omega (arith, c.loop-j-test.false))

@@ -1,35 +1,40 @@
--- The invariant is that searching on from edge j finds what searching all finds; the first bad edge ends it.
-use borrow.Author.Rules.{rules}
-use Rattle.graph.specs.Table.{no_edge}
-use native.Mathlib.Omega.{arith}
+-- The search stops at the first edge whose ends are not right.
+use Rattle.std.proofs.Common.{rules, tests, arith, ◌≡◌, Bool, true, false, ℕ, List, sym, ◌∙◌}
+use Rattle.std.specs.Prelude.{⊤}
+use Rattle.std.proofs.lemmas.Iterator.{first_from_Range}
+use Rattle.std.proofs.lemmas.Option.{MatchOption-at_none, MatchOption-at_some}
+use Rattle.lists.specs.Asks.{Promises₃}
+use Rattle.protocol.specs.Protocol.{Protocol}
+use Rattle.steps.specs.Nodes.{Node}
 use Rattle.rewriting.specs.Checker.{ends_ok}
 use Rattle.steps.specs.Runs.{protocol_facts, rewrittens}
-use Rattle.steps.specs.Values.Scan.{rest_all}
-use Rattle.graph.specs.Scan.{edges_listed, scan_more, scan_bad, scan_none}
+use Rattle.graph.specs.Table.{edge_at, NodesOf}
+use Rattle.graph.specs.Scan.{edges_listed, searched_none, searched_some}
 use Rattle.graph.proofs.ends.end_pass.Goals as goal
 
-pub loop-j-init : goal.loop-j-init
-loop-j-init c =
-    (search rules, λ s P g h. rest_all (λ k. ends_ok (protocol_facts P) (rewrittens P g.nodes)) no_edge g.edges)
+pub returns-in_err-bad : goal.returns-in_err-bad
+returns-in_err-bad c =
+    λ s P g h.
+    let told = λ (j : ℕ) (r : Bool) (t : Promises₃ (NodesOf c.args.p.now c.args.nodes.now c.args.n) (λ (s : List ℕ) (P : Protocol) (xs : List Node). r ≡ ends_ok (protocol_facts P) (rewrittens P xs) (edge_at c.args.edges.now j))).
+    (sym (t s P g.nodes h.nodes_in.stand)) in
+    let found = first_from_Range _ _ _ _ (λ j. ends_ok (protocol_facts P) (rewrittens P g.nodes) (edge_at c.args.edges.now j) ≡ false)
+    (λ j. ends_ok (protocol_facts P) (rewrittens P g.nodes) (edge_at c.args.edges.now j) ≡ true) c.find.ensures.ran
+    (λ x q k. search (rules, tests, told)) (λ x q k. (search rules, search (rules, tests, told))) in
+    c.from_residual.ensures ∙ searched_none (edges_listed h.edges_in) (λ k. ends_ok (protocol_facts P) (rewrittens P g.nodes))
+    (MatchOption-at_none _ _ c.in_err-bad.was found)
 
-pub ends_ok-requires : goal.ends_ok-requires
-ends_ok-requires c =
-    let (s, P, g, h) = c.requires in
-    ((s, P, g.nodes, h.nodes_in.stand), omega (arith, h.edges_in.few, h.edges_in.long, c.loop-j-test.true))
-
-pub loop-j-preserved : goal.loop-j-preserved
-loop-j-preserved c = (
-  omega arith,
-  λ s P g h. scan_more (edges_listed h.edges_in) (λ k. ends_ok (protocol_facts P) (rewrittens P g.nodes)) c.loop-j.j
-      c.loop-j-test.true (c.ends_ok.ensures s P g.nodes h.nodes_in.stand) c.if-ends_ok.true (c.loop-j.invariant.1 s P g h),
-)
-
-pub returns-else-ends_ok : goal.returns-else-ends_ok
-returns-else-ends_ok c =
-    λ s P g h. scan_bad (edges_listed h.edges_in) (λ k. ends_ok (protocol_facts P) (rewrittens P g.nodes)) c.loop-j.j
-    c.loop-j-test.true (c.ends_ok.ensures s P g.nodes h.nodes_in.stand) c.if-ends_ok.false (c.loop-j.invariant.1 s P g h)
+pub overflow_add-result : goal.overflow_add-result
+overflow_add-result c =
+    let found = first_from_Range _ _ _ _ (λ j. ⊤) (λ j. ⊤) c.find.ensures.ran (λ x q k. tt) (λ x q k. (search rules, tt)) in
+    omega (arith, (MatchOption-at_some _ _ _ c.in_ok-bad.was found).1)
 
 pub returns : goal.returns
 returns c =
-    λ s P g h. scan_none (edges_listed h.edges_in) (λ k. ends_ok (protocol_facts P) (rewrittens P g.nodes)) c.loop-j.j (omega arith)
-    (c.loop-j.invariant.1 s P g h)
+    λ s P g h.
+    let told = λ (j : ℕ) (r : Bool) (t : Promises₃ (NodesOf c.args.p.now c.args.nodes.now c.args.n) (λ (s : List ℕ) (P : Protocol) (xs : List Node). r ≡ ends_ok (protocol_facts P) (rewrittens P xs) (edge_at c.args.edges.now j))).
+    (sym (t s P g.nodes h.nodes_in.stand)) in
+    let found = first_from_Range _ _ _ _ (λ j. ends_ok (protocol_facts P) (rewrittens P g.nodes) (edge_at c.args.edges.now j) ≡ false)
+    (λ j. ends_ok (protocol_facts P) (rewrittens P g.nodes) (edge_at c.args.edges.now j) ≡ true) c.find.ensures.ran
+    (λ x q k. search (rules, tests, told)) (λ x q k. (search rules, search (rules, tests, told))) in
+    let bad = MatchOption-at_some _ _ _ c.in_ok-bad.was found in
+    searched_some (edges_listed h.edges_in) (λ k. ends_ok (protocol_facts P) (rewrittens P g.nodes)) _ bad.1 bad.2 bad.3

@@ -5,7 +5,6 @@ use Rattle.lists.specs.Asks.{Promises₂}
 use Rattle.graph.specs.Graph.{Graph}
 use Rattle.graph.specs.Table.{no_edge}
 use Rattle.graph.specs.Joins.{EndedIn}
-use Prim.Native.Nat.{◌-◌, ◌≤◌}
 use Rattle.protocol.specs.Protocol.{Protocol}
 use Rattle.rewriting.specs.Checker.{facts_ok}
 use Rattle.steps.specs.Runs.{protocol_facts, rewrittens}
@@ -14,9 +13,5 @@ use Rattle.graph.proofs.joins.fact_pass.Given as goal
 
 abbrev pub invariant-loop-j : goal.invariant-loop-j
 invariant-loop-j l =
-    (l.j ≤ l.m) × (length l.out ≡ length l.initial.out) × Promises₂ (EndedIn l.p l.s l.nodes l.n l.edges l.m)
+    (length l.out ≡ length l.initial.out) × Promises₂ (EndedIn l.p l.s l.nodes l.n l.edges l.m)
     (λ (P : Protocol) (g : Graph). Rest (λ k. facts_ok (protocol_facts P) (rewrittens P g.nodes)) no_edge g.edges l.j)
-
-abbrev pub decreases-loop-j : goal.decreases-loop-j
-decreases-loop-j l =
-    l.m - l.j

@@ -19,7 +19,7 @@ overflow_mul-first c =
 
 pub loop-i-init : goal.loop-i-init
 loop-i-init c =
-    (omega arith, λ s P x h. all_none (free_at P x c.args.uses.now c.args.j))
+    λ s P x h. all_none (free_at P x c.args.uses.now c.args.j)
 
 pub overflow_add-first : goal.overflow_add-first
 overflow_add-first c =
@@ -35,20 +35,18 @@ one_out-requires c =
     let (s, P, x, h) = c.requires.0 in (s, P, x, record { node = h; listed = omega (arith, c.fact_count-count.ensures s P x h, c.loop-i-test.true) })
 
 pub loop-i-preserved : goal.loop-i-preserved
-loop-i-preserved c = (
-  omega arith,
-  λ s P x h.
-      let l : c.loop-i.i < length (facts_of P conclusion_list x) = omega (arith, c.fact_count-count.ensures s P x h, c.loop-i-test.true) in
-      all_more (free_at P x c.args.uses.now c.args.j) c.loop-i.i (c.loop-i.invariant.1 s P x h)
-      (sym (c.one_out.ensures s P x (record { node = h; listed = l })) ∙ c.if-one_out.true),
-)
+loop-i-preserved c =
+    λ s P x h.
+    let l : c.loop-i.i < length (facts_of P conclusion_list x) = omega (arith, c.fact_count-count.ensures s P x h, c.loop-i-test.true) in
+    all_more (free_at P x c.args.uses.now c.args.j) c.loop-i.i (c.loop-i.invariant s P x h)
+    (sym (c.one_out.ensures s P x (record { node = h; listed = l })) ∙ c.if-not-one_out.false)
 
-pub returns-else-one_out : goal.returns-else-one_out
-returns-else-one_out c =
+pub returns-then-not-one_out : goal.returns-then-not-one_out
+returns-then-not-one_out c =
     λ s P x h es counts.
     let l : c.loop-i.i < length (facts_of P conclusion_list x) = omega (arith, c.fact_count-count.ensures s P x h, c.loop-i-test.true) in
     loop_false (free_at P x c.args.uses.now c.args.j) (conclusions_by h c.args.uses.now es c.requires.1 counts) c.loop-i.i
-    (sym (c.one_out.ensures s P x (record { node = h; listed = l })) ∙ c.if-one_out.false) l
+    (sym (c.one_out.ensures s P x (record { node = h; listed = l })) ∙ c.if-not-one_out.true) l
 
 pub returns : goal.returns
 returns c =
@@ -57,7 +55,6 @@ returns c =
       arith,
       c.fact_count-count.ensures s P x h,
       c.loop-i-test.false,
-      c.loop-i.invariant.0,
     ) in
     loop_true (free_at P x c.args.uses.now c.args.j) (conclusions_by h c.args.uses.now es c.requires.1 counts) c.loop-i.i
-    (c.loop-i.invariant.1 s P x h) e
+    (c.loop-i.invariant s P x h) e

@@ -6,15 +6,11 @@ use Rattle.steps.specs.Nodes.{Node}
 use mathlib.Core.List.{List}
 use mathlib.Core.Bool.{true}
 use mathlib.Core.Path.{◌≡◌}
-use Prim.Native.Nat.{ℕ, ◌-◌, ◌≤◌}
+use Prim.Native.Nat.{ℕ}
 use Rattle.lists.specs.Below.{all_below}
 use Rattle.graph.specs.Passes.{free_at}
 use Rattle.graph.proofs.passes.conclusions_ok.Given as goal
 
 abbrev pub invariant-loop-i : goal.invariant-loop-i
 invariant-loop-i l =
-    (l.i ≤ l.count) × Promises₃ (NodeOf l.p l.nodes l.j) (λ (s : List ℕ) (P : Protocol) (x : Node). all_below (free_at P x l.uses l.j) l.i ≡ true)
-
-abbrev pub decreases-loop-i : goal.decreases-loop-i
-decreases-loop-i l =
-    l.count - l.i
+    Promises₃ (NodeOf l.p l.nodes l.j) (λ (s : List ℕ) (P : Protocol) (x : Node). all_below (free_at P x l.uses l.j) l.i ≡ true)

@@ -1,5 +1,4 @@
 -- The invariant is that searching on from node j finds what searching all finds; the first bad node ends it.
-use borrow.Author.Rules.{rules}
 use lib.ListN.{get_or}
 use Rattle.steps.specs.Table.Laws.{node_in}
 use Rattle.steps.specs.Nodes.{no_node}
@@ -12,7 +11,7 @@ use Rattle.graph.proofs.passes.least_spent.Goals as goal
 
 pub loop-j-init : goal.loop-j-init
 loop-j-init c =
-    (search rules, λ s P xs h es counts. rest_all (conclusions_ok (protocol_facts P) es) (rewritten P no_node) (rewrittens P xs))
+    λ s P xs h es counts. rest_all (conclusions_ok (protocol_facts P) es) (rewritten P no_node) (rewrittens P xs)
 
 pub conclusions_ok-requires : goal.conclusions_ok-requires
 conclusions_ok-requires c =
@@ -20,20 +19,18 @@ conclusions_ok-requires c =
     ((s, P, get_or xs c.loop-j.j no_node, node_in h c.loop-j.j c.loop-j-test.true), omega (arith, c.requires.1, c.loop-j-test.true))
 
 pub loop-j-preserved : goal.loop-j-preserved
-loop-j-preserved c = (
-  omega arith,
-  λ s P xs h es counts. scan_more (nodes_listed h) (conclusions_ok (protocol_facts P) es) c.loop-j.j c.loop-j-test.true
-      (c.conclusions_ok.ensures s P _ (node_in h c.loop-j.j c.loop-j-test.true) es counts) c.if-conclusions_ok.true
-      (c.loop-j.invariant.1 s P xs h es counts),
-)
+loop-j-preserved c =
+    λ s P xs h es counts. scan_more (nodes_listed h) (conclusions_ok (protocol_facts P) es) c.loop-j.j c.loop-j-test.true
+    (c.conclusions_ok.ensures s P _ (node_in h c.loop-j.j c.loop-j-test.true) es counts) c.if-not-conclusions_ok.false
+    (c.loop-j.invariant s P xs h es counts)
 
-pub returns-else-conclusions_ok : goal.returns-else-conclusions_ok
-returns-else-conclusions_ok c =
+pub returns-then-not-conclusions_ok : goal.returns-then-not-conclusions_ok
+returns-then-not-conclusions_ok c =
     λ s P xs h es counts. scan_bad (nodes_listed h) (conclusions_ok (protocol_facts P) es) c.loop-j.j c.loop-j-test.true
-    (c.conclusions_ok.ensures s P _ (node_in h c.loop-j.j c.loop-j-test.true) es counts) c.if-conclusions_ok.false
-    (c.loop-j.invariant.1 s P xs h es counts)
+    (c.conclusions_ok.ensures s P _ (node_in h c.loop-j.j c.loop-j-test.true) es counts) c.if-not-conclusions_ok.true
+    (c.loop-j.invariant s P xs h es counts)
 
 pub returns : goal.returns
 returns c =
     λ s P xs h es counts. scan_none (nodes_listed h) (conclusions_ok (protocol_facts P) es) c.loop-j.j (omega arith)
-    (c.loop-j.invariant.1 s P xs h es counts)
+    (c.loop-j.invariant s P xs h es counts)

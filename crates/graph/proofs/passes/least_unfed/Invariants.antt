@@ -5,7 +5,7 @@ use Rattle.steps.specs.Nodes.{Node, no_node}
 use Rattle.rewriting.specs.Graph.{Edge}
 use Rattle.graph.specs.Passes.{Into}
 use Rattle.graph.specs.Table.{NodesOf}
-use Prim.Native.Nat.{ℕ, ◌-◌, ◌≤◌}
+use Prim.Native.Nat.{ℕ}
 use Rattle.protocol.specs.Protocol.{Protocol}
 use Rattle.rewriting.specs.Checker.{premises_ok}
 use Rattle.steps.specs.Runs.{protocol_facts, rewrittens, rewritten}
@@ -14,9 +14,5 @@ use Rattle.graph.proofs.passes.least_unfed.Given as goal
 
 abbrev pub invariant-loop-j : goal.invariant-loop-j
 invariant-loop-j l =
-    (l.j ≤ l.n) × Promises₃ (NodesOf l.p l.nodes l.n) (λ (s : List ℕ) (P : Protocol) (xs : List Node). (es : List Edge) → Into l.uses es → Rest
+    Promises₃ (NodesOf l.p l.nodes l.n) (λ (s : List ℕ) (P : Protocol) (xs : List Node). (es : List Edge) → Into l.uses es → Rest
     (premises_ok (protocol_facts P) es) (rewritten P no_node) (rewrittens P xs) l.j)
-
-abbrev pub decreases-loop-j : goal.decreases-loop-j
-decreases-loop-j l =
-    l.n - l.j

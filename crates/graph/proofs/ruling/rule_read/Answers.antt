@@ -16,11 +16,11 @@ rule_edges-requires c =
 
 pub returns-in-Good : goal.returns-in-Good
 returns-in-Good c =
-    λ P g h. nodes_passed P g c.rule_nodes.result (c.rule_nodes.ensures P g.nodes h.nodes_in) c.in-Good.is h.nodes_in.within _ _
+    λ P g h. nodes_passed P g c.rule_nodes.result (c.rule_nodes.ensures P g.nodes h.nodes_in) c.in-Good.is h.nodes_in.within
     c.rule_edges.result (c.rule_edges.ensures P g
     (read_right P g c.rule_nodes.result (c.rule_nodes.ensures P g.nodes h.nodes_in) c.in-Good.is h.nodes_in.within h))
 
 pub returns-in-Refused : goal.returns-in-Refused
 returns-in-Refused c =
-    λ P g h. nodes_refused P g c.rule_nodes.result (c.rule_nodes.ensures P g.nodes h.nodes_in) _ _ c.args.n c.args.m
+    λ P g h. nodes_refused P g c.rule_nodes.result (c.rule_nodes.ensures P g.nodes h.nodes_in) _ _
     c.in-Refused.is

@@ -8,7 +8,6 @@ use Rattle.graph.proofs.uses.count_ends.Goals as goal
 
 pub loop-j-init : goal.loop-j-init
 loop-j-init c = (
-  omega arith,
   omega (arith, c.clear.auto.out),
   subst (Counted c.args.edges.now 0 c.args.field)
       (sym c.clear.ensures) (counted_none c.args.edges.now c.args.field (length c.args.counts.now)),
@@ -30,7 +29,7 @@ pub bounds-counts-at : goal.bounds-counts-at
 bounds-counts-at c =
     omega (
       arith,
-      c.loop-j.invariant.1,
+      c.loop-j.invariant.0,
       c.count_place-at.ensures,
       c.requires.counted c.loop-j.j c.loop-j-test.true,
     )
@@ -39,25 +38,24 @@ pub bounds-counts-at-in-loop-j : goal.bounds-counts-at-in-loop-j
 bounds-counts-at-in-loop-j c =
     omega (
       arith,
-      c.loop-j.invariant.1,
+      c.loop-j.invariant.0,
       c.count_place-at.ensures,
       c.requires.counted c.loop-j.j c.loop-j-test.true,
     )
 
 pub loop-j-preserved : goal.loop-j-preserved
 loop-j-preserved c = (
-  omega arith,
-  simp length-set c.loop-j.invariant.1,
+  simp length-set c.loop-j.invariant.0,
   counted_more c.args.edges.now c.args.field c.loop-j.j c.loop-j.counts
-      (c.requires.inside c.loop-j.j c.loop-j-test.true) c.loop-j.invariant.2 _ _ c.count_place-at.ensures
+      (c.requires.inside c.loop-j.j c.loop-j-test.true) c.loop-j.invariant.1 _ _ c.count_place-at.ensures
       c.one_more.ensures,
 )
 
 pub shape_of-counts : goal.shape_of-counts
 shape_of-counts c =
-    omega (arith, c.loop-j.invariant.1, c.clear.auto.out)
+    omega (arith, c.loop-j.invariant.0, c.clear.auto.out)
 
 pub returns : goal.returns
 returns c =
-    let e : c.loop-j.j ≡ c.args.m = omega (arith, c.loop-j.invariant.0, c.loop-j-test.false) in
-    subst (λ n. Counted c.args.edges.now n c.args.field c.loop-j.counts) e c.loop-j.invariant.2
+    let e : c.loop-j.j ≡ c.args.m = omega (arith, c.loop-j-test.false) in
+    subst (λ n. Counted c.args.edges.now n c.args.field c.loop-j.counts) e c.loop-j.invariant.1
