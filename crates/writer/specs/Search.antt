@@ -1,5 +1,5 @@
 -- Looking for a source among the free conclusions, and entering those of a node: what is asked, and what is promised.
-use Rattle.std.specs.Prelude.{ℕ, suc, ◌+◌, ◌*◌, ◌<◌, List, ◌++◌, Bool, ◌≡◌, length, get_or}
+use Rattle.std.specs.Prelude.{Option, Some, None, ℕ, suc, ◌+◌, ◌*◌, ◌<◌, List, ◌++◌, Bool, ◌≡◌, length, get_or}
 use Rattle.rewriting.specs.Places.{Placed, placed}
 use Rattle.protocol.specs.Figures.{most_facts, conclusion_list}
 use Rattle.protocol.specs.Protocol.{Fact, Protocol}
@@ -10,8 +10,6 @@ use Rattle.facts.specs.declared.nodes.FactId.{FactId}
 use Rattle.facts.specs.Calls.{fact_at}
 use Rattle.facts.specs.declared.marks.KeptFact.{KeptFact}
 use Rattle.facts.specs.Kept.{Keeps}
-use Rattle.writer.specs.declared.free.Source.{Source}
-use Rattle.writer.specs.declared.free.Source.TheVariants as source
 use Rattle.writer.specs.Free.{Marked, entry_placed, free_in}
 use Rattle.writer.specs.Free.Laws.{FirstAt, NoneTo}
 -- the loops
@@ -33,9 +31,9 @@ pub record Searching (p s nodes free : List ℕ) (a : FactId) (work : List ℕ) 
   pub marked : Marked free (most_facts * a.node) P xs
   pub keeps : Keeps work k (fact_in P xs a)
 
-abbrev pub Found : List ℕ → FactId → Source → Protocol → List Node → Type 0
-Found free a (source.At v) P xs = FirstAt (entry_placed P xs) (is_same P xs a) free v (most_facts * a.node)
-Found free a source.Nothing P xs = NoneTo (entry_placed P xs) (is_same P xs a) free (most_facts * a.node)
+abbrev pub Found : List ℕ → FactId → Option ℕ → Protocol → List Node → Type 0
+Found free a (Some v) P xs = FirstAt (entry_placed P xs) (is_same P xs a) free v (most_facts * a.node)
+Found free a None P xs = NoneTo (entry_placed P xs) (is_same P xs a) free (most_facts * a.node)
 
 -- ── entering the conclusions of node k ──
 pub record AtNode (p s nodes : List ℕ) (k : ℕ) (free : List ℕ) (P : Protocol) (xs : List Node) : Type 0 where

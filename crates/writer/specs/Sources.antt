@@ -1,6 +1,6 @@
 -- A source for each premise, nodes in order and premises in order: how far the choosing has come. The edges so far stand in their table, and
 -- the writer's answer is these edges and what follows.
-use Rattle.std.specs.Prelude.{ℕ, suc, ◌+◌, ◌*◌, ◌≤◌, ◌<◌, List, [], ◌++◌, Bool, true, false, ◌≡◌, length, get_or, drop}
+use Rattle.std.specs.Prelude.{Option, Some, None, Result, Ok, Err, ℕ, suc, ◌+◌, ◌*◌, ◌≤◌, ◌<◌, List, [], ◌++◌, Bool, true, false, ◌≡◌, length, get_or, drop}
 use Rattle.rewriting.specs.Graph.{Edge}
 use Rattle.rewriting.specs.Places.{Placed, placed}
 use Rattle.rewriting.specs.Table.{Ruling, passed, refused, and_then}
@@ -12,10 +12,6 @@ use Rattle.steps.specs.Facts.{facts_of}
 use Rattle.steps.specs.Runs.{protocol_facts, rewrittens}
 use Rattle.steps.specs.Causes.Good.{RightNodes}
 use Rattle.graph.specs.Table.{edge_fields, edge_at, FieldsFor, EdgesIn}
-use Rattle.writer.specs.declared.sources.Fed.{Fed}
-use Rattle.writer.specs.declared.sources.Fed.TheVariants as of_node
-use Rattle.writer.specs.declared.sources.Sources.{Sources}
-use Rattle.writer.specs.declared.sources.Sources.TheVariants as of-all
 use Rattle.writer.specs.Free.{Marked, free_in}
 -- one premise more, one node more
 pub mod Laws
@@ -88,9 +84,9 @@ pub record PremiseFed (p s nodes free edges : List ℕ) (k i e : ℕ) (r : Bool)
   pub unfed : r ≡ false → all_edges P xs ≡ refused 14 (suc k)
 
 -- of a node: each premise has its edge, or one has none
-pub record NodeFed (p s nodes free edges : List ℕ) (k : ℕ) (r : Fed) (P : Protocol) (xs : List Node) : Type 0 where
-  pub fed : (e : ℕ) → r ≡ of_node.Edges e → Feeding p s nodes free edges k (length (premises P xs k)) e P xs
-  pub unfed : r ≡ of_node.Missing → all_edges P xs ≡ refused 14 (suc k)
+pub record NodeFed (p s nodes free edges : List ℕ) (k : ℕ) (r : Option ℕ) (P : Protocol) (xs : List Node) : Type 0 where
+  pub fed : (e : ℕ) → r ≡ Some e → Feeding p s nodes free edges k (length (premises P xs k)) e P xs
+  pub unfed : r ≡ None → all_edges P xs ≡ refused 14 (suc k)
 
 -- of all nodes: the edges, which stand in their table; or the first node that has a premise without a source
 pub record Chosen (edges : List ℕ) (m : ℕ) (P : Protocol) (xs : List Node) : Type 0 where
@@ -98,6 +94,6 @@ pub record Chosen (edges : List ℕ) (m : ℕ) (P : Protocol) (xs : List Node) :
   pub drawn : all_edges P xs ≡ passed is
   pub stand : EdgesIn edges m is
 
-pub record AllFed (edges : List ℕ) (r : Sources) (P : Protocol) (xs : List Node) : Type 0 where
-  pub fed : (m : ℕ) → r ≡ of-all.Edges m → Chosen edges m P xs
-  pub unfed : (k : ℕ) → r ≡ of-all.Missing k → all_edges P xs ≡ refused 14 k
+pub record AllFed (edges : List ℕ) (r : Result ℕ ℕ) (P : Protocol) (xs : List Node) : Type 0 where
+  pub fed : (m : ℕ) → r ≡ Ok m → Chosen edges m P xs
+  pub unfed : (k : ℕ) → r ≡ Err k → all_edges P xs ≡ refused 14 k

@@ -3,24 +3,23 @@ ghost use Rattle.std.specs.Prelude.{◌≡◌, List, ◌++◌, ◌+◌, ◌*◌,
 ghost use Rattle.octets.specs.Limits.{longest};
 ghost use Rattle.octets.specs.Splice.{splice};
 ghost use Rattle.lists.specs.Asks.{Asks, Promises};
-ghost use Rattle.number.specs.Layout.{listed};
+ghost use Rattle.number.specs.Groups.{groups};
+ghost use Rattle.number.specs.Layout.{flat, listed};
 ghost use Rattle.rewriting.specs.Graph.{Edge};
 ghost use Rattle.graph.specs.Graph.{most_edges, encode_edge};
 ghost use Rattle.graph.specs.Table.{edge_fields, EdgesIn};
-ghost use Rattle.writer.specs.Edges.{number_room, number_bytes};
+ghost use Rattle.writer.specs.Edges.{number_room};
 
 use graph::edges;
 
-// How many bytes the first k numbers of the table take.
-fn numbers_len(edges: &[u32], k: usize) -> usize
-    requires { (k ≤ length edges.now) × (k ≤ longest) }
-    ensures { (result ≡ length (number_bytes edges.now k)) × (result ≤ number_room * k) }
+// How many bytes some numbers of the table take.
+fn numbers_len(numbers: &[u32]) -> usize
+    requires { length numbers.now ≤ longest }
+    ensures { (result ≡ length (flat groups numbers.now)) × (result ≤ number_room * length numbers.now) }
 {
     let mut len: usize = 0;
-    let mut i: usize = 0;
-    while i < k {
-        len += number::number_len(edges[i]);
-        i += 1;
+    for n in numbers {
+        len += number::number_len(*n);
     }
     len
 }
@@ -31,19 +30,17 @@ pub fn edges_len(edges: &[u32], m: usize) -> usize
     ensures counted { Promises (EdgesIn edges.now m) (λ (es : List Edge). result ≡ length (listed encode_edge es)) }
     ensures few { result ≤ number_room * (edge_fields * most_edges + 1) }
 {
-    number::number_len(m as u32) + numbers_len(edges, edges::FIELDS * m)
+    number::number_len(m as u32) + numbers_len(&edges[..edges::FIELDS * m])
 }
 
-// Writes the first k numbers of the table to a place where there is room for them.
-fn write_numbers(output: &mut [u8], at: usize, edges: &[u32], k: usize)
-    requires { (k ≤ length edges.now) × (at + length (number_bytes edges.now k) ≤ length output.old) }
-    ensures { output.new ≡ splice output.old at (number_bytes edges.now k) }
+// Writes some numbers of the table to a place where there is room for them.
+fn write_numbers(output: &mut [u8], at: usize, numbers: &[u32])
+    requires { at + length (flat groups numbers.now) ≤ length output.old }
+    ensures { output.new ≡ splice output.old at (flat groups numbers.now) }
 {
     let mut o = at;
-    let mut i: usize = 0;
-    while i < k {
-        o = number::write_number(output, o, edges[i]);
-        i += 1;
+    for n in numbers {
+        o = number::write_number(output, o, *n);
     }
 }
 
@@ -54,5 +51,5 @@ pub fn write_graph(output: &mut [u8], steps: &[u8], edges: &[u32], m: usize)
 {
     let at = octets::copy_into(output, 0, steps);
     let from = number::write_number(output, at, m as u32);
-    write_numbers(output, from, edges, edges::FIELDS * m);
+    write_numbers(output, from, &edges[..edges::FIELDS * m]);
 }

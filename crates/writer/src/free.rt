@@ -2,7 +2,6 @@
 ghost use Rattle.std.specs.Prelude.{◌≡◌, List, ℕ, ◌*◌, ◌+◌, ◌≤◌, ◌<◌, length, set};
 ghost use Rattle.lists.specs.Asks.{Asks₂, Promises₂, Asks₃, Promises₃};
 ghost use Rattle.lists.specs.Choice.{pick};
-ghost use Rattle.lists.specs.Scan.{Next};
 ghost use Rattle.protocol.specs.Protocol.{Protocol};
 ghost use Rattle.steps.specs.Nodes.{Node};
 ghost use Rattle.steps.specs.Facts.{is_linear};
@@ -25,13 +24,6 @@ pub const FEW_ENTRIES: usize = figures::MOST_FACTS * steps::nodes::FEW_NODES;
 // An entry without a free conclusion.
 const NOT_FREE: u32 = 0;
 
-// The entry of the source, or none.
-#[derive(Drop)]
-pub enum Source {
-    At(usize),
-    Nothing,
-}
-
 // The conclusion of an entry.
 fn conclusion_of(entry: usize) -> FactId
     ensures { result ≡ entry_id entry }
@@ -43,22 +35,7 @@ fn conclusion_of(entry: usize) -> FactId
     }
 }
 
-// The next entry of a number, from a place on; the end if there is none.
-fn next_marked(free: &[u32], wanted: u32, from: usize, end: usize) -> usize
-    requires { (from ≤ end) × (end ≤ length free.now) × (end ≤ count_table) }
-    ensures { Next free.now wanted from end result }
-{
-    let mut v = from;
-    while v < end {
-        if free[v] == wanted {
-            return v;
-        }
-        v += 1;
-    }
-    v
-}
-
-// The first free conclusion of an earlier node that is the same fact as x, which is kept in the work slice. Facts are compared only where their
+// The entry of the first free conclusion of an earlier node that is the same fact as x, which is kept in the work slice. Facts are compared only where their
 // marks agree.
 pub fn find_source(
     work: &mut [u8],
@@ -68,20 +45,21 @@ pub fn find_source(
     free: &[u32],
     x: FactId,
     kept: KeptFact,
-) -> Source
+) -> Option<usize>
     requires { Asks₂ (Searching p.now s.now nodes.now free.now x work.old kept) × Room work.old fact_room }
     ensures { Promises₂ (Searching p.now s.now nodes.now free.now x work.old kept) (Found free.now x result) }
 {
     let end = figures::MOST_FACTS * x.node;
     let wanted = kept.mark + 1;
-    let mut v = next_marked(free, wanted, 0, end);
-    while v < end {
-        if compare::same_as_kept(work, p, s, nodes, kept, conclusion_of(v)) {
-            return Source::At(v);
+    for v in 0..end {
+        if free[v] != wanted {
+            continue;
         }
-        v = next_marked(free, wanted, v + 1, end);
+        if compare::same_as_kept(work, p, s, nodes, kept, conclusion_of(v)) {
+            return Some(v);
+        }
     }
-    Source::Nothing
+    None
 }
 
 // A linear conclusion that is used is free no more.
@@ -108,14 +86,12 @@ pub fn enter_conclusions(
 {
     let count = counts::fact_count(p, nodes, k, figures::CONCLUSIONS);
     let first = figures::MOST_FACTS * k;
-    let mut i: usize = 0;
-    while i < count {
+    for i in 0..count {
         let x = FactId {
             node: k,
             list: figures::CONCLUSIONS,
             number: i,
         };
         free[first + i] = marks::fact_mark(work, p, s, nodes, x) + 1;
-        i += 1;
     }
 }

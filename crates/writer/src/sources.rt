@@ -13,7 +13,6 @@ ghost use Rattle.writer.specs.Free.{entry_place};
 ghost use Rattle.writer.specs.Sources.{EdgePut, Feeding, AtPremise, PremiseFed, NodeFed, AllFed};
 
 use crate::free;
-use crate::free::Source;
 use facts::nodes::FactId;
 use facts::{counts, marks};
 use graph::edges;
@@ -24,20 +23,6 @@ use protocol::figures;
 pub struct Premise {
     pub node: usize,
     pub number: usize,
-}
-
-// The premises of a node have a source: how many edges there are. Or one has none.
-#[derive(Drop)]
-pub enum Fed {
-    Edges(usize),
-    Missing,
-}
-
-// Each premise has a source: how many edges there are. Or the first node, from 1, with a premise that has none.
-#[derive(Drop)]
-pub enum Sources {
-    Edges(usize),
-    Missing(usize),
 }
 
 // A number from 0 as files count, from 1.
@@ -82,16 +67,16 @@ fn feed_premise(
     };
     let kept = marks::keep_fact(work, p, s, nodes, x);
     match free::find_source(work, p, s, nodes, free, x, kept) {
-        Source::At(v) => {
+        Some(v) => {
             free::take_source(p, nodes, x, free, v);
             put_edge(edges, e, v, target);
             true
         }
-        Source::Nothing => false,
+        None => false,
     }
 }
 
-// The premises of node k, in order; edges are entered from e on.
+// The premises of node k, in order; edges are entered from e on. How many edges there are then, if each premise has a source.
 fn feed_node(
     work: &mut [u8],
     p: &[u8],
@@ -101,24 +86,22 @@ fn feed_node(
     free: &mut [u32],
     edges: &mut [u32],
     e: usize,
-) -> Fed
+) -> Option<usize>
     requires { Asks₂ (Feeding p.now s.now nodes.now free.old edges.old k 0 e) × Room work.old fact_room }
     ensures { Promises₂ (Feeding p.now s.now nodes.now free.old edges.old k 0 e) (NodeFed p.now s.now nodes.now free.new edges.new k result) }
 {
     let count = counts::fact_count(p, nodes, k, figures::PREMISES);
-    let mut i: usize = 0;
-    while i < count {
+    for i in 0..count {
         let target = Premise { node: k, number: i };
-        if feed_premise(work, p, s, nodes, target, free, edges, e + i) {
-            i += 1;
-        } else {
-            return Fed::Missing;
+        if !feed_premise(work, p, s, nodes, target, free, edges, e + i) {
+            return None;
         }
     }
-    Fed::Edges(e + count)
+    Some(e + count)
 }
 
-// All nodes, in order. The table of free conclusions is empty at first.
+// All nodes, in order: how many edges there are. Or the first node, from 1, with a premise that has no source. The table of free conclusions
+// is empty at first.
 fn choose_with(
     work: &mut [u8],
     p: &[u8],
@@ -127,25 +110,19 @@ fn choose_with(
     n: usize,
     edges: &mut [u32],
     free: &mut [u32],
-) -> Sources
+) -> Result<usize, usize>
     requires { Asks₂ (RightNodes p.now s.now nodes.now n) × Room work.old fact_room × FieldsFor edges.old (most_facts * n) × (most_facts * n ≤ length free.old) × ((i : ℕ) → get_or free.old i 0 ≡ 0) }
     ensures { Promises₂ (RightNodes p.now s.now nodes.now n) (AllFed edges.new result) }
 {
     let mut e: usize = 0;
-    let mut k: usize = 0;
-    while k < n {
-        match feed_node(work, p, s, nodes, k, free, edges, e) {
-            Fed::Edges(m) => {
-                free::enter_conclusions(work, p, s, nodes, k, free);
-                e = m;
-                k += 1;
-            }
-            Fed::Missing => {
-                return Sources::Missing(k + 1);
-            }
-        }
+    for k in 0..n {
+        let Some(m) = feed_node(work, p, s, nodes, k, free, edges, e) else {
+            return Err(k + 1);
+        };
+        free::enter_conclusions(work, p, s, nodes, k, free);
+        e = m;
     }
-    Sources::Edges(e)
+    Ok(e)
 }
 
 // The same, with a table for few nodes or for any number.
@@ -156,7 +133,7 @@ pub fn choose_sources(
     nodes: &[usize],
     n: usize,
     edges: &mut [u32],
-) -> Sources
+) -> Result<usize, usize>
     requires { Asks₂ (RightNodes p.now s.now nodes.now n) × Room work.old fact_room × FieldsFor edges.old (most_facts * n) }
     ensures { Promises₂ (RightNodes p.now s.now nodes.now n) (AllFed edges.new result) }
 {

@@ -1,8 +1,7 @@
 -- The loops that look for a source and that enter conclusions, turn by turn.
-use Rattle.std.specs.Prelude.{ℕ, suc, zero, ◌+◌, ◌-◌, ◌*◌, ◌/◌, ◌%◌, ◌≤◌, ◌<◌, List, [], ◌∷◌, ◌++◌, Bool, true, false, ◌≡◌, refl, length, get_or, set, take}
+use Rattle.std.specs.Prelude.{ℕ, suc, zero, ◌+◌, ◌*◌, ◌/◌, ◌%◌, ◌≤◌, ◌<◌, List, [], ◌∷◌, ◌++◌, Bool, true, false, ◌≡◌, refl, length, get_or, set, take}
 use Rattle.std.proofs.Common.{append_assoc, append-nil, ap, ap₂, sym, ◌∙◌, subst, subst₂, arith, length-set, get_or-set_same, get_or-set_other, take-suc, take_all, length-take-le}
 use Rattle.lists.specs.Choice.{by_order}
-use Rattle.lists.specs.Scan.{Next}
 use Rattle.lists.specs.Asks.{Promises₃}
 use Rattle.lists.specs.All.Laws.{all_inside}
 use Rattle.rewriting.specs.Places.{Placed, placed}
@@ -26,8 +25,7 @@ use Rattle.facts.specs.Calls.Meaning.{fact_formed}
 use Rattle.graph.specs.Graph.{place_of}
 use Rattle.writer.specs.Free.{EntryIs, Marked, entry_id, entry_fact, entry_placed, free_in}
 use Rattle.writer.specs.Free.Laws.{FirstAt, NoneTo, none_empty, none_differs, free_more, free_empty}
-use Rattle.writer.specs.declared.free.Source.{Source}
-use Rattle.writer.specs.declared.free.Source.TheVariants as source
+use Rattle.std.specs.Prelude.{Option, Some, None}
 use Rattle.writer.specs.Search.{fact_in, is_same, Searching, Found, AtNode, Entered}
 
 -- ── a fact of right nodes ──
@@ -56,11 +54,11 @@ module _ {p s nodes free : List ℕ} {a : FactId} {work : List ℕ} {kept : Kept
   abbrev fit : Within P
   fit = h.right.stand.prepared.body.within
 
-  abbrev None : ℕ → Type 0
-  None v = NoneTo (entry_placed P xs) (is_same P xs a) free v
+  abbrev Nowhere : ℕ → Type 0
+  Nowhere v = NoneTo (entry_placed P xs) (is_same P xs a) free v
 
-  next : (v : ℕ) → None (suc v) → None (v + 1)
-  next v n = let e : suc v ≡ v + 1 = omega arith in subst None e n
+  next : (v : ℕ) → Nowhere (suc v) → Nowhere (v + 1)
+  next v n = let e : suc v ≡ v + 1 = omega arith in subst Nowhere e n
 
   pub searched : WholeFact p s nodes a P (get_or xs a.node no_node)
   searched = whole_fact h.right a h.inside h.listed
@@ -69,10 +67,10 @@ module _ {p s nodes free : List ℕ} {a : FactId} {work : List ℕ} {kept : Kept
   search_end = omega (arith, h.inside, h.right.stand.few)
 
   -- an entry with another mark
-  pass_over : (v : ℕ) → (get_or free v 0 ≡ mark + 1 → ⊥) → None v → None (v + 1)
+  pub pass_over : (v : ℕ) → (get_or free v 0 ≡ mark + 1 → ⊥) → Nowhere v → Nowhere (v + 1)
   pass_over v n none = next v (go (get_or free v 0) refl)
     where
-      go : (m : ℕ) → get_or free v 0 ≡ m → None (suc v)
+      go : (m : ℕ) → get_or free v 0 ≡ m → Nowhere (suc v)
       go zero e = none_empty (entry_placed P xs) (is_same P xs a) free v e none
       go (suc m) e =
           let i = h.marked.each v m e in
@@ -81,15 +79,6 @@ module _ {p s nodes free : List ℕ} {a : FactId} {work : List ℕ} {kept : Kept
           (sym (by_equations P fit _ _ (fact_formed searched) other false
           (marks_differ P fit (fact_in P xs a) (entry_fact P xs v) (fact_formed searched) other
           (λ same. n (let d : mark ≡ m = h.keeps.mark_is ∙ same ∙ sym i.mark in omega (arith, e)))))) none
-
-  -- up to the next one with its mark
-  pub pass_to : (v r end : ℕ) → Next free (mark + 1) v end r → None v → None r
-  pass_to v r end n none = let e : (r - v) + v ≡ r = omega (arith, n.later) in subst None e (go (r - v) (omega (arith, n.later)))
-    where
-      go : (k : ℕ) → k + v ≤ r → None (k + v)
-      go zero l = let e : v ≡ 0 + v = omega arith in subst None e none
-      go (suc k) l = let e : k + v + 1 ≡ suc k + v = omega arith in subst None e (pass_over (k + v) (n.others (k + v) (omega arith) (omega arith))
-          (go k (omega arith)))
 
   module _ (v : ℕ) (agree : get_or free v 0 ≡ mark + 1) where
     marked_entry : get_or free v 0 ≡ suc mark
@@ -111,18 +100,18 @@ module _ {p s nodes free : List ℕ} {a : FactId} {work : List ℕ} {kept : Kept
       same_entry : b ≡ is_same P xs a (entry_placed P xs v)
       same_entry = told ∙ ap (λ (y : FactId). same_fact (fact_in P xs a) (fact_at P y.list y.number (get_or xs y.node no_node))) is
 
-      pub other_fact : b ≡ false → None v → None (v + 1)
+      pub other_fact : b ≡ false → Nowhere v → Nowhere (v + 1)
       other_fact f none = next v (none_differs (entry_placed P xs) (is_same P xs a) free v (sym same_entry ∙ f) none)
 
-      pub found_here : v < most_facts * a.node → b ≡ true → None v → FirstAt (entry_placed P xs) (is_same P xs a) free v (most_facts * a.node)
+      pub found_here : v < most_facts * a.node → b ≡ true → Nowhere v → FirstAt (entry_placed P xs) (is_same P xs a) free v (most_facts * a.node)
       found_here l t none = record { inside = l; mark = mark; held = marked_entry; passes = sym same_entry ∙ t; before = none }
 
   -- by the answer
-  pub found_at : {r : Source} {v : ℕ} → r ≡ source.At v → Found free a r P xs → FirstAt (entry_placed P xs) (is_same P xs a) free v (most_facts * a.node)
-  found_at e found = subst (λ (q : Source). Found free a q P xs) e found
+  pub found_at : {r : Option ℕ} {v : ℕ} → r ≡ Some v → Found free a r P xs → FirstAt (entry_placed P xs) (is_same P xs a) free v (most_facts * a.node)
+  found_at e found = subst (λ (q : Option ℕ). Found free a q P xs) e found
 
-  pub found_nothing : {r : Source} → r ≡ source.Nothing → Found free a r P xs → None (most_facts * a.node)
-  found_nothing e found = subst (λ (q : Source). Found free a q P xs) e found
+  pub found_nothing : {r : Option ℕ} → r ≡ None → Found free a r P xs → Nowhere (most_facts * a.node)
+  found_nothing e found = subst (λ (q : Option ℕ). Found free a q P xs) e found
 
 -- ── entering the conclusions of node k, from 0 ──
 -- the first i of them are entered

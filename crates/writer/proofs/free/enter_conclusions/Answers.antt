@@ -18,14 +18,14 @@ overflow_mul-first c =
 
 pub loop-i-init : goal.loop-i-init
 loop-i-init c =
-    (omega arith, search rules, search rules, λ P xs h. entering_none h)
+    (search rules, search rules, λ P xs h. entering_none h)
 
 pub fact_mark-requires : goal.fact_mark-requires
 fact_mark-requires c =
     let (P, xs, h) = c.requires.0 in (
       (P, _, conclusion_there h _ (inside h _ c.fact_count-count.ensures _ c.loop-i-test.true)),
       room_start
-          (room_kept _ _ _ c.loop-i.invariant.1 c.requires.1),
+          (room_kept _ _ _ c.loop-i.invariant.0 c.requires.1),
     )
 
 pub overflow_add-free : goal.overflow_add-free
@@ -48,19 +48,18 @@ bounds-free-first c =
       entry_bounds h _ (inside h _ c.fact_count-count.ensures _ c.loop-i-test.true),
       h.marked.long,
       h.inside,
-      c.loop-i.invariant.2,
+      c.loop-i.invariant.1,
     )
 
 pub loop-i-preserved : goal.loop-i-preserved
 loop-i-preserved c = (
-  omega arith,
   search rules,
-  simp length-set c.loop-i.invariant.2,
+  simp length-set c.loop-i.invariant.1,
   λ P xs h. let l = inside h _ c.fact_count-count.ensures _ c.loop-i-test.true in
-      entering_more h _ l _ (c.fact_mark.ensures P _ (conclusion_there h _ l)) (c.loop-i.invariant.3 P xs h),
+      entering_more h _ l _ (c.fact_mark.ensures P _ (conclusion_there h _ l)) (c.loop-i.invariant.2 P xs h),
 )
 
 pub returns : goal.returns
 returns c =
-    λ P xs h. entering_all h _ (omega (arith, count_is h _ c.fact_count-count.ensures, c.loop-i.invariant.0, c.loop-i-test.false))
-    (c.loop-i.invariant.3 P xs h)
+    λ P xs h. entering_all h _ (omega (arith, count_is h _ c.fact_count-count.ensures, c.loop-i-test.false))
+    (c.loop-i.invariant.2 P xs h)

@@ -4,7 +4,6 @@ use Rattle.writer.specs.Search.{AtNode}
 use Rattle.steps.specs.Nodes.{Node}
 use Rattle.protocol.specs.Protocol.{Protocol}
 use Rattle.lists.specs.Asks.{Promises₂}
-use Prim.Native.Nat.{◌-◌, ◌≤◌}
 use lib.ListN.{length}
 use mathlib.Core.List.{List}
 use mathlib.Core.Path.{◌≡◌}
@@ -12,9 +11,5 @@ use Rattle.writer.proofs.free.enter_conclusions.Given as goal
 
 abbrev pub invariant-loop-i : goal.invariant-loop-i
 invariant-loop-i l =
-    (l.i ≤ l.count) × (length l.work ≡ length l.initial.work) × (length l.free ≡ length l.initial.free) × Promises₂ (AtNode l.p l.s l.nodes l.k l.initial.free)
+    (length l.work ≡ length l.initial.work) × (length l.free ≡ length l.initial.free) × Promises₂ (AtNode l.p l.s l.nodes l.k l.initial.free)
     (λ (P : Protocol) (xs : List Node). Entering l.k l.i l.initial.free l.free P xs)
-
-abbrev pub decreases-loop-i : goal.decreases-loop-i
-decreases-loop-i l =
-    l.count - l.i

@@ -2,7 +2,6 @@
 use mathlib.Core.Path.{◌≡◌}
 use mathlib.Core.List.{List}
 use lib.ListN.{length}
-use Prim.Native.Nat.{◌-◌, ◌≤◌}
 use Rattle.lists.specs.Asks.{Promises₂}
 use Rattle.protocol.specs.Protocol.{Protocol}
 use Rattle.steps.specs.Nodes.{Node}
@@ -12,9 +11,5 @@ use Rattle.writer.proofs.sources.choose_with.Given as goal
 
 abbrev pub invariant-loop-k : goal.invariant-loop-k
 invariant-loop-k l =
-    (l.k ≤ l.n) × (length l.work ≡ length l.initial.work) × (length l.edges ≡ length l.initial.edges) × (length l.free ≡ length l.initial.free) × Promises₂ (RightNodes l.p l.s l.nodes l.n)
+    (length l.work ≡ length l.initial.work) × (length l.edges ≡ length l.initial.edges) × (length l.free ≡ length l.initial.free) × Promises₂ (RightNodes l.p l.s l.nodes l.n)
     (λ (P : Protocol) (xs : List Node). Choosing l.p l.s l.nodes l.free l.edges l.k l.e P xs)
-
-abbrev pub decreases-loop-k : goal.decreases-loop-k
-decreases-loop-k l =
-    l.n - l.k

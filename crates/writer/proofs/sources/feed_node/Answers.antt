@@ -15,47 +15,46 @@ fact_count-count-requires c =
 
 pub loop-i-init : goal.loop-i-init
 loop-i-init c =
-    (omega arith, search rules, search rules, search rules, λ P xs h. feeding_as h (omega arith))
+    (search rules, search rules, search rules, λ P xs h. feeding_as h (omega arith))
 
 pub overflow_add-e : goal.overflow_add-e
 overflow_add-e c =
-    let (P, xs, h) = c.requires.0 in omega (arith, edges_small (c.loop-i.invariant.4 P xs h) _ c.fact_count-count.ensures)
+    let (P, xs, h) = c.requires.0 in omega (arith, edges_small (c.loop-i.invariant.3 P xs h) _ c.fact_count-count.ensures)
 
 pub feed_premise-requires : goal.feed_premise-requires
 feed_premise-requires c =
     let (P, xs, h) = c.requires.0 in (
-      (P, xs, at_premise (c.loop-i.invariant.4 P xs h) _ c.fact_count-count.ensures c.loop-i-test.true),
+      (P, xs, at_premise (c.loop-i.invariant.3 P xs h) _ c.fact_count-count.ensures c.loop-i-test.true),
       room_kept _ _ _
-          c.loop-i.invariant.1 c.requires.1,
+          c.loop-i.invariant.0 c.requires.1,
     )
 
 pub loop-i-preserved : goal.loop-i-preserved
 loop-i-preserved c = (
-  omega arith,
   search rules,
   search rules,
   search rules,
   λ P xs h. feeding_as ((c.feed_premise.ensures P xs
-      (at_premise (c.loop-i.invariant.4 P xs h) _ c.fact_count-count.ensures c.loop-i-test.true)).fed c.if-feed_premise.true) (omega arith),
+      (at_premise (c.loop-i.invariant.3 P xs h) _ c.fact_count-count.ensures c.loop-i-test.true)).fed c.if-not-feed_premise.false) (omega arith),
 )
 
-pub returns-else-feed_premise : goal.returns-else-feed_premise
-returns-else-feed_premise c =
+pub returns-then-not-feed_premise : goal.returns-then-not-feed_premise
+returns-then-not-feed_premise c =
     λ P xs h. record {
       fed = λ m z. clash (cc);
       unfed = λ z. (c.feed_premise.ensures P xs
-          (at_premise (c.loop-i.invariant.4 P xs h) _ c.fact_count-count.ensures c.loop-i-test.true)).unfed c.if-feed_premise.false;
+          (at_premise (c.loop-i.invariant.3 P xs h) _ c.fact_count-count.ensures c.loop-i-test.true)).unfed c.if-not-feed_premise.true;
     }
 
 pub overflow_add-result : goal.overflow_add-result
 overflow_add-result c =
     let (P, xs, h) = c.requires.0 in omega
-    (arith, edges_small (c.loop-i.invariant.4 P xs h) _ c.fact_count-count.ensures, c.loop-i.invariant.0, c.loop-i-test.false)
+    (arith, edges_small (c.loop-i.invariant.3 P xs h) _ c.fact_count-count.ensures, c.loop-i-test.false)
 
 pub returns : goal.returns
 returns c =
-    λ P xs h. let l : c.loop-i.i ≡ c.fact_count-count.result = omega (arith, c.loop-i.invariant.0, c.loop-i-test.false) in let f =
-    node_done (c.loop-i.invariant.4 P xs h) _ c.fact_count-count.ensures l in record {
+    λ P xs h. let l : c.loop-i.i ≡ c.fact_count-count.result = omega (arith, c.loop-i-test.false) in let f =
+    node_done (c.loop-i.invariant.3 P xs h) _ c.fact_count-count.ensures l in record {
       fed = λ m z. feeding_as f (let y : c.args.e + c.fact_count-count.result ≡ m = cc in omega arith);
       unfed = λ z. clash (cc);
     }

@@ -3,7 +3,7 @@ use Rattle.writer.specs.Sources.{Feeding}
 use Rattle.steps.specs.Nodes.{Node}
 use Rattle.protocol.specs.Protocol.{Protocol}
 use Rattle.lists.specs.Asks.{Promises₂}
-use Prim.Native.Nat.{◌+◌, ◌-◌, ◌≤◌}
+use Prim.Native.Nat.{◌+◌}
 use lib.ListN.{length}
 use mathlib.Core.List.{List}
 use mathlib.Core.Path.{◌≡◌}
@@ -11,9 +11,5 @@ use Rattle.writer.proofs.sources.feed_node.Given as goal
 
 abbrev pub invariant-loop-i : goal.invariant-loop-i
 invariant-loop-i l =
-    (l.i ≤ l.count) × (length l.work ≡ length l.initial.work) × (length l.free ≡ length l.initial.free) × (length l.edges ≡ length l.initial.edges) × Promises₂
+    (length l.work ≡ length l.initial.work) × (length l.free ≡ length l.initial.free) × (length l.edges ≡ length l.initial.edges) × Promises₂
     (Feeding l.p l.s l.nodes l.initial.free l.initial.edges l.k 0 l.e) (λ (P : Protocol) (xs : List Node). Feeding l.p l.s l.nodes l.free l.edges l.k l.i (l.e + l.i) P xs)
-
-abbrev pub decreases-loop-i : goal.decreases-loop-i
-decreases-loop-i l =
-    l.count - l.i

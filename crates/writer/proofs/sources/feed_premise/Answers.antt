@@ -20,23 +20,23 @@ find_source-requires c =
 pub take_source-requires : goal.take_source-requires
 take_source-requires c =
     let (P, xs, h) = c.requires.0 in let q = premise_search h (c.keep_fact-kept.ensures P _ (premise_there h)) in let first = found_at q
-    c.in-At.is (c.find_source.ensures P xs q) in ((_, P, _, fact_listed (premise_there h)), source_inside h first)
+    c.in-Some.is (c.find_source.ensures P xs q) in ((_, P, _, fact_listed (premise_there h)), source_inside h first)
 
 pub put_edge-requires : goal.put_edge-requires
 put_edge-requires c =
-    let (P, xs, h) = c.requires.0 in let q = premise_search h (c.keep_fact-kept.ensures P _ (premise_there h)) in let first = found_at q c.in-At.is
+    let (P, xs, h) = c.requires.0 in let q = premise_search h (c.keep_fact-kept.ensures P _ (premise_there h)) in let first = found_at q c.in-Some.is
     (c.find_source.ensures P xs q) in let b = premise_bounds h in (omega (arith, b.3), b.2, source_bounds h first, b.0, b.1)
 
-pub returns-in-At : goal.returns-in-At
-returns-in-At c =
-    λ P xs h. let q = premise_search h (c.keep_fact-kept.ensures P _ (premise_there h)) in let first = found_at q c.in-At.is
+pub returns-in-Some : goal.returns-in-Some
+returns-in-Some c =
+    λ P xs h. let q = premise_search h (c.keep_fact-kept.ensures P _ (premise_there h)) in let first = found_at q c.in-Some.is
     (c.find_source.ensures P xs q) in record {
       fed = λ z. premise_fed h first (c.take_source.ensures _ P _ (fact_listed (premise_there h)))
           c.put_edge.ensures;
       unfed = λ z. true_false true refl z;
     }
 
-pub returns-in-Nothing : goal.returns-in-Nothing
-returns-in-Nothing c =
+pub returns-in-None : goal.returns-in-None
+returns-in-None c =
     λ P xs h. let q = premise_search h (c.keep_fact-kept.ensures P _ (premise_there h)) in record
-    { fed = λ z. true_false false z refl; unfed = λ z. premise_unfed h (found_nothing q c.in-Nothing.is (c.find_source.ensures P xs q)) }
+    { fed = λ z. true_false false z refl; unfed = λ z. premise_unfed h (found_nothing q c.in-None.is (c.find_source.ensures P xs q)) }
