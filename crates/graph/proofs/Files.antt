@@ -4,15 +4,17 @@ use Rattle.std.proofs.Math.Path.{ap, subst}
 use Rattle.std.proofs.Common.{◌∙◌}
 use Rattle.octets.specs.Head.{Bytes}
 use Rattle.octets.specs.Limits.{longest}
+use Rattle.rewriting.specs.Answers.{answered}
 use Rattle.rewriting.specs.Table.{passed, refused, and_then}
 use Rattle.protocol.specs.Protocol.{Protocol}
 use Rattle.prepared.specs.Prepared.{Prepared}
 use Rattle.steps.specs.Nodes.{Reading}
 use Rattle.steps.specs.Table.Laws.{nodes_in}
 use Rattle.steps.specs.Causes.{graph_item, read_ruling}
-use Rattle.graph.specs.declared.reading.NodesFault.{NodesFault}
-use Rattle.graph.specs.declared.reading.NodesFault.TheVariants as fault
-use Rattle.graph.specs.declared.ruling.Refusal.{Refusal}
+use Rattle.steps.specs.Causes.Code.{fault_refusal}
+use Rattle.steps.specs.declared.nodes.NodesFault.{NodesFault}
+use Rattle.steps.specs.declared.nodes.NodesFault.TheVariants as fault
+use Rattle.rewriting.specs.declared.Refusal.{Refusal}
 use Rattle.graph.specs.Graph.{Graph}
 use Rattle.graph.proofs.Graph.Exact.{graph_form}
 use Rattle.graph.specs.Causes.{ruling, graph_ruling}
@@ -24,13 +26,10 @@ module _ (P : Protocol) (p s nodes edges : List ℕ) (r : Result (ℕ × ℕ) No
   as_told : {q : Result (ℕ × ℕ) NodesFault} → r ≡ q → GraphTold P p s nodes edges q
   as_told h = subst (GraphTold P p s nodes edges) h told
 
-  pub file_broken : r ≡ Err fault.Broken → graph_ruling P s ≡ refused 3 graph_item
+  pub file_fault : (f : NodesFault) → r ≡ Err f → graph_ruling P s ≡ answered (Err (fault_refusal f graph_item))
   unfolding graph_ruling
-  file_broken h = ap (λ (q : Reading Graph). and_then (read_ruling graph_item q) (ruling P)) (as_told h)
-
-  pub file_unknown : {k : ℕ} → r ≡ Err (fault.NoRule k) → graph_ruling P s ≡ refused 6 k
-  unfolding graph_ruling
-  file_unknown h = ap (λ (q : Reading Graph). and_then (read_ruling graph_item q) (ruling P)) (as_told h)
+  file_fault fault.Broken h = ap (λ (q : Reading Graph). and_then (read_ruling graph_item q) (ruling P)) (as_told h)
+  file_fault (fault.NoRule k) h = ap (λ (q : Reading Graph). and_then (read_ruling graph_item q) (ruling P)) (as_told h)
 
   module _ {n m : ℕ} (h : r ≡ Ok (n, m)) (prepared : Prepared p P) (bytes : Bytes s) (short : length s ≤ longest)
     where

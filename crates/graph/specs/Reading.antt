@@ -9,10 +9,8 @@ use Rattle.protocol.specs.Protocol.{Protocol}
 use Rattle.steps.specs.Nodes.{Node, no_node, Reading, read, broken, no_rule, onward, plainly, all_of, node_list}
 use Rattle.steps.specs.Nodes.Code.{Told}
 use Rattle.steps.specs.Table.{RowsFor, Row}
-use Rattle.steps.specs.declared.nodes.Nodes.{Nodes}
-use Rattle.steps.specs.declared.nodes.Nodes.TheVariants as told
-use Rattle.graph.specs.declared.reading.NodesFault.{NodesFault}
-use Rattle.graph.specs.declared.reading.NodesFault.TheVariants as fault
+use Rattle.steps.specs.declared.nodes.NodesFault.{NodesFault}
+use Rattle.steps.specs.declared.nodes.NodesFault.TheVariants as fault
 use Rattle.graph.specs.Graph.{Graph, graph_of_lem, edge_list, with_edges, graph}
 use Rattle.graph.specs.Table.{EdgesIn}
 use Rattle.graph.specs.Table.Reading.{EdgesRead}
@@ -61,19 +59,16 @@ module _ (s : List ℕ) (at : ℕ) (edges : List ℕ) (r : Option (ℕ × ℕ)) 
   pub behind_fault : r ≡ None → (xs : List Node) → all_of s (with_edges s xs at) ≡ broken
   behind_fault h xs = ap (λ (o : Read (List Edge)). all_of s (plainly o (λ es f. read (graph_of_lem xs es) f))) (as_read h)
 
-module _ (P : Protocol) (p s nodes : List ℕ) (r : Nodes) (nodes-told : Told (node_list P s 0) p s nodes r) where
-  as_told : {q : Nodes} → r ≡ q → Told (node_list P s 0) p s nodes q
+module _ (P : Protocol) (p s nodes : List ℕ) (r : Result (ℕ × ℕ) NodesFault) (nodes-told : Told (node_list P s 0) p s nodes r) where
+  as_told : {q : Result (ℕ × ℕ) NodesFault} → r ≡ q → Told (node_list P s 0) p s nodes q
   as_told h = subst (Told (node_list P s 0) p s nodes) h nodes-told
 
-  pub graph_broken : r ≡ told.Broken → graph s P ≡ broken
+  pub graph_fault : (edges : List ℕ) (f : NodesFault) → r ≡ Err f → GraphTold P p s nodes edges (Err f)
   unfolding graph
-  graph_broken h = ap (λ (q : Reading (List Node)). all_of s (onward q (with_edges s))) (as_told h)
+  graph_fault edges fault.Broken h = ap (λ (q : Reading (List Node)). all_of s (onward q (with_edges s))) (as_told h)
+  graph_fault edges (fault.NoRule k) h = ap (λ (q : Reading (List Node)). all_of s (onward q (with_edges s))) (as_told h)
 
-  pub graph_unknown : {k : ℕ} → r ≡ told.NoRule k → graph s P ≡ no_rule k
-  unfolding graph
-  graph_unknown h = ap (λ (q : Reading (List Node)). all_of s (onward q (with_edges s))) (as_told h)
-
-  module _ {n e : ℕ} (h : r ≡ told.End n e) where
+  module _ {n e : ℕ} (h : r ≡ Ok (n, e)) where
     pub graph_told : (edges : List ℕ) {m : ℕ} → EdgesBehind s e edges m → GraphIs P p s nodes edges n m
     unfolding graph
     graph_told edges b =

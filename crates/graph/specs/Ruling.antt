@@ -1,5 +1,5 @@
 -- What the code answers of a graph file.
-use Rattle.std.specs.Prelude.{ℕ, List, ⊤, ◌≡◌, refl, length}
+use Rattle.std.specs.Prelude.{ℕ, List, ⊤, MatchResult, ◌≡◌, refl, length}
 use Rattle.std.specs.Prelude.{Option, Some, None, Result, Ok, Err}
 use Rattle.std.proofs.Math.Path.{ap, sym, subst}
 use Rattle.std.proofs.Common.{ap₂, ◌∙◌, arith}
@@ -8,18 +8,18 @@ use Rattle.lists.specs.Lists.{first_bad}
 use Rattle.rewriting.specs.Table.{Ruling, passed, refused, or_refuse}
 use Rattle.rewriting.specs.Table.Laws.{refused_passed}
 use Rattle.rewriting.specs.Writer.{first_name_twice}
+use Rattle.rewriting.specs.Answers.{answered}
 use Rattle.rewriting.specs.Checker.{ends_ok, facts_ok, premises_ok, conclusions_ok}
 use Rattle.protocol.specs.Protocol.{Protocol}
 use Rattle.steps.specs.Nodes.{Node, NodeWithin}
 use Rattle.steps.specs.Values.{NodeRight}
+use Rattle.steps.specs.Values.Scan.{found_refused, found_passed}
 use Rattle.steps.specs.Values.Tests.{node_values_ok, node_terms_ok}
 use Rattle.steps.specs.Runs.{protocol_facts, rewrittens}
 use Rattle.steps.specs.Causes.{node_ruling}
-use Rattle.steps.specs.Causes.Code.{ruling_of, counted}
+use Rattle.steps.specs.Causes.Code.{counted}
 use Rattle.steps.specs.Causes.Good.{RightNodes, count_of, good_passing}
-use Rattle.steps.specs.declared.ruling.NodesRuling.{NodesRuling}
-use Rattle.steps.specs.declared.ruling.NodesRuling.TheVariants as nr
-use Rattle.graph.specs.declared.ruling.Refusal.{Refusal}
+use Rattle.rewriting.specs.declared.Refusal.{Refusal}
 use Rattle.graph.specs.Graph.{Graph}
 use Rattle.graph.specs.Causes.{ruling, graph_ruling}
 use Rattle.graph.specs.Table.{no_edge, ReadIn, GraphIn}
@@ -64,13 +64,17 @@ Answered P p s nodes (Err d) = graph_ruling P s ≡ refused d.number d.item
 pub decided_as : {q q' : Ruling Graph} → q ≡ q' → (g : Graph) (r : Result ⊤ Refusal) → Decided q g r → Decided q' g r
 decided_as e g r h = subst (λ (q : Ruling Graph). Decided q g r) e h
 
--- a pass that finds an item refuses it, and one that finds none goes on
-module _ {A : Type 0} (n : ℕ) (r : Ruling A) {o found : Option ℕ} (is : found ≡ o) where
-  pub found_refused : {k : ℕ} → found ≡ Some k → or_refuse n o r ≡ refused n k
-  found_refused h = ap (λ (q : Option ℕ). or_refuse n q r) (sym is ∙ h)
+-- a pass that found nothing leaves what follows
+pub next_decided :
+    (n : ℕ) (g : Graph) {k o : Option ℕ} → k ≡ o → (q : Ruling Graph) → k ≡ None → (r : Result ⊤ Refusal) → Decided q g r → Decided (or_refuse n o q) g r
+next_decided n g found q none r h = decided_as (found_passed n found q none) g r h
 
-  pub found_passed : found ≡ None → or_refuse n o r ≡ r
-  found_passed h = ap (λ (q : Option ℕ). or_refuse n q r) (sym is ∙ h)
+-- the last pass
+pub last_decided :
+    (n : ℕ) (g : Graph) {k o : Option ℕ} → k ≡ o → (r : Result ⊤ Refusal)
+    → MatchResult r (λ _. k ≡ None) (λ d. (d.number ≡ n) × (k ≡ Some d.item)) → Decided (or_refuse n o (passed g)) g r
+last_decided n g found (Ok u) h = sym (found_passed n found (passed g) h)
+last_decided n g found (Err d) h = sym (found_refused n found (passed g) d h)
 
 -- ── the causes of nodes come first, and what follows them does not change them ──
 module _ {A B : Type 0} (n : ℕ) where
@@ -95,7 +99,7 @@ counted_refused (refused c d) a b h =
     let f : d ≡ b = cc in
     ap₂ (λ (x y : ℕ). refused x y) e f
 
-module _ (P : Protocol) (g : Graph) (r : NodesRuling) (told : ruling_of r ≡ counted (node_ruling P g.nodes)) where
+module _ (P : Protocol) (g : Graph) (r : Result ℕ Refusal) (told : answered r ≡ counted (node_ruling P g.nodes)) where
   abbrev values : Option ℕ
   values = first_bad (λ k x. node_values_ok P x) 1 g.nodes
 
@@ -105,16 +109,18 @@ module _ (P : Protocol) (g : Graph) (r : NodesRuling) (told : ruling_of r ≡ co
   abbrev names : Option ℕ
   names = first_name_twice (rewrittens P g.nodes)
 
-  pub nodes_refused : (a b : ℕ) → r ≡ nr.Refused a b → ReadDecided P g (Err (record { number = a; item = b }))
-  nodes_refused a b h =
-      let q = counted_refused (node_ruling P g.nodes) a b (ap ruling_of (sym h) ∙ told) in
+  pub nodes_refused : (d : Refusal) → r ≡ Err d → ReadDecided P g (Err d)
+  nodes_refused d h =
+      let a = d.number in
+      let b = d.item in
+      let q = counted_refused (node_ruling P g.nodes) a b (ap answered (sym h) ∙ told) in
       let e : ruling P g ≡ refused a b =
       refused_first 7 values _ _ a b (refused_first 8 sizes _ _ a b (refused_first 9 names _ _ a b (λ z. absurd (refused_passed a b g.nodes (sym z))))) q in
       (e, λ z. absurd (refused_passed a b g (sym e ∙ z)))
 
-  module _ {k : ℕ} (h : r ≡ nr.Good k) (within : All (NodeWithin P) g.nodes) where
+  module _ {k : ℕ} (h : r ≡ Ok k) (within : All (NodeWithin P) g.nodes) where
     good : passed k ≡ counted (node_ruling P g.nodes)
-    good = ap ruling_of (sym h) ∙ told
+    good = ap answered (sym h) ∙ told
 
     pub nodes_right : All (NodeRight P) g.nodes
     nodes_right = (good_passing P g.nodes within k good).1.right

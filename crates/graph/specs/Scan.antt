@@ -16,7 +16,7 @@ use Rattle.protocol.specs.Protocol.{Protocol}
 use Rattle.steps.specs.Nodes.{Node, no_node}
 use Rattle.steps.specs.Runs.{rewritten, rewrittens}
 use Rattle.steps.specs.Table.{NodesIn}
-use Rattle.steps.specs.Values.Scan.{Rest, found_is, rest_all, rest_more, rest_bad, rest_none}
+use Rattle.steps.specs.Values.Scan.{Rest, rest_all, rest_more, rest_bad, rest_none}
 use Rattle.graph.specs.Table.{edge_at, no_edge, EdgesIn}
 
 -- n elements, by number; d where there is none
@@ -45,7 +45,7 @@ module _ {A : Type 0} {d : A} {ys : List A} {n : ℕ} {item : ℕ → A} (listed
     scan_more t h = rest_more ok d ys j (omega (arith, listed.count)) (tested ∙ t) h
 
     pub scan_bad : b ≡ false → Rest ok d ys j → Some (j + 1) ≡ first_bad ok 1 ys
-    scan_bad f h = sym (found_is j) ∙ rest_bad ok d ys j (omega (arith, listed.count)) (tested ∙ f) h
+    scan_bad f h = rest_bad ok d ys j (omega (arith, listed.count)) (tested ∙ f) h
 
   pub scan_none : n ≤ j → Rest ok d ys j → None ≡ first_bad ok 1 ys
   scan_none l h = rest_none ok d ys j (omega (arith, listed.count)) h

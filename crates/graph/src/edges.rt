@@ -4,8 +4,6 @@ ghost use Rattle.graph.specs.Graph.{most_edges};
 ghost use Rattle.graph.specs.Table.{FieldsOf};
 ghost use Rattle.graph.specs.Table.Reading.{NumbersRead, EdgesFrom, EdgesRead};
 
-use number::Number;
-
 // "count of edges (4,096)"
 pub const MOST_EDGES: usize = 4096;
 
@@ -18,6 +16,8 @@ pub const SOURCE: usize = 0;
 
 pub const TARGET: usize = 2;
 
+// The count of edges goes beside the table: its numbers are read and written one behind the other, and a slice of them as long as m edges
+// would have m divided out of its length at each pass.
 pub const TABLE: usize = FIELDS * MOST_EDGES;
 
 // The numbers of a small file's edges: no more than its bytes.
@@ -30,15 +30,9 @@ fn read_numbers(s: &[u8], at: usize, k: usize, edges: &mut [u32]) -> Option<usiz
 {
     let mut i = at;
     for j in 0..k {
-        match number::read_number(s, i) {
-            Number::Value(v, e) => {
-                edges[j] = v;
-                i = e;
-            }
-            Number::Fault => {
-                return None;
-            }
-        }
+        let (v, e) = number::read_number(s, i)?;
+        edges[j] = v;
+        i = e;
     }
     Some(i)
 }
@@ -61,10 +55,8 @@ pub fn read_edges(s: &[u8], at: usize, edges: &mut [u32]) -> Option<(usize, usiz
     requires { FieldsOf s.now edges.old }
     ensures { EdgesRead s.now at edges.new result }
 {
-    match number::below(s, at, EDGE_LIMIT) {
-        Number::Value(m, e) => edges_from(s, e, m as usize, edges),
-        Number::Fault => None,
-    }
+    let (m, e) = number::below(s, at, EDGE_LIMIT)?;
+    edges_from(s, e, m as usize, edges)
 }
 
 // A number of the table.

@@ -33,7 +33,8 @@ fn premises_ok(p: &[u8], nodes: &[usize], j: usize, uses: &[u8]) -> bool
     uses[first..first + count].iter().all(|&c| c == ONE)
 }
 
-// The least node that has a premise without exactly one edge, by the counts.
+// The least node that has a premise without exactly one edge, by the counts. This and least_spent stay two: for one loop over a test that is
+// passed in, or `find`, the proof did not close, since it must know of each call which node's edges the counts are of.
 fn least_unfed(p: &[u8], nodes: &[usize], n: usize, uses: &[u8]) -> Option<usize>
     requires { Asks₃ (NodesOf p.now nodes.now n) × (most_facts * n ≤ length uses.now) }
     ensures { Promises₃ (NodesOf p.now nodes.now n) (λ (s : List ℕ) (P : Protocol) (xs : List Node). (es : List Edge) → Into uses.now es → result ≡ first_bad (premises_ok (protocol_facts P) es) 1 (rewrittens P xs)) }

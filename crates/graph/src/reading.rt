@@ -10,13 +10,7 @@ ghost use Rattle.graph.specs.Reading.{BehindNodes, GraphTold};
 
 use crate::edges;
 use steps::nodes;
-use steps::nodes::Nodes;
-
-#[derive(Drop)]
-pub enum NodesFault {
-    Broken,
-    NoRule(usize),
-}
+use steps::nodes::NodesFault;
 
 // Behind the nodes: how many edges there are, and nothing behind them.
 fn behind_nodes(s: &[u8], at: usize, edges: &mut [u32]) -> Option<usize>
@@ -40,12 +34,7 @@ pub fn read_graph(
     requires { Asks (Prepared p.now) × (length s.now ≤ longest) × RowsOf s.now 0 nodes.old × FieldsOf s.now edges.old }
     ensures { Promises (Prepared p.now) (λ (P : Protocol). GraphTold P p.now s.now nodes.new edges.new result) }
 {
-    match nodes::read_nodes(p, s, 0, nodes) {
-        Nodes::End(n, e) => {
-            let m = behind_nodes(s, e, edges).ok_or(NodesFault::Broken)?;
-            Ok((n, m))
-        }
-        Nodes::Broken => Err(NodesFault::Broken),
-        Nodes::NoRule(k) => Err(NodesFault::NoRule(k)),
-    }
+    let (n, e) = nodes::read_nodes(p, s, 0, nodes)?;
+    let m = behind_nodes(s, e, edges).ok_or(NodesFault::Broken)?;
+    Ok((n, m))
 }

@@ -12,17 +12,10 @@ ghost use Rattle.graph.specs.Joins.{EndedOf};
 ghost use Rattle.graph.specs.Area.{Area};
 ghost use Rattle.graph.specs.Ruling.{uses_ruling, edges_ruling, Decided, ReadDecided, Answered};
 
-use crate::reading::NodesFault;
 use crate::{area, ends, joins, passes, reading};
 use protocol::figures;
+use rewriting::{Refusal, refuse};
 use steps::ruling;
-use steps::ruling::NodesRuling;
-
-#[derive(Clone, Copy)]
-pub struct Refusal {
-    pub number: usize,
-    pub item: usize,
-}
 
 // 12 and 13 of a graph of which 10 is absent. As many counts are cleared as its nodes can need.
 fn rule_uses(
@@ -36,19 +29,14 @@ fn rule_uses(
     requires { Asks₃ (EndedOf p.now nodes.now n edges.now m) × (most_facts * n ≤ length uses.old) }
     ensures { Promises₃ (EndedOf p.now nodes.now n edges.now m) (λ (s : List ℕ) (P : Protocol) (g : Graph). Decided (uses_ruling P g) g result) }
 {
-    if let Some(item) = passes::premise_pass(p, nodes, n, edges, m, uses) {
-        return Err(Refusal {
-            number: rewriting::NOT_ONE_EDGE,
-            item,
-        });
-    }
-    if let Some(item) = passes::conclusion_pass(p, nodes, n, edges, m, uses) {
-        return Err(Refusal {
-            number: rewriting::USED_TWICE,
-            item,
-        });
-    }
-    Ok(())
+    refuse(
+        rewriting::NOT_ONE_EDGE,
+        passes::premise_pass(p, nodes, n, edges, m, uses),
+    )?;
+    refuse(
+        rewriting::USED_TWICE,
+        passes::conclusion_pass(p, nodes, n, edges, m, uses),
+    )
 }
 
 // 10 to 13 of right nodes and their edges.
@@ -64,19 +52,15 @@ fn rule_edges(
     requires { Asks₂ (GraphIn p.now s.now nodes.now n edges.now m) × Area work.old }
     ensures { Promises₂ (GraphIn p.now s.now nodes.now n edges.now m) (λ (P : Protocol) (g : Graph). Decided (edges_ruling P g) g result) }
 {
-    if let Some(item) = ends::end_pass(p, nodes, n, edges, m) {
-        return Err(Refusal {
-            number: rewriting::END_MISSING,
-            item,
-        });
-    }
+    refuse(
+        rewriting::END_MISSING,
+        ends::end_pass(p, nodes, n, edges, m),
+    )?;
     let facts = &mut work[area::FACTS..area::FACTS_END];
-    if let Some(item) = joins::fact_pass(facts, p, s, nodes, n, edges, m) {
-        return Err(Refusal {
-            number: rewriting::FACTS_DIFFER,
-            item,
-        });
-    }
+    refuse(
+        rewriting::FACTS_DIFFER,
+        joins::fact_pass(facts, p, s, nodes, n, edges, m),
+    )?;
     rule_uses(
         p,
         nodes,
@@ -100,10 +84,8 @@ fn rule_read(
     requires { Asks₂ (ReadIn p.now s.now nodes.now n edges.now m) × Area work.old }
     ensures { Promises₂ (ReadIn p.now s.now nodes.now n edges.now m) (λ (P : Protocol) (g : Graph). ReadDecided P g result) }
 {
-    match ruling::rule_nodes(p, s, nodes, n) {
-        NodesRuling::Good(_) => rule_edges(p, s, nodes, n, edges, m, work),
-        NodesRuling::Refused(number, item) => Err(Refusal { number, item }),
-    }
+    ruling::rule_nodes(p, s, nodes, n)?;
+    rule_edges(p, s, nodes, n, edges, m, work)
 }
 
 // 3 and 6 to 13 of a graph file: how many nodes and edges there are. Their tables are filled in.
@@ -122,13 +104,6 @@ pub fn rule_graph(
             rule_read(p, s, nodes, n, edges, m, work)?;
             Ok((n, m))
         }
-        Err(NodesFault::Broken) => Err(Refusal {
-            number: rewriting::LAYOUT,
-            item: rewriting::GRAPH_ITEM,
-        }),
-        Err(NodesFault::NoRule(item)) => Err(Refusal {
-            number: rewriting::NO_SUCH_RULE,
-            item,
-        }),
+        Err(fault) => Err(ruling::fault_refusal(fault, rewriting::GRAPH_ITEM)),
     }
 }

@@ -8,14 +8,14 @@ use Rattle.graph.proofs.edges.read_edges.Goals as goal
 
 pub edges_from-requires : goal.edges_from-requires
 edges_from-requires c =
-    let b = below_inside _ _ _ (λ i. (c.type_inv.s i).fits) _ _ (sym c.below.ensures ∙ ap as_read c.in-Value.is) in
+    let b = below_inside _ _ _ (λ i. (c.type_inv.s i).fits) _ _ (sym c.below.ensures ∙ ap as_read c.in_ok-m.was) in
     (omega (arith, b.small), c.requires)
 
-pub returns-in-Value : goal.returns-in-Value
-returns-in-Value c =
+pub returns : goal.returns
+returns c =
     edges_told c.args.s.now c.args.at _ _ c.edges_from.new.edges c.edges_from.result
-    (sym c.below.ensures ∙ ap as_read c.in-Value.is) c.edges_from.ensures
+    (sym c.below.ensures ∙ ap as_read c.in_ok-m.was) c.edges_from.ensures
 
-pub returns-in-Fault : goal.returns-in-Fault
-returns-in-Fault c =
-    edges_none c.args.s.now c.args.at (sym c.below.ensures ∙ ap as_read c.in-Fault.is)
+pub returns-in_err-m : goal.returns-in_err-m
+returns-in_err-m c =
+    rw c.from_residual.ensures (edges_none c.args.s.now c.args.at (sym c.below.ensures ∙ ap as_read c.in_err-m.was))

@@ -23,12 +23,13 @@ pub loop-j-preserved : goal.loop-j-preserved
 loop-j-preserved c = (
   simp length-set c.loop-j.invariant.0,
   numbers_more _ _ _ _ _ c.loop-j.invariant.1 _ _ (omega (arith, c.loop-j.invariant.0, c.requires))
-      (sym c.read_number.ensures ∙ ap as_read c.in-Value.is),
+      (sym c.read_number.ensures ∙ ap as_read c.in_ok-v.was),
 )
 
-pub returns-in-Fault : goal.returns-in-Fault
-returns-in-Fault c =
-    numbers_fault _ _ _ _ _ c.loop-j.invariant.1 _ c.loop-j-test.true (sym c.read_number.ensures ∙ ap as_read c.in-Fault.is)
+pub returns-in_err-v : goal.returns-in_err-v
+returns-in_err-v c =
+    rw c.from_residual.ensures
+    (numbers_fault _ _ _ _ _ c.loop-j.invariant.1 _ c.loop-j-test.true (sym c.read_number.ensures ∙ ap as_read c.in_err-v.was))
 
 pub returns : goal.returns
 returns c =
