@@ -113,7 +113,7 @@ fn term_file(term: &[u8], arities: &[u8]) -> TermFile
     requires { length term.now ≤ longest }
     ensures { result ≡ file_of (term_ruling arities.now term.now) }
 {
-    match term::walk_term(term, arities, 0, term::VARIABLE, 0, number::NUMBER_LIMIT) {
+    match term::walk_term(term, arities, 0, term::VARIABLES) {
         Walk::End(e, n, h) => {
             if e != term.len() {
                 return TermFile::Layout;

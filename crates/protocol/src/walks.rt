@@ -58,7 +58,12 @@ fn rule_term(x: &RuleText, at: usize, w: Wanted) -> Option<(usize, bool)>
     requires { length x.now.file.now ≤ longest }
     ensures { result ≡ seen (leaf_for w) (term_in x.now at) }
 {
-    let walk = term::walk_term(x.file, x.arities, at, w.kind, w.lo, w.hi)?;
+    let leaves = term::Leaves {
+        kind: w.kind,
+        lo: w.lo,
+        hi: w.hi,
+    };
+    let walk = term::walk_term(x.file, x.arities, at, leaves)?;
     if walk.size < figures::RULE_SYMBOL_LIMIT {
         return Some((walk.end, walk.hit));
     }

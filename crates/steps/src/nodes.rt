@@ -67,7 +67,7 @@ fn place_values(
     let mut i = at;
     let mut held = false;
     for v in 0..k {
-        let w = term::walk_term(s, arities, i, term::VARIABLE, 0, number::NUMBER_LIMIT).ok_or(
+        let w = term::walk_term(s, arities, i, term::VARIABLES).ok_or(
             NodeFault::Broken,
         )?;
         nodes[to + v] = i;

@@ -84,6 +84,28 @@ pub struct Walk {
     pub hit: bool,
 }
 
+// What a walk looks for: leaves of a kind, their numbers from lo on and below hi.
+#[derive(Clone, Copy)]
+pub struct Leaves {
+    pub kind: usize,
+    pub lo: usize,
+    pub hi: usize,
+}
+
+// All variables.
+pub const VARIABLES: Leaves = Leaves {
+    kind: VARIABLE,
+    lo: 0,
+    hi: number::NUMBER_LIMIT,
+};
+
+// For a walk that is only to tell the place behind.
+const NO_LEAVES: Leaves = Leaves {
+    kind: VARIABLE,
+    lo: 0,
+    hi: 0,
+};
+
 // The function of a tag, and the place behind the tag.
 fn op_at(arities: &[u8], tag: usize, next: usize) -> Option<Symbol>
     requires { first_function ≤ tag }
@@ -117,41 +139,26 @@ pub fn symbol_at(file: &[u8], arities: &[u8], at: usize) -> Option<Symbol>
 }
 
 // Whether a leaf is of that kind, from lo on and below hi.
-fn hit(kind: usize, lo: usize, hi: usize, t: usize, n: usize) -> bool
-    ensures { result ≡ hits kind lo hi t n }
+fn hit(w: Leaves, t: usize, n: usize) -> bool
+    ensures { result ≡ hits w.kind w.lo w.hi t n }
 {
-    t == kind && (lo..hi).contains(&n)
+    t == w.kind && (w.lo..w.hi).contains(&n)
 }
 
-fn one_symbol(
-    file: &[u8],
-    arities: &[u8],
-    at: usize,
-    kind: usize,
-    lo: usize,
-    hi: usize,
-) -> Option<(u8, bool, usize)>
-    ensures { result ≡ step_of kind lo hi (symbol_at file.now arities.now at) }
+fn one_symbol(file: &[u8], arities: &[u8], at: usize, w: Leaves) -> Option<(u8, bool, usize)>
+    ensures { result ≡ step_of w.kind w.lo w.hi (symbol_at file.now arities.now at) }
 {
     let y = symbol_at(file, arities, at)?;
     match y {
-        Symbol::Leaf(t, n, e) => Some((0, hit(kind, lo, hi, t, n as usize), e)),
+        Symbol::Leaf(t, n, e) => Some((0, hit(w, t, n as usize), e)),
         Symbol::Op(_, k, e) => Some((k, false, e)),
     }
 }
 
 // Walks k terms from a place on, and tells whether a leaf of that kind, from lo on and below hi, stands in one of them.
-pub fn walk_terms(
-    file: &[u8],
-    arities: &[u8],
-    at: usize,
-    k: usize,
-    kind: usize,
-    lo: usize,
-    hi: usize,
-) -> Option<Walk>
+pub fn walk_terms(file: &[u8], arities: &[u8], at: usize, k: usize, w: Leaves) -> Option<Walk>
     requires { (length file.now ≤ longest) × (k ≤ longest) }
-    ensures { result ≡ walks kind lo hi (many (term file.now arities.now) k at) }
+    ensures { result ≡ walks w.kind w.lo w.hi (many (term file.now arities.now) k at) }
 {
     let mut i = at;
     let mut pending = k;
@@ -159,7 +166,7 @@ pub fn walk_terms(
     let mut found = false;
     // A while: each symbol says how many terms are still to come, and no range or list is walked.
     while 0 < pending {
-        let (n, h, e) = one_symbol(file, arities, i, kind, lo, hi)?;
+        let (n, h, e) = one_symbol(file, arities, i, w)?;
         pending = pending - 1 + n as usize;
         found = found | h;
         i = e;
@@ -173,18 +180,11 @@ pub fn walk_terms(
 }
 
 // The same for one term.
-pub fn walk_term(
-    file: &[u8],
-    arities: &[u8],
-    at: usize,
-    kind: usize,
-    lo: usize,
-    hi: usize,
-) -> Option<Walk>
+pub fn walk_term(file: &[u8], arities: &[u8], at: usize, w: Leaves) -> Option<Walk>
     requires { length file.now ≤ longest }
-    ensures { result ≡ walked kind lo hi (term file.now arities.now at) }
+    ensures { result ≡ walked w.kind w.lo w.hi (term file.now arities.now at) }
 {
-    walk_terms(file, arities, at, 1, kind, lo, hi)
+    walk_terms(file, arities, at, 1, w)
 }
 
 // Passes over k terms from a place on.
@@ -192,8 +192,8 @@ pub fn terms_end(file: &[u8], arities: &[u8], at: usize, k: usize) -> Option<(us
     requires { (length file.now ≤ longest) × (k ≤ longest) }
     ensures { result ≡ endeds (many (term file.now arities.now) k at) }
 {
-    let w = walk_terms(file, arities, at, k, VARIABLE, 0, 0)?;
-    Some((w.end, w.size))
+    let walk = walk_terms(file, arities, at, k, NO_LEAVES)?;
+    Some((walk.end, walk.size))
 }
 
 // Passes over the term at a place.

@@ -8,11 +8,11 @@ use Rattle.term.proofs.terms_end.Goals as goal
 pub returns : goal.returns
 returns c =
     let a = c.args in
-    ap part_of (sym c.in_ok-w.was ∙ c.walk_terms.ensures) ∙ walks_part 0 0 0 (many (term a.file.now a.arities.now) a.k a.at)
+    ap part_of (sym c.in_ok-walk.was ∙ c.walk_terms.ensures) ∙ walks_part 0 0 0 (many (term a.file.now a.arities.now) a.k a.at)
 
-pub returns-in_err-w : goal.returns-in_err-w
-returns-in_err-w c =
+pub returns-in_err-walk : goal.returns-in_err-walk
+returns-in_err-walk c =
     let a = c.args in
     rw c.from_residual.ensures
-    (ap part_of (sym c.in_err-w.was ∙ c.walk_terms.ensures) ∙ walks_part 0 0 0
+    (ap part_of (sym c.in_err-walk.was ∙ c.walk_terms.ensures) ∙ walks_part 0 0 0
     (many (term a.file.now a.arities.now) a.k a.at))

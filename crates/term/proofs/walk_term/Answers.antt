@@ -6,4 +6,4 @@ use Rattle.term.proofs.walk_term.Goals as goal
 
 pub returns : goal.returns
 returns c =
-    c.walk_terms.ensures ∙ walks_one c.args.kind c.args.lo c.args.hi (term c.args.file.now c.args.arities.now) c.args.at
+    c.walk_terms.ensures ∙ walks_one c.args.w.kind c.args.w.lo c.args.w.hi (term c.args.file.now c.args.arities.now) c.args.at

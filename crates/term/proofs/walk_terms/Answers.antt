@@ -12,36 +12,36 @@ loop-pending-init c = (
   search rules,
   search rules,
   search rules,
-  tally_begins c.args.kind c.args.lo c.args.hi
+  tally_begins c.args.w.kind c.args.w.lo c.args.w.hi
       (many (term c.args.file.now c.args.arities.now) c.args.k c.args.at),
 )
 
 pub overflow_add-pending : goal.overflow_add-pending
 overflow_add-pending c =
-    let a = step_ahead c.args.kind c.args.lo c.args.hi c.args.file.now c.args.arities.now
+    let a = step_ahead c.args.w.kind c.args.w.lo c.args.w.hi c.args.file.now c.args.arities.now
     (λ i. (c.type_inv.file i).fits) _ _ _ _ (sym c.one_symbol.ensures ∙ c.in_ok-n.was) in
     omega arith
 
 pub overflow_add-count : goal.overflow_add-count
 overflow_add-count c =
-    let a = step_ahead c.args.kind c.args.lo c.args.hi c.args.file.now c.args.arities.now
+    let a = step_ahead c.args.w.kind c.args.w.lo c.args.w.hi c.args.file.now c.args.arities.now
     (λ i. (c.type_inv.file i).fits) _ _ _ _ (sym c.one_symbol.ensures ∙ c.in_ok-n.was) in
     omega arith
 
 pub loop-pending-smaller : goal.loop-pending-smaller
 loop-pending-smaller c =
-    let a = step_ahead c.args.kind c.args.lo c.args.hi c.args.file.now c.args.arities.now
+    let a = step_ahead c.args.w.kind c.args.w.lo c.args.w.hi c.args.file.now c.args.arities.now
     (λ i. (c.type_inv.file i).fits) _ _ _ _ (sym c.one_symbol.ensures ∙ c.in_ok-n.was) in
     omega arith
 
 pub loop-pending-preserved : goal.loop-pending-preserved
 loop-pending-preserved c =
-    let a = step_ahead c.args.kind c.args.lo c.args.hi c.args.file.now c.args.arities.now
+    let a = step_ahead c.args.w.kind c.args.w.lo c.args.w.hi c.args.file.now c.args.arities.now
     (λ i. (c.type_inv.file i).fits) _ _ _ _ (sym c.one_symbol.ensures ∙ c.in_ok-n.was) in (
       omega arith,
       omega arith,
       omega arith,
-      walk_turn c.args.kind c.args.lo c.args.hi c.args.file.now
+      walk_turn c.args.w.kind c.args.w.lo c.args.w.hi c.args.file.now
           c.args.arities.now (λ i. (c.type_inv.file i).fits) _ _ _ _ _ _ _ c.loop-pending-test.true
           (sym c.one_symbol.ensures ∙ c.in_ok-n.was) ∙ c.loop-pending.invariant.3,
     )
@@ -49,12 +49,12 @@ loop-pending-preserved c =
 pub returns-in_err-n : goal.returns-in_err-n
 returns-in_err-n c =
     rw c.from_residual.ensures
-    (sym (walk_fault c.args.kind c.args.lo c.args.hi c.args.file.now c.args.arities.now
+    (sym (walk_fault c.args.w.kind c.args.w.lo c.args.w.hi c.args.file.now c.args.arities.now
     (λ i. (c.type_inv.file i).fits) _
     _ _ _ c.loop-pending-test.true (sym c.one_symbol.ensures ∙ c.in_err-n.was)) ∙ c.loop-pending.invariant.3)
 
 pub returns : goal.returns
 returns c =
-    sym (walk_done c.args.kind c.args.lo c.args.hi c.args.file.now c.args.arities.now (λ i. (c.type_inv.file i).fits)
+    sym (walk_done c.args.w.kind c.args.w.lo c.args.w.hi c.args.file.now c.args.arities.now (λ i. (c.type_inv.file i).fits)
     _
     _ _ _ c.loop-pending-test.false) ∙ c.loop-pending.invariant.3

@@ -10,7 +10,7 @@ use Rattle.term.proofs.walk_terms.Given as goal
 
 abbrev pub invariant-loop-pending : goal.invariant-loop-pending
 invariant-loop-pending l =
-    (l.count ≤ length l.file) × (l.count ≤ l.i) × (l.pending ≤ 255 * l.count + l.k) × (tally l.kind l.lo l.hi l.count l.found (many (term l.file l.arities) l.pending l.i) ≡ walks l.kind l.lo l.hi
+    (l.count ≤ length l.file) × (l.count ≤ l.i) × (l.pending ≤ 255 * l.count + l.k) × (tally l.w.kind l.w.lo l.w.hi l.count l.found (many (term l.file l.arities) l.pending l.i) ≡ walks l.w.kind l.w.lo l.w.hi
     (many (term l.file l.arities) l.k l.at))
 
 abbrev pub decreases-loop-pending : goal.decreases-loop-pending
