@@ -38,4 +38,7 @@ returns c =
     λ P xs h.
     let g = subst (λ (k : ℕ). NodesIn c.args.p.now c.args.s.now c.args.nodes.now k P xs) (sym c.loop-j.auto.names) h in
     let m : c.loop-j.j ≡ length xs = omega (arith, h.count, c.loop-j-test.false, c.loop-j.auto.j-end) in
-    subst (λ (k : ℕ). Entered c.loop-j.names xs k) m (c.loop-j.invariant P xs g)
+    record {
+      count = c.loop-j.auto.names ∙ sym h.count;
+      entered = subst (λ (k : ℕ). Entered c.loop-j.names xs k) m (c.loop-j.invariant P xs g);
+    }

@@ -8,10 +8,6 @@ use mathlib.Core.Path.{ap, refl, sym, ◌∙◌}
 use native.Mathlib.Omega.{arith}
 use Rattle.steps.proofs.nodes.enter_node.Goals as goal
 
-pub rule_place-requires : goal.rule_place-requires
-rule_place-requires c =
-    (c.requires.0.0, c.requires.0.1.body)
-
 pub slice_bounds-place_values-end : goal.slice_bounds-place_values-end
 slice_bounds-place_values-end c =
     sym (slots_length c.args.p.now c.requires.0.1.body.long)
