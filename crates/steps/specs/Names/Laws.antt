@@ -1,6 +1,6 @@
 -- The pass over the names by the nodes is crate rewriting's pass of cause 9.
 use Rattle.std.specs.Prelude.{ℕ, suc, ◌+◌, ◌<◌, ◌≤◌, List, [], ◌∷◌, ◌++◌, Bool, true, false, cond, ◌||◌, ◌≡◌, refl, eqb, leb, length, get_or, take, drop, set}
-use Rattle.std.proofs.Common.{append_assoc, append-nil, ap, ap₂, sym, ◌∙◌, subst, arith, drop_of_length-le, drop-cons, take-suc, get_or-set_same, get_or-set_other, eqb-true, eq-eqb, ne_eqb}
+use Rattle.std.proofs.Common.{append_assoc, append-nil, ap, ap₂, sym, ◌∙◌, subst, arith, drop-cons, take-suc, get_or-set_same, get_or-set_other, eqb-true, eq-eqb, ne_eqb}
 use Rattle.std.specs.Prelude.{zero, Option, Some, None, is_some}
 use Rattle.std.specs.List.{list_any}
 use Rattle.std.specs.Option.{option_eq, option_map}
@@ -123,9 +123,6 @@ module _ (p : Protocol) (d : Node) (xs : List Node) where
   abbrev pub NamesLeft : ℕ → Type 0
   NamesLeft j = first_name_twice (rewrittens p xs) ≡ name_twice_from (j + 1) (made_by (take j xs)) (rewrittens p (drop j xs))
 
-  pub names_all : NamesLeft 0
-  names_all = refl
-
   step : (j : ℕ) (b : Bool) → j < length xs → again_in (take j xs) (made_name (get_or xs j d)) ≡ b → NamesLeft j
       → first_name_twice (rewrittens p xs)
       ≡ cond b (Some (j + 1)) (name_twice_from (suc (j + 1)) (made_by (take j xs) ++ name_of (made_name (get_or xs j d))) (rewrittens p (drop (suc j) xs)))
@@ -142,10 +139,3 @@ module _ (p : Protocol) (d : Node) (xs : List Node) where
       step j false l t h
       ∙ ap (λ (m : List ℕ). name_twice_from (suc (j + 1)) m (rewrittens p (drop (suc j) xs))) (sym (made_more xs j d l))
       ∙ ap₂ (λ (k i : ℕ). name_twice_from k (made_by (take i xs)) (rewrittens p (drop i xs))) a b
-
-  pub names_twice : (j : ℕ) → j < length xs → again_in (take j xs) (made_name (get_or xs j d)) ≡ true → NamesLeft j → Some (j + 1) ≡ first_name_twice (rewrittens p xs)
-  names_twice j l t h = sym (step j true l t h)
-
-  pub names_none : (j : ℕ) → length xs ≤ j → NamesLeft j → None ≡ first_name_twice (rewrittens p xs)
-  names_none j l h =
-      sym (h ∙ ap (λ (ys : List Node). name_twice_from (j + 1) (made_by (take j xs)) (rewrittens p ys)) (drop_of_length-le xs l))

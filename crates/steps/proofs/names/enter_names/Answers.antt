@@ -1,5 +1,5 @@
 -- The invariant is that the first j entries are those of the nodes' names; each turn enters one.
-use Rattle.steps.specs.Names.Laws.{entered_none, entered_more, entry_made}
+use Rattle.steps.specs.Names.Laws.{entered_more, entry_made}
 use Rattle.steps.specs.Facts.{made_name}
 use Rattle.steps.specs.Table.Laws.{node_in}
 use Rattle.steps.specs.Nodes.{no_node}
@@ -13,10 +13,6 @@ use lib.ListN.{length, get_or, set, length-set}
 use mathlib.Core.Path.{◌≡◌, sym, ◌∙◌, subst}
 use native.Mathlib.Omega.{arith}
 use Rattle.steps.proofs.names.enter_names.Goals as goal
-
-pub loop-j-init : goal.loop-j-init
-loop-j-init c =
-    λ P xs h. entered_none _ xs
 
 pub made_at-requires : goal.made_at-requires
 made_at-requires c =

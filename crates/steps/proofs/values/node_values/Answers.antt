@@ -1,15 +1,7 @@
 -- A value that holds a variable makes the node bad; without one values_fit decides.
-use native.Mathlib.Omega.{arith}
 use Rattle.steps.specs.Values.Loops.{held_bad}
 use Rattle.steps.specs.Table.Laws.{node_listed}
-use borrow.Author.Rules.{rules}
 use Rattle.steps.proofs.values.node_values.Goals as goal
-
-pub overflow_mul-row : goal.overflow_mul-row
-overflow_mul-row c =
-    let h = c.requires.1.2 in
-    let b = h.few in
-    search rules
 
 pub returns-then-nodes-row-ne0 : goal.returns-then-nodes-row-ne0
 returns-then-nodes-row-ne0 c =
@@ -19,4 +11,3 @@ pub place_of-place-requires : goal.place_of-place-requires
 place_of-place-requires c =
     let h = c.requires.1.2 in
     (node_listed h, h.prepared.body.long)
-
