@@ -1,5 +1,5 @@
 -- Cause 9 by the nodes of a step list or graph, and what code answers of the names that they make.
-use Rattle.std.specs.Prelude.{ℕ, ◌<◌, List, [], ◌∷◌, ◌++◌, Bool, false, ◌≡◌, get_or, eqb, leb}
+use Rattle.std.specs.Prelude.{ℕ, ◌<◌, List, [], ◌∷◌, ◌++◌, Bool, false, ◌≡◌, length, get_or, eqb, leb}
 use Rattle.std.specs.Prelude.{Option, Some, None}
 use Rattle.lists.specs.Lists.{count_by}
 use Rattle.rewriting.specs.Graph.{name_of}
@@ -33,6 +33,11 @@ abbrev pub MadeIs : Option ℕ → Option Fresh → Type 0
 MadeIs o (Some f) = o ≡ Some f.0
 MadeIs o None = o ≡ None
 
--- a table of them, an entry a node
+-- a table of the names of the first n nodes, an entry a node
 pub record Entered (names : List (Option ℕ)) (xs : List Node) (n : ℕ) : Type 0 where
   pub each : (k : ℕ) → k < n → get_or names k None ≡ made_name (get_or xs k no_node)
+
+-- of all nodes
+pub record NamesOf (names : List (Option ℕ)) (xs : List Node) : Type 0 where
+  pub count : length names ≡ length xs
+  pub entered : Entered names xs (length xs)

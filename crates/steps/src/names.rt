@@ -1,5 +1,5 @@
 // The names that nodes of rule 0 make (9).
-ghost use Rattle.std.specs.Prelude.{◌≡◌, List, ℕ, ◌≤◌, ◌<◌, length, get_or, take};
+ghost use Rattle.std.specs.Prelude.{◌≡◌, List, ◌≤◌, ◌<◌, length, get_or, take};
 ghost use Rattle.protocol.specs.Protocol.{Protocol};
 ghost use Rattle.lists.specs.Asks.{Asks₂, Promises₂, Promises};
 ghost use Rattle.rewriting.specs.Writer.{first_name_twice};
@@ -7,7 +7,7 @@ ghost use Rattle.steps.specs.Nodes.{Node, no_node, most_nodes};
 ghost use Rattle.steps.specs.Table.{NodeIn, NodesIn, few_nodes};
 ghost use Rattle.steps.specs.Facts.{made_name};
 ghost use Rattle.steps.specs.Runs.{rewrittens};
-ghost use Rattle.steps.specs.Names.{again_in, MadeIs, Entered};
+ghost use Rattle.steps.specs.Names.{again_in, MadeIs, NamesOf};
 ghost use Rattle.steps.specs.Names.Code.{NumberIs};
 ghost use Rattle.term.specs.Reader.{symbol_at};
 
@@ -45,7 +45,7 @@ pub fn made_at(p: &[u8], s: &[u8], nodes: &[usize], j: usize) -> Option<Fresh>
 // The numbers of the names that the nodes make, an entry a node.
 fn enter_names(p: &[u8], s: &[u8], nodes: &[usize], names: &mut [Option<u32>])
     requires { Asks₂ (NodesIn p.now s.now nodes.now (length names.old)) }
-    ensures { Promises₂ (NodesIn p.now s.now nodes.now (length names.old)) (λ (P : Protocol) (xs : List Node). Entered names.new xs (length xs)) }
+    ensures { Promises₂ (NodesIn p.now s.now nodes.now (length names.old)) (λ (P : Protocol) (xs : List Node). NamesOf names.new xs) }
 {
     for j in 0..names.len() {
         names[j] = made_at(p, s, nodes, j).map(|f| f.0);
@@ -55,7 +55,7 @@ fn enter_names(p: &[u8], s: &[u8], nodes: &[usize], names: &mut [Option<u32>])
 // Whether node j, from 0, makes a name that a node before it makes.
 fn again_at(names: &[Option<u32>], j: usize) -> bool
     requires { j < length names.now }
-    ensures { Promises₂ (Entered names.now) (λ (xs : List Node) (n : ℕ). j < n → n ≤ length xs → result ≡ again_in (take j xs) (made_name (get_or xs j no_node))) }
+    ensures { Promises (NamesOf names.now) (λ (xs : List Node). result ≡ again_in (take j xs) (made_name (get_or xs j no_node))) }
 {
     names[j].is_some() && names[..j].contains(&names[j])
 }
@@ -63,7 +63,7 @@ fn again_at(names: &[Option<u32>], j: usize) -> bool
 // The least node, from 1, that makes a name that an earlier one makes.
 fn least_again(names: &[Option<u32>]) -> Option<usize>
     requires { length names.now ≤ most_nodes }
-    ensures { (p : Protocol) → Promises (λ (xs : List Node). Entered names.now xs (length names.now)) (λ (xs : List Node). length xs ≡ length names.now → result ≡ first_name_twice (rewrittens p xs)) }
+    ensures { (p : Protocol) → Promises (NamesOf names.now) (λ (xs : List Node). result ≡ first_name_twice (rewrittens p xs)) }
 {
     for j in 0..names.len() {
         if again_at(names, j) {

@@ -72,7 +72,7 @@ fn place_values(
         )?;
         nodes[to + v] = i;
         nodes[to + PLACES + v] = w.size;
-        held = held | w.hit;
+        held |= w.hit;
         i = w.end;
     }
     nodes[to + k] = i;

@@ -1,20 +1,21 @@
 -- What the verdict's code asks and promises.
-use Rattle.std.specs.Prelude.{ℕ, ◌*◌, ◌≤◌, ◌<◌, List, ◌≡◌, length}
+use Rattle.std.specs.Prelude.{ℕ, ◌+◌, ◌*◌, ◌≤◌, ◌<◌, List, ◌≡◌, length}
 use Rattle.std.proofs.Common.{sym, subst}
 use Rattle.lists.specs.Lists.{count_by}
 use Rattle.lists.specs.Reflects.{Reflects}
 use Rattle.protocol.specs.Protocol.{Protocol, fact_arities}
-use Rattle.steps.specs.Nodes.{Node}
+use Rattle.steps.specs.Nodes.{Node, most_nodes}
 use Rattle.steps.specs.Causes.Good.{RightNodes}
 use Rattle.property.specs.Formula.{Formula}
 use Rattle.property.specs.Layout.{property}
 use Rattle.property.specs.Causes.{property_ruling}
-use Rattle.property.specs.Causes.Code.{ruling_of, plainly, good_passing}
+use Rattle.rewriting.specs.Answers.{answered}
+use Rattle.rewriting.specs.declared.Refusal.{Refusal}
+use Rattle.property.specs.Causes.Code.{plainly, good_passing}
 use Rattle.property.specs.Causes.Laws.{Passing}
-use Rattle.property.specs.declared.ruling.PropertyRuling.{PropertyRuling}
-use Rattle.property.specs.declared.ruling.PropertyRuling.TheVariants as pr
+use Rattle.std.specs.Prelude.{Result, Ok}
 use Rattle.property.specs.Truth.{Truth, actions_of_nodes}
-use Rattle.trace.specs.Tables.{actions_of, stride, Tables}
+use Rattle.trace.specs.Tables.{actions_of, most_actions, stride, place_count, Tables}
 use Rattle.trace.specs.Active.{is_active}
 use Rattle.verdict.specs.declared.Verdict.{Verdict}
 use Rattle.trace.specs.Truth.{truth}
@@ -37,6 +38,15 @@ pub record Tabled (p file : List ℕ) (n : ℕ) (starts symbols classes : List �
   pub known : actions_of n ≤ length symbols
   pub wide : stride * actions_of n ≤ length classes
 
+-- lengths of tables that are enough for n nodes, and no more than what is enough for all
+pub record Long (starts symbols classes n : ℕ) : Type 0 where
+  pub many : n < starts
+  pub known : actions_of n ≤ symbols
+  pub wide : stride * actions_of n ≤ classes
+  pub starts_few : starts ≤ most_nodes + 1
+  pub symbols_few : symbols ≤ most_actions
+  pub classes_few : classes ≤ place_count
+
 -- the truth of the property over their trace, and the number of nodes with an action
 pub record Judged (r : Verdict) (P : Protocol) (xs : List Node) (φ : Formula) : Type 0 where
   pub truth_is : r.truth ≡ truth P xs φ
@@ -54,8 +64,8 @@ judged_holds {P = P} {xs} {φ} q j =
 -- ── for callers ──
 -- a property that is ruled good
 pub good_posed :
-    {p file s nodes : List ℕ} {n : ℕ} {P : Protocol} {xs : List Node} → RightNodes p s nodes n P xs → (o : PropertyRuling)
-    → ruling_of o ≡ plainly (property_ruling (property file (fact_arities P.symbols))) → o ≡ pr.Good
+    {p file s nodes : List ℕ} {n : ℕ} {P : Protocol} {xs : List Node} → RightNodes p s nodes n P xs → (o : Result (Unit {0}) Refusal)
+    → answered o ≡ plainly (property_ruling (property file (fact_arities P.symbols))) → o ≡ Ok tt
     → (φ : Formula) × Posed p file s nodes n P xs φ
 good_posed {file = file} {P = P} r o h g =
     let (φ, q) = good_passing (property file (fact_arities P.symbols)) o h g in (φ, record { right = r; passing = q })

@@ -1,17 +1,16 @@
 // The verdict on a property over the trace of right nodes: its truth, and how many nodes have an action.
 #![tactic(auto)]
 
-ghost use Rattle.std.specs.Prelude.{◌≤◌};
 ghost use Rattle.lists.specs.Asks.{Asks₃, Promises₃};
 ghost use Rattle.facts.specs.Writing.{fact_room};
 ghost use Rattle.facts.specs.Calls.{Room};
-ghost use Rattle.steps.specs.Table.{few_nodes};
-ghost use Rattle.verdict.specs.Judged.{Posed, Tabled, Judged};
+ghost use Rattle.verdict.specs.Judged.{Posed, Long, Tabled, Judged};
 
 use prepared::sections;
+use trace::tables::{CLASSES, FEW_CLASSES, FEW_STARTS, FEW_SYMBOLS, STARTS, SYMBOLS};
 use trace::{active, tables};
 
-#[derive(Drop)]
+#[derive(Clone, Copy)]
 pub struct Verdict {
     pub truth: bool,
     pub active: usize,
@@ -39,14 +38,11 @@ fn verdict_of(
         classes,
         trace::numbers::BASE,
     );
-    Verdict {
-        truth: truth,
-        active: active,
-    }
+    Verdict { truth, active }
 }
 
-// The verdict with tables for few nodes.
-fn judge_few(
+// The verdict with tables of these lengths.
+fn judge_with<const STARTS: usize, const SYMBOLS: usize, const CLASSES: usize>(
     p: &[u8],
     property: &[u8],
     s: &[u8],
@@ -54,40 +50,12 @@ fn judge_few(
     n: usize,
     work: &mut [u8],
 ) -> Verdict
-    requires { Asks₃ (Posed p.now property.now s.now nodes.now n) × Room work.old fact_room × (n ≤ few_nodes) }
+    requires { Asks₃ (Posed p.now property.now s.now nodes.now n) × Room work.old fact_room × Long STARTS SYMBOLS CLASSES n }
     ensures { Promises₃ (Posed p.now property.now s.now nodes.now n) (Judged result) }
 {
-    let mut starts = [0u32; tables::FEW_STARTS];
-    let mut symbols = [0u32; tables::FEW_SYMBOLS];
-    let mut classes = [0u32; tables::FEW_CLASSES];
-    tables::make_tables(
-        work,
-        p,
-        s,
-        nodes,
-        n,
-        &mut starts,
-        &mut symbols,
-        &mut classes,
-    );
-    verdict_of(p, property, n, &starts, &symbols, &classes)
-}
-
-// The verdict with tables for as many nodes as there may be.
-fn judge_many(
-    p: &[u8],
-    property: &[u8],
-    s: &[u8],
-    nodes: &[usize],
-    n: usize,
-    work: &mut [u8],
-) -> Verdict
-    requires { Asks₃ (Posed p.now property.now s.now nodes.now n) × Room work.old fact_room }
-    ensures { Promises₃ (Posed p.now property.now s.now nodes.now n) (Judged result) }
-{
-    let mut starts = [0u32; tables::STARTS];
-    let mut symbols = [0u32; tables::SYMBOLS];
-    let mut classes = [0u32; tables::CLASSES];
+    let mut starts = [0u32; STARTS];
+    let mut symbols = [0u32; SYMBOLS];
+    let mut classes = [0u32; CLASSES];
     tables::make_tables(
         work,
         p,
@@ -114,7 +82,7 @@ pub fn judge_nodes(
     ensures { Promises₃ (Posed p.now property.now s.now nodes.now n) (Judged result) }
 {
     if n <= steps::nodes::FEW_NODES {
-        return judge_few(p, property, s, nodes, n, work);
+        return judge_with::<FEW_STARTS, FEW_SYMBOLS, FEW_CLASSES>(p, property, s, nodes, n, work);
     }
-    judge_many(p, property, s, nodes, n, work)
+    judge_with::<STARTS, SYMBOLS, CLASSES>(p, property, s, nodes, n, work)
 }

@@ -2,7 +2,7 @@
 use Rattle.std.specs.Prelude.{ℕ, ◌+◌, ◌<◌, List, [], ◌∷◌, Bool, ◌≡◌, length, get_or}
 use Rattle.std.specs.Prelude.{Option, Some, None}
 use Rattle.std.proofs.lemmas.Option.{same_Some}
-use Rattle.std.proofs.Common.{ap, sym, ◌∙◌, subst, arith, eq-eqb, ne_eqb}
+use Rattle.std.proofs.Common.{ap, sym, ◌∙◌, subst, arith, eq-eqb}
 use Rattle.lists.specs.Choice.{pick}
 use Rattle.octets.specs.Head.{Bytes}
 use Rattle.number.specs.Reading.{got}
@@ -77,7 +77,3 @@ module _ {p s nodes : List ℕ} {j : ℕ} {P : Protocol} {x : Node} (h : NodeIn 
       subst (λ (o : Option ℕ). MadeIs o m) (sym n)
       (number_of s (slots_of p) (get_or nodes (places_at j) 0) bytes (get_or x.values 0 no_term) (get_or nodes (places_at j + (0 + 1)) 0)
       (ap (λ (k : ℕ). term s (slots_of p) (get_or nodes k 0)) (sym o) ∙ h.row.places 0 l) m q)
-
-  pub other_name : (number ≡ 0 → ⊥) → facts.made_name x ≡ None
-  other_name z =
-      ap (λ (b : Bool). pick b (fresh_number (value_at x.values 0)) None) (ne_eqb x.rule 0 (λ q. z (h.row.rule ∙ q)))

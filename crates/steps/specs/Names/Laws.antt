@@ -1,6 +1,6 @@
 -- The pass over the names by the nodes is crate rewriting's pass of cause 9.
 use Rattle.std.specs.Prelude.{ℕ, suc, ◌+◌, ◌<◌, ◌≤◌, List, [], ◌∷◌, ◌++◌, Bool, true, false, cond, ◌||◌, ◌≡◌, refl, eqb, leb, length, get_or, take, drop, set}
-use Rattle.std.proofs.Common.{append_assoc, append-nil, ap, ap₂, sym, ◌∙◌, subst, arith, drop_of_length-le, drop-cons, take-suc, get_or-set_same, get_or-set_other, eqb-true, eq-eqb, ne_eqb}
+use Rattle.std.proofs.Common.{append_assoc, append-nil, ap, ap₂, sym, ◌∙◌, subst, arith, drop-cons, take-suc, get_or-set_same, get_or-set_other, eqb-true, eq-eqb, ne_eqb}
 use Rattle.std.specs.Prelude.{zero, Option, Some, None, is_some}
 use Rattle.std.specs.List.{list_any}
 use Rattle.std.specs.Option.{option_eq, option_map}
@@ -19,7 +19,7 @@ use Rattle.steps.specs.Facts.{made_name}
 use Rattle.steps.specs.Runs.{rewrittens}
 use Rattle.term.specs.declared.Fresh.{Fresh}
 use Rattle.steps.specs.Nodes.{no_node}
-use Rattle.steps.specs.Names.{made_by, is_made, again_in, MadeIs, Entered}
+use Rattle.steps.specs.Names.{made_by, is_made, again_in, MadeIs, Entered, NamesOf}
 
 made_append : (xs ys : List Node) → made_by (xs ++ ys) ≡ made_by xs ++ made_by ys
 made_append [] ys = refl
@@ -84,30 +84,30 @@ entered_more names xs j e h l q = record {
       (λ a. absurd (omega arith));
 }
 
-module _ (names : List (Option ℕ)) (xs : List Node) (n : ℕ) (h : Entered names xs n) (few : n ≤ length xs) where
+module _ (names : List (Option ℕ)) (xs : List Node) (h : NamesOf names xs) where
   -- is a name among the first entries?
-  found_before : (m j : ℕ) → j ≤ n → j ≤ length names → list_any (λ o. option_eq eqb o (Some m)) (take j names) ≡ is_made m (take j xs)
-  found_before m zero l r = refl
-  found_before m (suc j) l r =
+  found_before : (m j : ℕ) → j ≤ length names → list_any (λ o. option_eq eqb o (Some m)) (take j names) ≡ is_made m (take j xs)
+  found_before m zero l = refl
+  found_before m (suc j) l =
       let k : suc j ≡ j + 1 = omega arith in
       ap (λ (i : ℕ). list_any (λ o. option_eq eqb o (Some m)) (take i names)) k
       ∙ list_any_more (λ o. option_eq eqb o (Some m)) names j None (omega arith)
-      ∙ ap₂ ◌||◌ (found_before m j (omega arith) (omega arith))
-      (ap (λ (o : Option ℕ). option_eq eqb o (Some m)) (h.each j (omega arith)) ∙ same_entry m (made_name (get_or xs j no_node)))
-      ∙ sym (made_step m xs no_node j (omega arith)) ∙ ap (λ (i : ℕ). is_made m (take i xs)) (sym k)
+      ∙ ap₂ ◌||◌ (found_before m j (omega arith))
+      (ap (λ (o : Option ℕ). option_eq eqb o (Some m)) (h.entered.each j (omega (arith, h.count))) ∙ same_entry m (made_name (get_or xs j no_node)))
+      ∙ sym (made_step m xs no_node j (omega (arith, h.count))) ∙ ap (λ (i : ℕ). is_made m (take i xs)) (sym k)
 
   -- the node's name is made by the nodes before it
-  pub again_some : (j : ℕ) → j < n → j ≤ length names → is_some (get_or names j None) ≡ true →
+  pub again_some : (j : ℕ) → j < length names → is_some (get_or names j None) ≡ true →
       list_any (λ o. option_eq eqb o (get_or names j None)) (take j names) ≡ again_in (take j xs) (made_name (get_or xs j no_node))
-  again_some j l r = go (get_or names j None) (h.each j l)
+  again_some j l = go (get_or names j None) (h.entered.each j (omega (arith, h.count)))
     where
       go : (o : Option ℕ) → o ≡ made_name (get_or xs j no_node) → is_some o ≡ true → list_any (λ x. option_eq eqb x o) (take j names) ≡ again_in (take j xs)
           (made_name (get_or xs j no_node))
       go None e q = absurd (true_false false q refl)
-      go (Some m) e q = found_before m j (omega arith) r ∙ ap (again_in (take j xs)) e
+      go (Some m) e q = found_before m j (omega arith) ∙ ap (again_in (take j xs)) e
 
-  pub again_none : (j : ℕ) → j < n → is_some (get_or names j None) ≡ false → false ≡ again_in (take j xs) (made_name (get_or xs j no_node))
-  again_none j l q = go (get_or names j None) (h.each j l) q
+  pub again_none : (j : ℕ) → j < length names → is_some (get_or names j None) ≡ false → false ≡ again_in (take j xs) (made_name (get_or xs j no_node))
+  again_none j l q = go (get_or names j None) (h.entered.each j (omega (arith, h.count))) q
     where
       go : (o : Option ℕ) → o ≡ made_name (get_or xs j no_node) → is_some o ≡ false → false ≡ again_in (take j xs) (made_name (get_or xs j no_node))
       go None e q = ap (again_in (take j xs)) e
@@ -122,9 +122,6 @@ module _ (p : Protocol) (d : Node) (xs : List Node) where
   -- what is left is what there was
   abbrev pub NamesLeft : ℕ → Type 0
   NamesLeft j = first_name_twice (rewrittens p xs) ≡ name_twice_from (j + 1) (made_by (take j xs)) (rewrittens p (drop j xs))
-
-  pub names_all : NamesLeft 0
-  names_all = refl
 
   step : (j : ℕ) (b : Bool) → j < length xs → again_in (take j xs) (made_name (get_or xs j d)) ≡ b → NamesLeft j
       → first_name_twice (rewrittens p xs)
@@ -142,10 +139,3 @@ module _ (p : Protocol) (d : Node) (xs : List Node) where
       step j false l t h
       ∙ ap (λ (m : List ℕ). name_twice_from (suc (j + 1)) m (rewrittens p (drop (suc j) xs))) (sym (made_more xs j d l))
       ∙ ap₂ (λ (k i : ℕ). name_twice_from k (made_by (take i xs)) (rewrittens p (drop i xs))) a b
-
-  pub names_twice : (j : ℕ) → j < length xs → again_in (take j xs) (made_name (get_or xs j d)) ≡ true → NamesLeft j → Some (j + 1) ≡ first_name_twice (rewrittens p xs)
-  names_twice j l t h = sym (step j true l t h)
-
-  pub names_none : (j : ℕ) → length xs ≤ j → NamesLeft j → None ≡ first_name_twice (rewrittens p xs)
-  names_none j l h =
-      sym (h ∙ ap (λ (ys : List Node). name_twice_from (j + 1) (made_by (take j xs)) (rewrittens p ys)) (drop_of_length-le xs l))

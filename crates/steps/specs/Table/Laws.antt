@@ -3,10 +3,9 @@ use Rattle.std.specs.Prelude.{ℕ, suc, ◌+◌, ◌*◌, ◌<◌, ◌≤◌, Li
 use Rattle.std.specs.Prelude.{Some}
 use Rattle.std.proofs.Common.{ap, sym, ◌∙◌, arith}
 use Rattle.lists.specs.All.Laws.{all_inside}
-use Rattle.lists.specs.Choice.{clash}
 use Rattle.octets.specs.Head.{Bytes}
 use Rattle.octets.specs.Limits.{longest}
-use Rattle.number.specs.Reading.{got, fault, below}
+use Rattle.number.specs.Reading.{got, below}
 use Rattle.number.specs.Reading.Numbers.{below_inside}
 use Rattle.term.specs.Reader.{term}
 use Rattle.protocol.specs.Figures.{variable_limit, list_count}
@@ -38,16 +37,6 @@ nodes_in prepared within count rows long short = record {
 -- ── rows for the most nodes are enough for every list ──
 pub all_rows : (s : List ℕ) → Bytes s → (at : ℕ) (nodes : List ℕ) → table_length ≤ length nodes → RowsOf s at nodes
 all_rows s bytes at nodes h n e q = omega (arith, (below_inside s (suc most_nodes) at bytes n e q).small)
-
--- a count tells whether nodes are few
-pub few_counted : (s : List ℕ) {n e : ℕ} → below s (suc most_nodes) 0 ≡ got n e → n ≤ few_nodes → FewNodes s
-few_counted s {n} {e} h l m d q =
-    let z : got n e ≡ got m d = sym h ∙ q in
-    let y : n ≡ m = cc in
-    omega arith
-
-pub few_uncounted : (s : List ℕ) → below s (suc most_nodes) 0 ≡ fault → FewNodes s
-few_uncounted s h m d q = let z : fault ≡ got m d = sym h ∙ q in clash (cc)
 
 -- those for few nodes for a list of few
 pub few_rows : (s : List ℕ) → FewNodes s → (nodes : List ℕ) → row_length * few_nodes ≤ length nodes → RowsOf s 0 nodes

@@ -1,6 +1,6 @@
 -- What code answers of a value.
 use Rattle.std.specs.Prelude.{ℕ, zero, suc, ◌≤◌, ◌<◌, List, [], Bool, true, false, not, ◌&&◌, ◌||◌, ◌≡◌, refl, length, ltb, eqb, ◌↔◌}
-use Rattle.std.proofs.Common.{append-nil, ap, ap₂, sym, ◌∙◌, subst, arith, lt-ltb, le-ltb, ne_eqb}
+use Rattle.std.proofs.Common.{append-nil, ap, ap₂, sym, ◌∙◌, subst, arith, lt-ltb, ne_eqb}
 use Rattle.std.proofs.Math.Bool.{and-false, and-true}
 use Rattle.std.specs.Prelude.{Option, Some, None}
 use Rattle.steps.specs.Values.{most_in_value}
@@ -175,11 +175,6 @@ module _ (file arities : List ℕ) (at : ℕ) (bytes : Bytes file) (t : Term) (e
 
 -- ── the whole test ──
 module _ (file arities : List ℕ) (at : ℕ) (t : Term) (e : ℕ) (v : ValueThere arities file at t e) (sort : ℕ) where
-  pub not_long : most_in_value < symbols t → false ≡ value_ok sort t
-  not_long h =
-      sym (ap (λ (b : Bool). not (holds t 0 0 number_limit) && (of_sort sort t && (b && is_canonical t))) (le-ltb (symbols t) (suc most_in_value) (omega arith))
-      ∙ ap (λ (b : Bool). not (holds t 0 0 number_limit) && b) (and-false (of_sort sort t)) ∙ and-false (not (holds t 0 0 number_limit)))
-
   pub not_sorted : of_sort sort t ≡ false → false ≡ value_ok sort t
   not_sorted h =
       sym (ap (λ (b : Bool). not (holds t 0 0 number_limit) && (b && (ltb (symbols t) (suc most_in_value) && is_canonical t))) h ∙ and-false

@@ -30,9 +30,6 @@ module _ {A : Type 0} (ok : A → Bool) (d : A) (xs : List A) where
   abbrev pub AllLeft : ℕ → Type 0
   AllLeft j = all_by ok xs ≡ all_by ok (drop j xs)
 
-  pub all_start : AllLeft 0
-  all_start = refl
-
   step : (j : ℕ) → j < length xs → AllLeft j → all_by ok xs ≡ (ok (get_or xs j d) && all_by ok (drop (j + 1) xs))
   step j l h =
       let b : suc j ≡ j + 1 = omega arith in

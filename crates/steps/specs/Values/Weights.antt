@@ -5,7 +5,6 @@ use Rattle.std.specs.Prelude.{Bool, true, false, ◌≡◌, length, get_or, ltb,
 use Rattle.std.proofs.Math.Path.{refl, ap, ap₂, sym}
 use Rattle.std.proofs.Common.{◌∙◌, lt-ltb, le-ltb}
 use native.Mathlib.Omega.{arith}
-use Rattle.std.proofs.Math.ListN.{get_or-eq_default}
 use Rattle.steps.specs.Values.{most_filled_in}
 use Rattle.lists.specs.Choice.{clash}
 use Rattle.octets.specs.Head.{Bytes}
@@ -204,24 +203,3 @@ module _ (file arities : List ℕ) (bytes : Bytes file) (w : ℕ → ℕ) (t : T
             };
           })
       go None y u d us hu hus z h = let q : None ≡ Some (a, k, e) = sym (ap (weight_of w) y) ∙ h in clash (cc)
-
--- ── a leaf ──
-module _ (sizes : List ℕ) (n : ℕ) where
-  pub size_in_lem : n < length sizes → get_or sizes n 0 ≡ size_in sizes n
-  size_in_lem l = go sizes n l
-    where
-      go : (l : List ℕ) (i : ℕ) → i < length l → get_or l i 0 ≡ get_or l i 1
-      go [] i h = absurd (omega arith)
-      go (x ∷ l) zero h = refl
-      go (x ∷ l) (suc i) h = go l i (omega arith)
-
-  pub size_out : length sizes ≤ n → 1 ≡ size_in sizes n
-  size_out l = sym (get_or-eq_default sizes 1 l)
-
-  pub leaf_variable : (t r : ℕ) → t ≡ 0 → r ≡ size_in sizes n → r ≡ leaf_weight (size_in sizes) (kind_of t) n
-  leaf_variable t r h k = k ∙ ap (λ (j : ℕ). leaf_weight (size_in sizes) (kind_of j) n) (sym h)
-
-  pub leaf_other : (t : ℕ) → (t ≡ 0 → ⊥) → 1 ≡ leaf_weight (size_in sizes) (kind_of t) n
-  leaf_other zero h = absurd (h refl)
-  leaf_other (suc zero) h = refl
-  leaf_other (suc (suc t)) h = refl

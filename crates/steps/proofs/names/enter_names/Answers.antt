@@ -1,5 +1,5 @@
 -- The invariant is that the first j entries are those of the nodes' names; each turn enters one.
-use Rattle.steps.specs.Names.Laws.{entered_none, entered_more, entry_made}
+use Rattle.steps.specs.Names.Laws.{entered_more, entry_made}
 use Rattle.steps.specs.Facts.{made_name}
 use Rattle.steps.specs.Table.Laws.{node_in}
 use Rattle.steps.specs.Nodes.{no_node}
@@ -13,10 +13,6 @@ use lib.ListN.{length, get_or, set, length-set}
 use mathlib.Core.Path.{◌≡◌, sym, ◌∙◌, subst}
 use native.Mathlib.Omega.{arith}
 use Rattle.steps.proofs.names.enter_names.Goals as goal
-
-pub loop-j-init : goal.loop-j-init
-loop-j-init c =
-    λ P xs h. entered_none _ xs
 
 pub made_at-requires : goal.made_at-requires
 made_at-requires c =
@@ -38,4 +34,7 @@ returns c =
     λ P xs h.
     let g = subst (λ (k : ℕ). NodesIn c.args.p.now c.args.s.now c.args.nodes.now k P xs) (sym c.loop-j.auto.names) h in
     let m : c.loop-j.j ≡ length xs = omega (arith, h.count, c.loop-j-test.false, c.loop-j.auto.j-end) in
-    subst (λ (k : ℕ). Entered c.loop-j.names xs k) m (c.loop-j.invariant P xs g)
+    record {
+      count = c.loop-j.auto.names ∙ sym h.count;
+      entered = subst (λ (k : ℕ). Entered c.loop-j.names xs k) m (c.loop-j.invariant P xs g);
+    }

@@ -1,5 +1,5 @@
 -- A node of rule 0 has one value, a fresh name at its place; a node of another rule makes none.
-use Rattle.steps.specs.Names.Code.{zero_name, other_name}
+use Rattle.steps.specs.Names.Code.{zero_name}
 use Rattle.prepared.specs.Prepared.Laws.{slots_length}
 use mathlib.Core.Path.{sym}
 use Rattle.steps.proofs.names.made_at.Goals as goal
@@ -11,7 +11,3 @@ slice_bounds-fresh_at-end c =
 pub returns-then-nodes-row-eq-MAKES_FRESH : goal.returns-then-nodes-row-eq-MAKES_FRESH
 returns-then-nodes-row-eq-MAKES_FRESH c =
     λ P x h. zero_name h (λ k. (c.type_inv.s k).fits) c.if-nodes-row-eq-MAKES_FRESH.true c.fresh_at.result c.fresh_at.ensures
-
-pub returns : goal.returns
-returns c =
-    λ P x h. other_name h c.if-nodes-row-eq-MAKES_FRESH.false

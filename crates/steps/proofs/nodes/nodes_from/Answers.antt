@@ -9,10 +9,6 @@ pub loop-j-init : goal.loop-j-init
 loop-j-init c =
     (refl, λ P f. passed_none P _ _ _ _)
 
-pub read_node-requires : goal.read_node-requires
-read_node-requires c =
-    (c.requires.0, c.requires.1, omega (arith, c.requires.2, c.loop-j-test.true), omega (arith, c.loop-j.invariant.0, c.requires.3))
-
 pub loop-j-preserved : goal.loop-j-preserved
 loop-j-preserved c = (
   omega (arith, c.read_node.auto, c.loop-j.invariant.0),

@@ -1,5 +1,5 @@
 -- The invariant is that searching on from node j finds what searching all finds; the first bad node ends it.
-use Rattle.steps.specs.Values.Scan.{rest_all, rest_more, rest_bad, rest_none}
+use Rattle.steps.specs.Values.Scan.{rest_more, rest_bad}
 use Rattle.steps.specs.Values.Tests.{node_terms_ok}
 use Rattle.steps.specs.Table.Laws.{node_in}
 use Rattle.steps.specs.Nodes.{no_node}
@@ -8,10 +8,6 @@ use mathlib.Core.Path.{sym, ◌∙◌}
 use lib.ListN.{length, get_or}
 use native.Mathlib.Omega.{arith}
 use Rattle.steps.proofs.size_pass.size_pass.Goals as goal
-
-pub loop-j-init : goal.loop-j-init
-loop-j-init c =
-    λ P xs h. rest_all (λ k. node_terms_ok P) no_node xs
 
 pub node_terms-requires : goal.node_terms-requires
 node_terms-requires c =
@@ -30,7 +26,3 @@ returns-then-not-node_terms c =
     λ P xs h.
     let l : c.loop-j.j < length xs = omega (arith, h.count) in
     rest_bad (λ k. node_terms_ok P) no_node xs _ l (sym (c.node_terms.ensures P _ (node_in h c.loop-j.j c.loop-j-test.true)) ∙ c.if-not-node_terms.true) (c.loop-j.invariant P xs h)
-
-pub returns : goal.returns
-returns c =
-    λ P xs h. rest_none (λ k. node_terms_ok P) no_node xs c.loop-j.j (omega (arith, h.count)) (c.loop-j.invariant P xs h)

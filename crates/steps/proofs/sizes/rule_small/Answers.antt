@@ -1,5 +1,5 @@
 -- The invariant is that the lists from j on decide; the prepared protocol has each list's place.
-use Rattle.steps.specs.Values.Parts.{all_start, all_more, all_bad, all_done, list_small}
+use Rattle.steps.specs.Values.Parts.{all_more, all_bad, all_done, list_small}
 use Rattle.steps.specs.Table.Laws.{of_listed, of_list, of_three}
 use Rattle.steps.specs.Values.Weights.{size_in}
 use Rattle.prepared.specs.Prepared.{ListAt}
@@ -9,10 +9,6 @@ use mathlib.Core.Path.{sym, ◌∙◌, subst}
 use lib.ListN.{length, get_or}
 use native.Mathlib.Omega.{arith}
 use Rattle.steps.proofs.sizes.rule_small.Goals as goal
-
-pub loop-j-init : goal.loop-j-init
-loop-j-init c =
-    λ P u h. all_start (list_small (size_in c.args.sizes.now)) [] u.lists
 
 pub list_place-requires : goal.list_place-requires
 list_place-requires c =

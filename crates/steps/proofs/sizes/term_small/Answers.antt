@@ -1,8 +1,5 @@
 -- The invariant is that the sum so far and the weight of the pending terms are the term's, which ends where they end; a sum past the limit only grows.
-use Rattle.steps.specs.Values.Weights.{going_starts, going_ends, going_long, going_more, going_fault, weight_small, size_in}
-use Rattle.term.specs.Reader.{symbol_at}
-use Rattle.octets.specs.Limits.{longest}
-use Prim.Native.Nat.{◌≤◌}
+use Rattle.steps.specs.Values.Weights.{going_starts, going_ends, going_long, going_more, going_fault, size_in}
 use mathlib.Core.Path.{sym, ◌∙◌}
 use native.Mathlib.Omega.{arith}
 use Rattle.steps.proofs.sizes.term_small.Goals as goal
@@ -10,12 +7,6 @@ use Rattle.steps.proofs.sizes.term_small.Goals as goal
 pub loop-pending-init : goal.loop-pending-init
 loop-pending-init c =
     (omega arith, omega arith, λ t e h. going_starts _ _ _ t e _ h)
-
-pub overflow_add-sum : goal.overflow_add-sum
-overflow_add-sum c =
-    let b : _ ≤ longest = weight_small (size_in c.args.sizes.now) longest (omega arith) c.requires.2
-    (symbol_at c.args.file.now c.args.arities.now c.loop-pending.i) (sym c.one_weight.ensures ∙ c.in_ok-a.was) in
-    omega (arith, b, c.loop-pending.invariant.1)
 
 pub returns-then-sum-gt-MOST_FILLED_IN : goal.returns-then-sum-gt-MOST_FILLED_IN
 returns-then-sum-gt-MOST_FILLED_IN c =

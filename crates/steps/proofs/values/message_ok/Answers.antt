@@ -1,17 +1,8 @@
 -- Over 128 symbols is too long; else the value's part of the file is the message that is_canonical decides, and it has no variables.
-use Rattle.steps.specs.Values.Code.{not_long, by_canonical, message, canonical_is}
+use Rattle.steps.specs.Values.Code.{by_canonical, message, canonical_is}
 use mathlib.Core.Path.{refl}
 use native.Mathlib.Omega.{arith}
 use Rattle.steps.proofs.values.message_ok.Goals as goal
-
-pub returns-then-size-gt-MOST_IN_VALUE : goal.returns-then-size-gt-MOST_IN_VALUE
-returns-then-size-gt-MOST_IN_VALUE c =
-    λ t v. not_long _ _ _ t _ v.is 0 (omega (arith, v.sized, c.if-size-gt-MOST_IN_VALUE.true))
-
-pub term_part-requires : goal.term_part-requires
-term_part-requires c =
-    let q = c.requires.1 in
-    q.1.is.short
 
 pub is_canonical-requires : goal.is_canonical-requires
 is_canonical-requires c =

@@ -1,14 +1,8 @@
 -- A name is canonical and small, so its sort alone decides; any other value fits the sort message only, by message_ok.
 use Rattle.steps.specs.Values.Code.{fresh_ok, public_ok, other_sort, not_sorted}
-use Rattle.steps.specs.Values.Tests.{value_ok}
 use Rattle.std.proofs.Common.{Some, ne_eqb}
-use Prim.Native.Nat.{ℕ}
-use mathlib.Core.Path.{ap, sym, ◌∙◌}
+use mathlib.Core.Path.{ap, ◌∙◌}
 use Rattle.steps.proofs.values.value_ok.Goals as goal
-
-pub returns-then-sort-eq-MESSAGE_SORT : goal.returns-then-sort-eq-MESSAGE_SORT
-returns-then-sort-eq-MESSAGE_SORT c =
-    λ t v. c.message_ok.ensures t v ∙ ap (λ (k : ℕ). value_ok k t) (sym c.if-sort-eq-MESSAGE_SORT.true)
 
 pub returns-in-Some-FreshName : goal.returns-in-Some-FreshName
 returns-in-Some-FreshName c =

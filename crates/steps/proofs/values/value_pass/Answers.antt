@@ -1,17 +1,13 @@
 -- The invariant is that searching on from node j finds what searching all finds; the first bad node ends it.
-use Rattle.steps.specs.Values.Scan.{rest_all, rest_more, rest_bad, rest_none}
+use Rattle.steps.specs.Values.Scan.{rest_more, rest_bad}
 use Rattle.steps.specs.Values.Tests.{node_values_ok}
 use Rattle.steps.specs.Table.Laws.{node_in}
 use Rattle.steps.specs.Nodes.{no_node}
 use Prim.Native.Nat.{◌<◌}
-use mathlib.Core.Path.{refl, sym, ◌∙◌}
+use mathlib.Core.Path.{sym, ◌∙◌}
 use lib.ListN.{length, get_or}
 use native.Mathlib.Omega.{arith}
 use Rattle.steps.proofs.values.value_pass.Goals as goal
-
-pub loop-j-init : goal.loop-j-init
-loop-j-init c =
-    (refl, λ P xs h. rest_all (λ k. node_values_ok P) no_node xs)
 
 pub node_values-requires : goal.node_values-requires
 node_values-requires c =
@@ -34,7 +30,3 @@ returns-then-not-node_values c =
     let l : c.loop-j.j < length xs = omega (arith, h.count) in
     rest_bad (λ k. node_values_ok P) no_node xs _ l (sym (c.node_values.ensures P _ (node_in h c.loop-j.j c.loop-j-test.true)) ∙ c.if-not-node_values.true)
     (c.loop-j.invariant.1 P xs h)
-
-pub returns : goal.returns
-returns c =
-    λ P xs h. rest_none (λ k. node_values_ok P) no_node xs c.loop-j.j (omega (arith, h.count)) (c.loop-j.invariant.1 P xs h)
