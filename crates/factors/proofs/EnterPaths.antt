@@ -10,7 +10,7 @@ use lib.Seq.{get_or-set_same, get_or-set_other, length-take-le}
 use borrow.Author.Tests.{lt-ltb, le-ltb, eqb-false}
 use lib.Dec.{eqb}
 use lib.IntN.{ℤ, ◌+ℤ◌, nat_abs}
-use mir.Syntax.{w32}
+use mir.Syntax.{w64}
 use mir.Val.{SFits, to_z, of_z}
 use Rattle.term.specs.Sizes.{most_symbols}
 use Rattle.lists.specs.Asks.{Asks₂, Promises₂}
@@ -252,7 +252,7 @@ module _ (key src : List ℕ) (T : List Entry) (n a : ℕ) where
       earlier : (j : ℕ) → j < i → order_at key src T j ≡ Greater
       earlier j h = order_as j (omega (arith, place_within)) ∙ F.before j h
 
-    new_back : to_z w32 (of_z w32 u) ≡ sign minus
+    new_back : to_z w64 (of_z w64 u) ≡ sign minus
     new_back = rw eu (back (sign minus) (omega (arith, sign_abs minus)))
 
     -- it stands there already
@@ -264,23 +264,23 @@ module _ (key src : List ℕ) (T : List Entry) (n a : ℕ) where
         small : nat_abs (power_of T i) ≤ mass l
         small = let j = inside in rows_abs src T 0 l X.table.rows i (omega arith) (omega (arith, j, X.table.many))
 
-        old_back : to_z w32 (of_z w32 (power_of T i)) ≡ power_of T i
+        old_back : to_z w64 (of_z w64 (power_of T i)) ≡ power_of T i
         old_back = back _ (omega (arith, small, X.few))
 
         sum_small : nat_abs (power_of T i +ℤ sign minus) < 2147483648
         sum_small = omega (arith, small, add_abs (power_of T i) (sign minus), sign_abs minus, X.few)
 
-        pub row_fits : SFits w32 (to_z w32 (of_z w32 (power_of T i)) +ℤ to_z w32 (of_z w32 u))
+        pub row_fits : SFits w64 (to_z w64 (of_z w64 (power_of T i)) +ℤ to_z w64 (of_z w64 u))
         row_fits = rw (old_back, new_back) (small_fits _ sum_small)
 
-        row_back : to_z w32 (of_z w32 (to_z w32 (of_z w32 (power_of T i)) +ℤ to_z w32 (of_z w32 u))) ≡ power_of T i +ℤ sign minus
+        row_back : to_z w64 (of_z w64 (to_z w64 (of_z w64 (power_of T i)) +ℤ to_z w64 (of_z w64 u))) ≡ power_of T i +ℤ sign minus
         row_back = rw (old_back, new_back) (back _ sum_small)
 
         pub entered_same :
             Table src (set T i (record {
               start = (entry T i).start;
               end = (entry T i).end;
-              power = to_z w32 (of_z w32 (to_z w32 (of_z w32 (power_of T i)) +ℤ to_z w32 (of_z w32 u)));
+              power = to_z w64 (of_z w64 (to_z w64 (of_z w64 (power_of T i)) +ℤ to_z w64 (of_z w64 u)));
             })) n (enter t (sign minus) l)
         entered_same =
             let g = inside in
@@ -294,7 +294,7 @@ module _ (key src : List ℕ) (T : List Entry) (n a : ℕ) where
             }
 
     -- it is new
-    module _ (h : same ≡ false) (T' : List Entry) (O : Opened T T' i n (record { start = a; end = a + length key; power = to_z w32 (of_z w32 u) })) where
+    module _ (h : same ≡ false) (T' : List Entry) (O : Opened T T' i n (record { start = a; end = a + length key; power = to_z w64 (of_z w64 u) })) where
       pub entered_new : (l : Exps) (t : Term) → Enter key src T n a l t → Table src T' (n + 1) (enter t (sign minus) l)
       entered_new l t X =
           let w = place_within (l, t, X) in
@@ -313,12 +313,12 @@ module _ (key src : List ℕ) (T : List Entry) (n a : ℕ) where
 pub appended :
     (src : List ℕ) (T : List Entry) (n a e : ℕ) (minus : Bool) (u : ℤ) → u ≡ sign minus → a ≤ e → e ≤ length src
     → Found (take (e - a) (drop a src)) src (take n T) n false → (l : Exps) (t : Term) → Enter (take (e - a) (drop a src)) src T n a l t
-    → Table src (set T n (record { start = a; end = e; power = to_z w32 (of_z w32 u) })) (n + 1) (enter t (sign minus) l)
+    → Table src (set T n (record { start = a; end = e; power = to_z w64 (of_z w64 u) })) (n + 1) (enter t (sign minus) l)
 appended src T n a e minus u eu h g F l t X =
     let q : a + length (take (e - a) (drop a src)) ≡ e =
     omega (arith, length-take-le (e - a) (drop a src) (rw length-drop (omega arith))) in
     let m = enter_few (take (e - a) (drop a src)) src T n a (l, t, X) in
-    subst (λ (z : ℕ). Table src (set T n (record { start = a; end = z; power = to_z w32 (of_z w32 u) })) (n + 1) (enter t (sign minus) l)) q
+    subst (λ (z : ℕ). Table src (set T n (record { start = a; end = z; power = to_z w64 (of_z w64 u) })) (n + 1) (enter t (sign minus) l)) q
     (entered_new (take (e - a) (drop a src)) src T n a minus n false F u eu refl _
     (record {
       here = get_or-set_same T n _ _ m;

@@ -26,12 +26,13 @@ pub const FIRST_FUNCTION: u8 = term::FIRST_FUNCTION as u8;
 // The bytes of a leaf whose number is one byte.
 pub const SHORT_LEAF: usize = 2;
 
-// A factor in the table: where its bytes begin in the caller's slice, where they end, and its exponent.
+// A factor in the table: where its bytes begin in the caller's slice, where they end, and its exponent. Sixteen bytes in all, since entries are moved
+// and these move at once.
 #[derive(Clone, Copy)]
 pub struct Entry {
     pub start: u32,
     pub end: u32,
-    pub power: i32,
+    pub power: i64,
 }
 
 // What to do with the term at a place: walk its arguments, so many from a place on, with the same sign or the other; or enter it as a factor,
@@ -108,7 +109,7 @@ fn find_place(key: &[u8], src: &[u8], entries: &[Entry], hint: usize) -> Result<
 }
 
 // The exponent of one factor.
-fn unit(minus: bool) -> i32
+fn unit(minus: bool) -> i64
     ensures { result ≡ sign minus }
 {
     if minus { -1 } else { 1 }

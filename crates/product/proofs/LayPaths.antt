@@ -8,7 +8,7 @@ use lib.Dec.{ltb}
 use lib.ListN.{length, take, set, length-append, length-set}
 use lib.Seq.{take_all}
 use borrow.Author.Tests.{lt-ltb, le-ltb}
-use mir.Syntax.{w32}
+use mir.Syntax.{w64}
 use mir.Val.{to_z, of_z}
 use Rattle.term.specs.Tags.{inv_tag, mul_tag}
 use Rattle.lists.specs.Asks.{Asks, Promises}
@@ -121,7 +121,7 @@ module _ (T : List Entry) where
         go (part t k r) e c = absurd (omega (arith, G.within))
 
     module _ (out : List ℕ) (el : length out ≡ length out₀) (p i : ℕ) (h : i < length T) (H : Small T) (c : ℕ)
-        (ec : c ≡ rise m (to_z w32 (of_z w32 (power_of T i)))) (j : ℕ) (N : Next T (i + 1) m j)
+        (ec : c ≡ rise m (to_z w64 (of_z w64 (power_of T i)))) (j : ℕ) (N : Next T (i + 1) m j)
         (more : Bool) (em : more ≡ ltb j (length T)) where
       abbrev pub cs : List ℕ
       cs = copies c (bytes_in out (entry T i).start (entry T i).end) more

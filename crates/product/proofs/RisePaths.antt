@@ -9,7 +9,7 @@ use lib.ListN.{length}
 use lib.IntN.{ℤ, pos, negsuc, ◌-ℤ◌, neg_ℤ, nat_abs, +ℤ_idl}
 use lib.Dec.{T}
 use lib.Signed.{lt_z, non_neg}
-use mir.Syntax.{w32, w64}
+use mir.Syntax.{w64}
 use mir.Val.{Fits, SFits, to_z, of_z}
 use borrow.Author.Tests.{ltb-true, ltb-false}
 use Rattle.lists.specs.Choice.{clash}
@@ -35,54 +35,54 @@ up_yes (pos (suc n)) h = (n, refl)
 up_yes (negsuc n) h = clash (cc)
 
 module _ (p : ℤ) (h : nat_abs p < signed_limit) where
-  p_back : to_z w32 (of_z w32 p) ≡ p
+  p_back : to_z w64 (of_z w64 p) ≡ p
   p_back = back p (omega arith)
 
-  turned : pos 0 -ℤ to_z w32 (of_z w32 p) ≡ neg_ℤ p
+  turned : pos 0 -ℤ to_z w64 (of_z w64 p) ≡ neg_ℤ p
   turned = ap (λ z. pos 0 -ℤ z) p_back ∙ +ℤ_idl (neg_ℤ p)
 
-  pub turn_fits : SFits w32 (pos 0 -ℤ to_z w32 (of_z w32 p))
+  pub turn_fits : SFits w64 (pos 0 -ℤ to_z w64 (of_z w64 p))
   turn_fits = rw turned (small_fits (neg_ℤ p) (omega (arith, neg_abs p)))
 
-  turned_back : to_z w32 (of_z w32 (pos 0 -ℤ to_z w32 (of_z w32 p))) ≡ neg_ℤ p
+  turned_back : to_z w64 (of_z w64 (pos 0 -ℤ to_z w64 (of_z w64 p))) ≡ neg_ℤ p
   turned_back = rw turned (back (neg_ℤ p) (omega (arith, neg_abs p)))
 
-  module _ (g : lt_z (to_z w32 (of_z w32 p)) (pos 0) ≡ true) where
+  module _ (g : lt_z (to_z w64 (of_z w64 p)) (pos 0) ≡ true) where
     below : (n : ℕ) × (p ≡ negsuc n)
     below = down_yes p (ap (λ z. lt_z z (pos 0)) (sym p_back) ∙ g)
 
     pub down_casts :
-        T (non_neg (to_z w32 (of_z w32 (pos 0 -ℤ to_z w32 (of_z w32 p)))))
-        × Fits w64 (nat_abs (to_z w32 (of_z w32 (pos 0 -ℤ to_z w32 (of_z w32 p)))))
+        T (non_neg (to_z w64 (of_z w64 (pos 0 -ℤ to_z w64 (of_z w64 p)))))
+        × Fits w64 (nat_abs (to_z w64 (of_z w64 (pos 0 -ℤ to_z w64 (of_z w64 p)))))
     down_casts =
         let w = below in
         let l : nat_abs p ≡ suc w.0 = ap nat_abs w.1 in
         rw (turned_back, w.1) (tt, record { fits = omega arith })
 
-    pub down_is : (m : Bool) → m ≡ true → nat_abs (to_z w32 (of_z w32 (pos 0 -ℤ to_z w32 (of_z w32 p)))) ≡ rise m p
+    pub down_is : (m : Bool) → m ≡ true → nat_abs (to_z w64 (of_z w64 (pos 0 -ℤ to_z w64 (of_z w64 p)))) ≡ rise m p
     down_is m e = let w = below in rw (turned_back, w.1, e)
 
-  pub down_not : lt_z (to_z w32 (of_z w32 p)) (pos 0) ≡ false → (m : Bool) → m ≡ true → 0 ≡ rise m p
+  pub down_not : lt_z (to_z w64 (of_z w64 p)) (pos 0) ≡ false → (m : Bool) → m ≡ true → 0 ≡ rise m p
   down_not g m e = rw e (go p (ap (λ z. lt_z z (pos 0)) (sym p_back) ∙ g))
     where
       go : (k : ℤ) → lt_z k (pos 0) ≡ false → 0 ≡ rise true k
       go (pos n) h = refl
       go (negsuc n) h = clash (cc)
 
-  module _ (g : lt_z (pos 0) (to_z w32 (of_z w32 p)) ≡ true) where
+  module _ (g : lt_z (pos 0) (to_z w64 (of_z w64 p)) ≡ true) where
     above : (n : ℕ) × (p ≡ pos (suc n))
     above = up_yes p (ap (lt_z (pos 0)) (sym p_back) ∙ g)
 
-    pub up_casts : T (non_neg (to_z w32 (of_z w32 p))) × Fits w64 (nat_abs (to_z w32 (of_z w32 p)))
+    pub up_casts : T (non_neg (to_z w64 (of_z w64 p))) × Fits w64 (nat_abs (to_z w64 (of_z w64 p)))
     up_casts =
         let w = above in
         let l : nat_abs p ≡ suc w.0 = ap nat_abs w.1 in
         rw (p_back, w.1) (tt, record { fits = omega arith })
 
-    pub up_is : (m : Bool) → m ≡ false → nat_abs (to_z w32 (of_z w32 p)) ≡ rise m p
+    pub up_is : (m : Bool) → m ≡ false → nat_abs (to_z w64 (of_z w64 p)) ≡ rise m p
     up_is m e = let w = above in rw (p_back, w.1, e)
 
-  pub up_not : lt_z (pos 0) (to_z w32 (of_z w32 p)) ≡ false → (m : Bool) → m ≡ false → 0 ≡ rise m p
+  pub up_not : lt_z (pos 0) (to_z w64 (of_z w64 p)) ≡ false → (m : Bool) → m ≡ false → 0 ≡ rise m p
   up_not g m e = rw e (go p (ap (lt_z (pos 0)) (sym p_back) ∙ g))
     where
       go : (k : ℤ) → lt_z (pos 0) k ≡ false → 0 ≡ rise false k
@@ -95,13 +95,13 @@ module _ (T : List Entry) (i : ℕ) (m : Bool) (small : Small T) where
   Zeros j = (k : ℕ) → i ≤ k → k < j → rise m (power_of T k) ≡ 0
 
   module _ (j : ℕ) (l : j < length T) where
-    at_back : to_z w32 (of_z w32 (power_of T j)) ≡ power_of T j
+    at_back : to_z w64 (of_z w64 (power_of T j)) ≡ power_of T j
     at_back = back _ (omega (arith, small j l))
 
-    pub rises_asks : nat_abs (to_z w32 (of_z w32 (power_of T j))) < signed_limit
+    pub rises_asks : nat_abs (to_z w64 (of_z w64 (power_of T j))) < signed_limit
     rises_asks = rw at_back (small j l)
 
-    module _ (c : ℕ) (e : c ≡ rise m (to_z w32 (of_z w32 (power_of T j)))) where
+    module _ (c : ℕ) (e : c ≡ rise m (to_z w64 (of_z w64 (power_of T j)))) where
       pub rises_is : c ≡ rise m (power_of T j)
       rises_is = e ∙ ap (rise m) at_back
 

@@ -31,7 +31,7 @@ abbrev pub NextIs : List Entry → ℕ → Bool → Option ℕ → Type 0
 NextIs T i m (Some r) = Next T i m r × (r < length T)
 NextIs T i m None = Next T i m (length T)
 
--- below it a whole number in 32 bits can turn its sign
+-- below it the code can turn a whole number's sign
 abbrev pub signed_limit : ℕ
 signed_limit = 2 ^ 31 - 1
 

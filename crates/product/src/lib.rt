@@ -29,7 +29,7 @@ const INV: u8 = term::INV as u8;
 const MUL: u8 = term::MUL as u8;
 
 // How often a factor of exponent p stands on the side of the sign; true is minus.
-fn rises(p: i32, minus: bool) -> usize
+fn rises(p: i64, minus: bool) -> usize
     requires { nat_abs p < signed_limit }
     ensures { result ≡ rise minus p }
 {
