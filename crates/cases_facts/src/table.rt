@@ -15,7 +15,8 @@ const MOST_ARGUMENTS: usize = 256;
 // The lists of facts of a node: premises, actions, conclusions.
 const LISTS: usize = protocol::figures::LISTS;
 
-// The n nodes of a step list, their rows, and the prepared protocol that they are read under.
+// The n nodes of a step list, their rows, and the prepared protocol that they are read under. That they are right stays a clause of each
+// function: the clause gives the trees that the calls of crate facts ask for, and a ghost field cannot.
 #[derive(Clone, Copy)]
 pub struct NodeTable<'a> {
     pub p: &'a [u8],
