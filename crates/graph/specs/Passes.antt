@@ -9,6 +9,7 @@ use Rattle.std.proofs.Math.Path.{refl, ap, ap₂}
 use Rattle.std.proofs.Common.{sym, ◌∙◌, eq-eqb, ne_eqb, get_or-take, get_or-drop}
 use native.Mathlib.Omega.{arith}
 use Rattle.std.proofs.Math.ListN.{get_or}
+use Rattle.lists.specs.Asks.{Asks₃, Promises₃}
 use Rattle.lists.specs.Tests.{gt_leb}
 use Rattle.lists.specs.Below.{all_below, all_stop, below_from}
 use Rattle.lists.specs.Lists.{all_by}
@@ -22,7 +23,7 @@ use Rattle.steps.specs.Facts.{facts_of, is_linear}
 use Rattle.steps.specs.Facts.Counts.{facts_few}
 use Rattle.steps.specs.Runs.{protocol_facts, rewritten}
 use Rattle.steps.specs.Table.{NodeIn}
-use Rattle.facts.specs.Calls.{fact_at}
+use Rattle.facts.specs.Calls.{NodeOf, fact_at}
 use Rattle.graph.specs.Graph.{place_of}
 use Rattle.graph.specs.Uses.{capped, CountsOf}
 
@@ -40,6 +41,20 @@ fed_at uses j i = eqb (get_or uses (most_facts * j + i) 0) 1
 
 abbrev pub free_at : Protocol → Node → List ℕ → ℕ → ℕ → Bool
 free_at P x uses j i = not (is_linear P (fact_at P conclusion_list i x)) || leb (get_or uses (most_facts * j + i) 0) 1
+
+-- ── what code asks, and what it answers, of node j, from 0 ──
+abbrev pub CountsAsked : List ℕ → List ℕ → List ℕ → ℕ → Type 0
+CountsAsked p nodes uses j = Asks₃ (NodeOf p nodes j) × (most_facts * (j + 1) ≤ length uses)
+
+-- where the counts are those of some edges
+abbrev pub PremisesTold : List ℕ → List ℕ → List ℕ → ℕ → Bool → Type 0
+PremisesTold p nodes uses j r =
+    Promises₃ (NodeOf p nodes j) (λ (s : List ℕ) (P : Protocol) (x : Node). (es : List Edge) → Into uses es → r ≡ premises_ok (protocol_facts P) es (j + 1) (rewritten P x))
+
+abbrev pub ConclusionsTold : List ℕ → List ℕ → List ℕ → ℕ → Bool → Type 0
+ConclusionsTold p nodes uses j r =
+    Promises₃ (NodeOf p nodes j)
+    (λ (s : List ℕ) (P : Protocol) (x : Node). (es : List Edge) → OutOf uses es → r ≡ conclusions_ok (protocol_facts P) es (j + 1) (rewritten P x))
 
 -- what they tell
 capped_one : (n : ℕ) → eqb (capped n) 1 ≡ eqb n 1

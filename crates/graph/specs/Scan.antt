@@ -64,11 +64,15 @@ module _ {A : Type 0} {d : A} {ys : List A} {n : ℕ} {item : ℕ → A} (listed
       let one : j + 1 ≡ suc j = omega arith in
       subst (Rest ok d ys) one (scan_more listed ok j (omega arith) (sym (h j (omega arith))) refl (rest_to j (omega arith) (λ k a. h k (omega arith))))
 
-  pub searched_none : ((k : ℕ) → 0 ≤ k → k < n → Passes k) → None ≡ first_bad ok 1 ys
-  searched_none h = scan_none listed ok n (omega arith) (rest_to n (omega arith) (λ k l. h k (omega arith) l))
-
-  pub searched_some : (j : ℕ) → j < n → Fails j → ((k : ℕ) → 0 ≤ k → k < j → Passes k) → Some (j + 1) ≡ first_bad ok 1 ys
-  searched_some j l f h = scan_bad listed ok j l (sym f) refl (rest_to j (omega arith) (λ k a. h k (omega arith) a))
+  -- so the least of them is the first bad one
+  pub searched :
+      (r : Option ℕ) → (r ≡ None → (j : ℕ) → j < n → Passes j)
+      → ((k : ℕ) → r ≡ Some k → (j : ℕ) × (k ≡ j + 1) × (j < n) × Fails j × ((i : ℕ) → i < j → Passes i))
+      → r ≡ first_bad ok 1 ys
+  searched None none some = scan_none listed ok n (omega arith) (rest_to n (omega arith) (none refl))
+  searched (Some k) none some =
+      let (j, is, l, f, before) = some k refl in
+      ap Some is ∙ scan_bad listed ok j l (sym f) refl (rest_to j (omega arith) before)
 
 -- where a pass finds none, each passes the test
 pub none_bad : {A : Type 0} (ok : A → Bool) (d : A) (ys : List A) → first_bad (λ k. ok) 1 ys ≡ None → (j : ℕ) → j < length ys → ok (get_or ys j d) ≡ true

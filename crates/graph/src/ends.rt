@@ -12,7 +12,7 @@ ghost use Rattle.graph.specs.Graph.{Graph, place_of};
 ghost use Rattle.graph.specs.Table.{edge_fields, edge_at, NodesOf, GraphOf};
 ghost use Rattle.graph.specs.Ends.{has_fact};
 
-use crate::edges;
+use crate::{edges, scan};
 use facts::counts;
 use protocol::figures;
 
@@ -55,6 +55,5 @@ pub fn end_pass(p: &[u8], nodes: &[usize], n: usize, edges: &[u32], m: usize) ->
     requires { Asks₃ (GraphOf p.now nodes.now n edges.now m) }
     ensures { Promises₃ (GraphOf p.now nodes.now n edges.now m) (λ (s : List ℕ) (P : Protocol) (g : Graph). result ≡ first_bad (λ (k : ℕ) (e : Edge). ends_ok (protocol_facts P) (rewrittens P g.nodes) e) 1 g.edges) }
 {
-    let bad = (0..m).find(|&j| !ends_ok(p, nodes, n, edges, j))?;
-    Some(bad + 1)
+    scan::first_failing(m, |j| ends_ok(p, nodes, n, edges, j))
 }

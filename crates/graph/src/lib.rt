@@ -3,6 +3,7 @@
 
 pub mod edges; // read into a table of numbers
 pub mod reading; // 3 and 6 of a graph file
+pub mod scan; // the least item that fails a test
 pub mod ends; // 10: an end is missing, or the source is not earlier
 pub mod joins; // 11: the facts differ
 pub mod uses; // how often each fact is an end of an edge

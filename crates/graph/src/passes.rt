@@ -13,9 +13,9 @@ ghost use Rattle.facts.specs.Calls.{NodeOf, ListedFact, fact_at};
 ghost use Rattle.graph.specs.Graph.{Graph};
 ghost use Rattle.graph.specs.Table.{NodesOf};
 ghost use Rattle.graph.specs.Joins.{EndedOf};
-ghost use Rattle.graph.specs.Passes.{Into, OutOf};
+ghost use Rattle.graph.specs.Passes.{CountsAsked, PremisesTold, ConclusionsTold};
 
-use crate::{edges, uses};
+use crate::{edges, scan, uses};
 use facts::nodes::FactId;
 use facts::{counts, symbols};
 use protocol::figures;
@@ -25,26 +25,12 @@ const ONE: u8 = 1;
 
 // Whether just one edge goes into each premise of node j, from 0.
 fn premises_ok(p: &[u8], nodes: &[usize], j: usize, uses: &[u8]) -> bool
-    requires { Asks₃ (NodeOf p.now nodes.now j) × (most_facts * (j + 1) ≤ length uses.now) }
-    ensures { Promises₃ (NodeOf p.now nodes.now j) (λ (s : List ℕ) (P : Protocol) (x : Node). (es : List Edge) → Into uses.now es → result ≡ premises_ok (protocol_facts P) es (j + 1) (rewritten P x)) }
+    requires { CountsAsked p.now nodes.now uses.now j }
+    ensures { PremisesTold p.now nodes.now uses.now j result }
 {
     let count = counts::fact_count(p, nodes, j, figures::PREMISES);
     let first = figures::MOST_FACTS * j;
     uses[first..first + count].iter().all(|&c| c == ONE)
-}
-
-// The least node that has a premise without exactly one edge, by the counts. This and least_spent stay two: for one loop over a test that is
-// passed in, or `find`, the proof did not close, since it must know of each call which node's edges the counts are of.
-fn least_unfed(p: &[u8], nodes: &[usize], n: usize, uses: &[u8]) -> Option<usize>
-    requires { Asks₃ (NodesOf p.now nodes.now n) × (most_facts * n ≤ length uses.now) }
-    ensures { Promises₃ (NodesOf p.now nodes.now n) (λ (s : List ℕ) (P : Protocol) (xs : List Node). (es : List Edge) → Into uses.now es → result ≡ first_bad (premises_ok (protocol_facts P) es) 1 (rewrittens P xs)) }
-{
-    for j in 0..n {
-        if !premises_ok(p, nodes, j, uses) {
-            return Some(j + 1);
-        }
-    }
-    None
 }
 
 // Whether a conclusion that is so often the source of an edge is persistent, or used once at most.
@@ -63,8 +49,8 @@ fn one_out(p: &[u8], nodes: &[usize], x: FactId, count: u8) -> bool
 
 // Whether at most one edge goes out of each linear conclusion of node j, from 0.
 fn conclusions_ok(p: &[u8], nodes: &[usize], j: usize, uses: &[u8]) -> bool
-    requires { Asks₃ (NodeOf p.now nodes.now j) × (most_facts * (j + 1) ≤ length uses.now) }
-    ensures { Promises₃ (NodeOf p.now nodes.now j) (λ (s : List ℕ) (P : Protocol) (x : Node). (es : List Edge) → OutOf uses.now es → result ≡ conclusions_ok (protocol_facts P) es (j + 1) (rewritten P x)) }
+    requires { CountsAsked p.now nodes.now uses.now j }
+    ensures { ConclusionsTold p.now nodes.now uses.now j result }
 {
     let count = counts::fact_count(p, nodes, j, figures::CONCLUSIONS);
     let first = figures::MOST_FACTS * j;
@@ -81,19 +67,6 @@ fn conclusions_ok(p: &[u8], nodes: &[usize], j: usize, uses: &[u8]) -> bool
     true
 }
 
-// The least node that has a linear conclusion used twice, by the counts.
-fn least_spent(p: &[u8], nodes: &[usize], n: usize, uses: &[u8]) -> Option<usize>
-    requires { Asks₃ (NodesOf p.now nodes.now n) × (most_facts * n ≤ length uses.now) }
-    ensures { Promises₃ (NodesOf p.now nodes.now n) (λ (s : List ℕ) (P : Protocol) (xs : List Node). (es : List Edge) → OutOf uses.now es → result ≡ first_bad (conclusions_ok (protocol_facts P) es) 1 (rewrittens P xs)) }
-{
-    for j in 0..n {
-        if !conclusions_ok(p, nodes, j, uses) {
-            return Some(j + 1);
-        }
-    }
-    None
-}
-
 // 12: the least node that has a premise without exactly one edge. The counts go into the lent part.
 pub fn premise_pass(
     p: &[u8],
@@ -107,7 +80,13 @@ pub fn premise_pass(
     ensures { Promises₃ (EndedOf p.now nodes.now n edges.now m) (λ (s : List ℕ) (P : Protocol) (g : Graph). result ≡ first_bad (premises_ok (protocol_facts P) g.edges) 1 (rewrittens P g.nodes)) }
 {
     uses::count_ends(edges, m, edges::TARGET, uses);
-    least_unfed(p, nodes, n, uses)
+    scan::first_failing(
+        n,
+        |j|
+            requires { CountsAsked p.now nodes.now uses.now j }
+            ensures { PremisesTold p.entry.now nodes.entry.now uses.entry.now j result }
+        { premises_ok(p, nodes, j, uses) },
+    )
 }
 
 // 13: the least node that has a linear conclusion used twice.
@@ -123,5 +102,11 @@ pub fn conclusion_pass(
     ensures { Promises₃ (EndedOf p.now nodes.now n edges.now m) (λ (s : List ℕ) (P : Protocol) (g : Graph). result ≡ first_bad (conclusions_ok (protocol_facts P) g.edges) 1 (rewrittens P g.nodes)) }
 {
     uses::count_ends(edges, m, edges::SOURCE, uses);
-    least_spent(p, nodes, n, uses)
+    scan::first_failing(
+        n,
+        |j|
+            requires { CountsAsked p.now nodes.now uses.now j }
+            ensures { ConclusionsTold p.entry.now nodes.entry.now uses.entry.now j result }
+        { conclusions_ok(p, nodes, j, uses) },
+    )
 }

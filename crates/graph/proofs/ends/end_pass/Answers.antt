@@ -1,40 +1,24 @@
--- The search stops at the first edge whose ends are not right.
-use Rattle.std.proofs.Common.{rules, tests, arith, ◌≡◌, Bool, true, false, ℕ, List, sym, ◌∙◌}
-use Rattle.std.specs.Prelude.{⊤}
-use Rattle.std.proofs.lemmas.Iterator.{first_from_Range}
-use Rattle.std.proofs.lemmas.Option.{MatchOption-at_none, MatchOption-at_some}
+-- The least edge whose ends are not right is the first bad one.
+use Rattle.std.proofs.Common.{rules, tests, ◌≡◌, Bool, ℕ, List, sym}
 use Rattle.lists.specs.Asks.{Promises₃}
 use Rattle.protocol.specs.Protocol.{Protocol}
 use Rattle.steps.specs.Nodes.{Node}
 use Rattle.rewriting.specs.Checker.{ends_ok}
 use Rattle.steps.specs.Runs.{protocol_facts, rewrittens}
-use Rattle.graph.specs.Table.{edge_at, NodesOf}
-use Rattle.graph.specs.Scan.{edges_listed, searched_none, searched_some}
+use Rattle.graph.specs.Graph.{Graph}
+use Rattle.graph.specs.Table.{edge_at, NodesOf, GraphIn}
+use Rattle.graph.specs.Scan.{edges_listed, searched}
 use Rattle.graph.proofs.ends.end_pass.Goals as goal
 
-pub returns-in_err-bad : goal.returns-in_err-bad
-returns-in_err-bad c =
-    λ s P g h.
-    let told = λ (j : ℕ) (r : Bool) (t : Promises₃ (NodesOf c.args.p.now c.args.nodes.now c.args.n) (λ (s : List ℕ) (P : Protocol) (xs : List Node). r ≡ ends_ok (protocol_facts P) (rewrittens P xs) (edge_at c.args.edges.now j))).
-    (sym (t s P g.nodes h.nodes_in.stand)) in
-    let found = first_from_Range _ _ _ _ (λ j. ends_ok (protocol_facts P) (rewrittens P g.nodes) (edge_at c.args.edges.now j) ≡ false)
-    (λ j. ends_ok (protocol_facts P) (rewrittens P g.nodes) (edge_at c.args.edges.now j) ≡ true) c.find.ensures.ran
-    (λ x q k. search (rules, tests, told)) (λ x q k. (search rules, search (rules, tests, told))) in
-    c.from_residual.ensures ∙ searched_none (edges_listed h.edges_in) (λ k. ends_ok (protocol_facts P) (rewrittens P g.nodes))
-    (MatchOption-at_none _ _ c.in_err-bad.was found)
-
-pub overflow_add-result : goal.overflow_add-result
-overflow_add-result c =
-    let found = first_from_Range _ _ _ _ (λ j. ⊤) (λ j. ⊤) c.find.ensures.ran (λ x q k. tt) (λ x q k. (search rules, tt)) in
-    omega (arith, (MatchOption-at_some _ _ _ c.in_ok-bad.was found).1)
+told :
+    {p s nodes : List ℕ} {n : ℕ} (edges : List ℕ) {m : ℕ} {P : Protocol} {g : Graph} → GraphIn p s nodes n edges m P g → (j : ℕ) (r : Bool)
+    → Promises₃ (NodesOf p nodes n) (λ (s : List ℕ) (P : Protocol) (xs : List Node). r ≡ ends_ok (protocol_facts P) (rewrittens P xs) (edge_at edges j))
+    → ends_ok (protocol_facts P) (rewrittens P g.nodes) (edge_at edges j) ≡ r
+told edges h j r t = sym (t _ _ _ h.nodes_in.stand)
 
 pub returns : goal.returns
 returns c =
-    λ s P g h.
-    let told = λ (j : ℕ) (r : Bool) (t : Promises₃ (NodesOf c.args.p.now c.args.nodes.now c.args.n) (λ (s : List ℕ) (P : Protocol) (xs : List Node). r ≡ ends_ok (protocol_facts P) (rewrittens P xs) (edge_at c.args.edges.now j))).
-    (sym (t s P g.nodes h.nodes_in.stand)) in
-    let found = first_from_Range _ _ _ _ (λ j. ends_ok (protocol_facts P) (rewrittens P g.nodes) (edge_at c.args.edges.now j) ≡ false)
-    (λ j. ends_ok (protocol_facts P) (rewrittens P g.nodes) (edge_at c.args.edges.now j) ≡ true) c.find.ensures.ran
-    (λ x q k. search (rules, tests, told)) (λ x q k. (search rules, search (rules, tests, told))) in
-    let bad = MatchOption-at_some _ _ _ c.in_ok-bad.was found in
-    searched_some (edges_listed h.edges_in) (λ k. ends_ok (protocol_facts P) (rewrittens P g.nodes)) _ bad.1 bad.2 bad.3
+    λ s P g h. searched (edges_listed h.edges_in) (λ k. ends_ok (protocol_facts P) (rewrittens P g.nodes)) _
+    (λ e j l. let p = c.first_failing.ensures.none e j l in search (rules, tests, told c.args.edges.now h j))
+    (λ k e. let (j, is, l, f, before) = c.first_failing.ensures.some k e in
+    (j, is, l, search (rules, tests, told c.args.edges.now h j), λ i b. let p = before i b in search (rules, tests, told c.args.edges.now h i)))
