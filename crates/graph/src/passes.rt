@@ -1,17 +1,15 @@
 // 12 and 13 over all nodes, by the counts of ends.
-ghost use Rattle.std.specs.Prelude.{◌≡◌, not, ◌||◌, List, ℕ, ◌+◌, ◌*◌, ◌≤◌, leb, length};
+ghost use Rattle.std.specs.Prelude.{◌≡◌, not, ◌||◌, List, ℕ, ◌*◌, ◌≤◌, leb, length};
 ghost use Rattle.lists.specs.Asks.{Asks₃, Promises₃};
 ghost use Rattle.lists.specs.Lists.{first_bad};
-ghost use Rattle.rewriting.specs.Graph.{Edge};
 ghost use Rattle.rewriting.specs.Checker.{premises_ok, conclusions_ok};
 ghost use Rattle.protocol.specs.Figures.{most_facts};
 ghost use Rattle.protocol.specs.Protocol.{Protocol};
 ghost use Rattle.steps.specs.Nodes.{Node};
 ghost use Rattle.steps.specs.Facts.{is_linear};
-ghost use Rattle.steps.specs.Runs.{protocol_facts, rewritten, rewrittens};
-ghost use Rattle.facts.specs.Calls.{NodeOf, ListedFact, fact_at};
+ghost use Rattle.steps.specs.Runs.{protocol_facts, rewrittens};
+ghost use Rattle.facts.specs.Calls.{ListedFact, fact_at};
 ghost use Rattle.graph.specs.Graph.{Graph};
-ghost use Rattle.graph.specs.Table.{NodesOf};
 ghost use Rattle.graph.specs.Joins.{EndedOf};
 ghost use Rattle.graph.specs.Passes.{CountsAsked, PremisesTold, ConclusionsTold};
 

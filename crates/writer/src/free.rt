@@ -1,5 +1,5 @@
 // The free conclusions of the nodes so far, an entry each: 0 where none is free, else the fact's mark and one.
-ghost use Rattle.std.specs.Prelude.{◌≡◌, List, ℕ, ◌*◌, ◌+◌, ◌≤◌, ◌<◌, length, set};
+ghost use Rattle.std.specs.Prelude.{◌≡◌, List, ℕ, ◌<◌, length, set};
 ghost use Rattle.lists.specs.Asks.{Asks₂, Promises₂, Asks₃, Promises₃};
 ghost use Rattle.lists.specs.Choice.{pick};
 ghost use Rattle.protocol.specs.Protocol.{Protocol};
@@ -7,7 +7,6 @@ ghost use Rattle.steps.specs.Nodes.{Node};
 ghost use Rattle.steps.specs.Facts.{is_linear};
 ghost use Rattle.facts.specs.Writing.{fact_room};
 ghost use Rattle.facts.specs.Calls.{Room, ListedFact, fact_at};
-ghost use Rattle.graph.specs.Uses.{count_table};
 ghost use Rattle.writer.specs.Free.{entry_id};
 ghost use Rattle.writer.specs.Search.{Searching, Found, AtNode, Entered};
 
@@ -35,8 +34,8 @@ fn conclusion_of(entry: usize) -> FactId
     }
 }
 
-// The entry of the first free conclusion of an earlier node that is the same fact as x, which is kept in the work slice. Facts are compared only where their
-// marks agree.
+// The entry of the first free conclusion of an earlier node that is the same fact as x, which is kept in the work slice. Facts are compared
+// only where their marks agree.
 pub fn find_source(
     work: &mut [u8],
     p: &[u8],

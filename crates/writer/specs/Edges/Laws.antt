@@ -75,9 +75,6 @@ module _ {edges : List ℕ} {m : ℕ} {es : List Edge} (h : EdgesIn edges m es) 
       let b = all_bytes es edges (omega (arith, h.count, h.long)) (λ j l. h.each j (omega (arith, h.count))) in
       ap₂ (λ (x y : List ℕ). x ++ y) (ap groups (sym h.count)) (ap (λ (n : ℕ). number_bytes edges (4 * n)) (sym h.count) ∙ b)
 
-  pub table_long : edge_fields * m ≤ length edges
-  table_long = h.long
-
   pub edges_length : (a b : ℕ) → a ≡ length (groups m) → b ≡ length (number_bytes edges (edge_fields * m)) → a + b ≡ length (listed encode_edge es)
   edges_length a b ha hb =
       omega (arith, ha, hb, ap length edges_bytes, length-append (groups m) (number_bytes edges (edge_fields * m)))
