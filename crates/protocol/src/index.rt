@@ -101,7 +101,7 @@ fn rules_from(x: &RuleText, at: usize, n: u32, places: &mut [usize]) -> Option<(
 {
     let mut i = at;
     for j in 0..n {
-        let (e, _) = walks::one_rule(x, i)?;
+        let e = walks::one_rule(x, i)?;
         places[j as usize] = i;
         i = e;
     }
@@ -117,7 +117,8 @@ fn rules(x: &RuleText, at: usize, places: &mut [usize]) -> Option<(u32, usize)>
     rules_from(x, e, n, places)
 }
 
-// One pass over a protocol file: the counts and the filled index, or a fault.
+// One pass over a protocol file: the counts and the filled index, or a fault. The four tables are lent one by one: each filling above takes the
+// one or two that are its own, and the first two are lent on without the others wherever rules are read.
 pub fn read_protocol(
     file: &[u8],
     arities: &mut [u8],

@@ -153,8 +153,8 @@ pub fn one_layout(x: &RuleText, at: usize, w: Wanted) -> Option<(usize, bool)>
     some_lists(x, e, figures::LISTS, w)
 }
 
-// The three lists of a rule of n variables: no variable from n on stands in them.
-fn closed_lists(x: &RuleText, at: usize, n: usize) -> Option<(usize, bool)>
+// The three lists of a rule of n variables: no variable from n on stands in them. The place behind them.
+fn closed_lists(x: &RuleText, at: usize, n: usize) -> Option<usize>
     requires { length x.now.file.now ≤ longest }
     ensures { result ≡ closed (seen (any_by (any_by (asks variable_tag n number_limit))) (many (facts_in x.now) list_count at)) }
 {
@@ -167,11 +167,11 @@ fn closed_lists(x: &RuleText, at: usize, n: usize) -> Option<(usize, bool)>
     if h {
         return None;
     }
-    Some((e, false))
+    Some(e)
 }
 
-// A rule: its layout, and each variable in it declared.
-pub fn one_rule(x: &RuleText, at: usize) -> Option<(usize, bool)>
+// A rule: its layout, and each variable in it declared. The place behind it.
+pub fn one_rule(x: &RuleText, at: usize) -> Option<usize>
     requires { length x.now.file.now ≤ longest }
     ensures { result ≡ ended (rule_in x.now at) }
 {

@@ -14,8 +14,7 @@ use Rattle.protocol.specs.Protocol.Limits.{RuleWithin, Within}
 use Rattle.protocol.specs.Protocol.Limits.Parts.{FactWithin, FactsWithin}
 use Rattle.protocol.specs.Protocol.Exact.{rule_exact, few_arities}
 use Rattle.protocol.specs.Index.{Entries}
-use lib.Seq.{length-take-le}
-use Rattle.rules.specs.Fit.Laws.{Indexes, placed_front}
+use Rattle.rules.specs.Fit.Laws.{Indexes, entries_front}
 use Rattle.protocol.specs.declared.index.Counts.{Counts}
 use Rattle.rules.specs.declared.fit.Unfit.{Unfit}
 use Rattle.rules.specs.Numbered.{rule_of}
@@ -212,24 +211,6 @@ module _ {file arities ars flags places : List ℕ} {nr : ℕ} (l : Laid file ar
   laid_file = omega (arith, ap length l.file_is, l.source.short)
 
 -- ── a fit protocol's file ──
--- its index, with no more places than there are rules
-entries_front :
-    {s arities ars flags : List ℕ} {ns : ℕ} (places : List ℕ) (nr : ℕ) → nr ≤ length places → Entries s ns nr arities ars flags places
-    → Entries s ns (length (take nr places)) arities ars flags (take nr places)
-entries_front places nr h e =
-    record {
-      is = e.is;
-      reads = e.reads;
-      within = e.within;
-      slotted = e.slotted;
-      tabled = e.tabled;
-      flagged = e.flagged;
-      count = e.count;
-      few_symbols = e.few_symbols;
-      few_rules = omega (arith, e.few_rules, length-take-le nr places h);
-      placed = placed_front places e.is.rules nr h e.placed;
-    }
-
 module _ (s arities ars flags places : List ℕ) (r : Result Counts Unfit) (c : Counts) (is : r ≡ Ok c) (index : Indexes s r arities ars flags places)
     (bytes : Bytes s)
     (short : length s ≤ file_limit) (room : 64 ≤ length places) where

@@ -3,7 +3,7 @@ use Rattle.std.specs.Prelude.{Option, Some, None, ℕ, zero, suc, ◌+◌, ◌�
 use Rattle.std.proofs.Math.Path.{ap, sym}
 use Rattle.std.proofs.Math.Bool.{or_assoc, or-false}
 use Rattle.std.proofs.Common.{arith, ap₂, ◌∙◌, lt-ltb, le-ltb}
-use Rattle.std.proofs.lemmas.Option.{some_pair_parts}
+use Rattle.std.proofs.lemmas.Option.{same_Some, some_pair_parts}
 use Rattle.protocol.specs.Figures.{most_variables, sort_count, list_count, symbol_kind, fact_limit, variable_limit, rule_symbol_limit}
 use Rattle.lists.specs.Choice.{pick, cut_lt, clash}
 use Rattle.number.specs.Groups.{number_limit}
@@ -220,12 +220,21 @@ module _ (file : List ℕ) (at : ℕ) where
 
 -- ── a rule ──
 -- only the place behind it
-abbrev pub ended : {A : Type 0} → Read A → Option (ℕ × Bool)
-ended {A} r = seen (λ (x : A). false) r
+abbrev pub ended : {A : Type 0} → Read A → Option ℕ
+ended (got x e) = Some e
+ended fault = None
+
+pub cut_ended : {A C : Type 0} {e : ℕ} (r : Read A) → ended r ≡ Some e → ((x : A) → r ≡ got x e → C) → C
+cut_ended {e = e} (got x d) h k = k x (ap (got x) (same_Some d e h))
+cut_ended fault h k = clash (cc)
+
+pub ended_none : {A : Type 0} (r : Read A) → ended r ≡ None → r ≡ fault
+ended_none (got x d) h = clash (cc)
+ended_none fault h = refl
 
 -- a fault where the test holds
-abbrev pub closed : Option (ℕ × Bool) → Option (ℕ × Bool)
-closed (Some (e, b)) = pick b None (Some (e, false))
+abbrev pub closed : Option (ℕ × Bool) → Option ℕ
+closed (Some (e, b)) = pick b None (Some e)
 closed None = None
 
 -- as the code has it
@@ -233,7 +242,7 @@ module _ (n : ℕ) (o : Read (List (List Fact))) {w : Option (ℕ × Bool)} (ask
   pub parts_closed : closed w ≡ closed (seen (any_by (any_by (asks 0 n number_limit))) o)
   parts_closed = ap closed asked
 
-  pub parts_by : (e : ℕ) (b : Bool) → w ≡ Some (e, b) → pick b None (Some (e, false)) ≡ closed (seen (any_by (any_by (asks 0 n number_limit))) o)
+  pub parts_by : (e : ℕ) (b : Bool) → w ≡ Some (e, b) → pick b None (Some e) ≡ closed (seen (any_by (any_by (asks 0 n number_limit))) o)
   parts_by e b h = ap closed (sym h) ∙ parts_closed
 
 module _ (file arities ars : List ℕ) (at : ℕ) where
@@ -271,7 +280,7 @@ module _ (file arities ars : List ℕ) (at : ℕ) where
   layout_fault h = then_fault (counted file most_variables (below file sort_count) at) _ (no_sorts (counted file most_variables (below file sort_count) at) h)
 
   -- ── its variables are declared: no leaf of kind 0 from their count on ──
-  by_hit : (t : Bool) (x : Rule) (d : ℕ) → ended (pick (not t) (got x d) fault) ≡ pick t None (Some (d, false))
+  by_hit : (t : Bool) (x : Rule) (d : ℕ) → ended (pick (not t) (got x d) fault) ≡ pick t None (Some d)
   by_hit true x d = refl
   by_hit false x d = refl
 

@@ -113,6 +113,24 @@ placed_front places rs n h placed =
       each = λ k l. rw (get_or-take n places k 0 (omega arith)) (placed.each k (omega arith));
     }
 
+-- the index of a file, with no more places than there are rules
+unfoldable pub entries_front :
+    {s arities ars flags : List ℕ} {ns : ℕ} (places : List ℕ) (nr : ℕ) → nr ≤ length places → Entries s ns nr arities ars flags places
+    → Entries s ns (length (take nr places)) arities ars flags (take nr places)
+entries_front places nr h e =
+    record {
+      is = e.is;
+      reads = e.reads;
+      within = e.within;
+      slotted = e.slotted;
+      tabled = e.tabled;
+      flagged = e.flagged;
+      count = e.count;
+      few_symbols = e.few_symbols;
+      few_rules = omega (arith, e.few_rules, length-take-le nr places h);
+      placed = placed_front places e.is.rules nr h e.placed;
+    }
+
 -- whether the rule of number k breaks a condition
 abbrev pub unfit : List Rule → ℕ → Bool
 unfit rs k = not (fits (get_or rs k empty_rule))
@@ -161,12 +179,21 @@ module _ (file arities ars flags places : List ℕ) where
   indexed_fault h x = sym (ap judged (subst (λ (j : Option Counts). Indexed file j arities ars flags places) h x))
 
   pub judged_is :
+      {ns nr k : ℕ} (i : Entries file ns nr arities ars flags places)
+      → ((rs : List Rule) → Placed (rule file arities (take ns ars)) empty_rule places rs nr → k ≡ least (unfit rs) nr)
+      → outcome k ≡ judged (protocol file)
+  judged_is {ns} {nr} {k} i h =
+      ap outcome (h i.is.rules i.placed ∙ ap (least (unfit i.is.rules)) (sym i.placed.count))
+      ∙ sym (ap judged i.reads)
+
+  -- the same of the places alone that have rules
+  pub judged_front :
       {ns nr : ℕ} {o : Option ℕ} (i : Entries file ns nr arities ars flags places)
       → nr ≤ length places
       → ((rs : List Rule) → Placed (rule file arities (take ns ars)) empty_rule (take nr places) rs (length (take nr places))
       → o ≡ found (least (unfit rs) (length (take nr places))))
       → outcome_of o ≡ judged (protocol file)
-  judged_is {ns} {nr} i l h =
+  judged_front {ns} {nr} i l h =
       let placed = placed_front places i.is.rules nr l i.placed in
       ap outcome_of (h i.is.rules placed ∙ ap (λ (m : ℕ). found (least (unfit i.is.rules) m)) (sym placed.count))
       ∙ outcome_found (least (unfit i.is.rules) (length i.is.rules))

@@ -1,11 +1,10 @@
 -- The invariant is that j rules are read up to i and each earlier place is that of its rule; a turn enters one place.
 use borrow.Author.Rules.{rules}
 use Rattle.protocol.specs.Index.Fill.{places_more, places_end}
-use Rattle.protocol.specs.Protocol.{Rule, empty_rule, rule}
+use Rattle.protocol.specs.Protocol.{empty_rule, rule}
 use Rattle.number.specs.Reading.Many.{Came, came_none, came_more, came_stop}
-use Rattle.number.specs.Reading.Laws.{cut_seen, cut_fault}
+use Rattle.protocol.specs.Protocol.Walks.{cut_ended, ended_none}
 use mathlib.Core.Path.{◌≡◌, sym, ◌∙◌, subst}
-use mathlib.Core.Bool.{false}
 use Prim.Native.Nat.{ℕ, ◌<◌}
 use lib.ListN.{length, length-set}
 use native.Mathlib.Omega.{arith}
@@ -21,16 +20,16 @@ loop-j-preserved c =
       simp length-set (omega arith),
       places_more (rule c.args.x.now.file.now c.args.x.now.arities.now c.args.x.now.ars.now) c.args.at
           c.loop-j.j c.loop-j.i c.loop-j.places c.loop-j.invariant.1 c.loop-j.invariant.2 b,
-      cut_seen (λ (x : Rule). false)
+      cut_ended
           (rule c.args.x.now.file.now c.args.x.now.arities.now c.args.x.now.ars.now c.loop-j.i) (sym c.one_rule.ensures ∙ c.in_ok-e.was)
-          (λ x g h. came_more _ _ _ _ _ x c.loop-j.invariant.2 g),
+          (λ x g. came_more _ _ _ _ _ x c.loop-j.invariant.2 g),
     )
 
 pub returns-in_err-e : goal.returns-in_err-e
 returns-in_err-e c =
     record {
       kept = search rules;
-      told = rw c.from_residual.ensures (came_stop _ _ _ _ _ c.loop-j.invariant.2 (cut_fault (λ (x : Rule). false)
+      told = rw c.from_residual.ensures (came_stop _ _ _ _ _ c.loop-j.invariant.2 (ended_none
           (rule c.args.x.now.file.now c.args.x.now.arities.now c.args.x.now.ars.now c.loop-j.i)
           (sym c.one_rule.ensures ∙ c.in_err-e.was)) c.loop-j-test.true);
     }

@@ -6,20 +6,20 @@ use Rattle.number.specs.Reading.{many}
 use Rattle.std.proofs.Common.{Some, None}
 use Rattle.lists.specs.Choice.{pick}
 use mathlib.Core.Path.{ap, sym, ◌∙◌}
-use mathlib.Core.Bool.{Bool, false}
+use mathlib.Core.Bool.{Bool}
 use Rattle.protocol.proofs.walks.closed_lists.Goals as goal
 
 pub returns-then-h : goal.returns-then-h
 unfolding number_limit
 returns-then-h c =
-    ap (λ (b : Bool). pick b None (Some (c.in_ok-e.e, false))) (sym c.if-h.true) ∙ parts_by c.args.n
+    ap (λ (b : Bool). pick b None (Some c.in_ok-e.e)) (sym c.if-h.true) ∙ parts_by c.args.n
     (many (facts c.args.x.now.file.now c.args.x.now.arities.now c.args.x.now.ars.now) 3 c.args.at) c.some_lists.ensures _ _
     c.in_ok-e.was
 
 pub returns : goal.returns
 unfolding number_limit
 returns c =
-    ap (λ (b : Bool). pick b None (Some (c.in_ok-e.e, false))) (sym c.if-h.false) ∙ parts_by c.args.n
+    ap (λ (b : Bool). pick b None (Some c.in_ok-e.e)) (sym c.if-h.false) ∙ parts_by c.args.n
     (many (facts c.args.x.now.file.now c.args.x.now.arities.now c.args.x.now.ars.now) 3 c.args.at) c.some_lists.ensures _ _
     c.in_ok-e.was
 
