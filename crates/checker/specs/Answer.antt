@@ -1,20 +1,31 @@
 -- What the calls answer and what they leave in lent memory.
-use Rattle.std.specs.Prelude.{ℕ, ◌+◌, ◌*◌, ◌^◌, ◌<◌, List, [], ◌∷◌, length, replicate, eqb}
+use Rattle.std.specs.Prelude.{ℕ, ◌+◌, ◌*◌, ◌^◌, ◌<◌, List, [], ◌∷◌, ◌≡◌, length, replicate, eqb, Result, Ok, Err}
+use Rattle.std.proofs.Common.{ap}
 use Rattle.lists.specs.Choice.{pick}
 use Rattle.octets.specs.Splice.{splice}
 use Rattle.rewriting.specs.Table.{Ruling, passed, refused, Row, fixed_row, ruling_of}
 use Rattle.rewriting.specs.Table.Passes.{need_pass}
-use Rattle.checker.specs.declared.Written.{Written}
-use Rattle.checker.specs.declared.Written.TheVariants as wr
+use Rattle.checker.specs.declared.Refusal.{Refusal}
 -- the packed answers come apart again
 pub mod Laws
 -- a ruling and the output, for both writing calls
 pub mod Judged
 
 -- ── the answers' numbers and values ──
+-- what drawing and canonical form answer: the length written, or a refusal
+abbrev pub Written : Type 0
+Written = Result ℕ Refusal
+
 abbrev pub written : Written → Ruling ℕ
-written (wr.Length n) = passed n
-written (wr.Refused r) = refused r.number r.item
+written (Ok n) = passed n
+written (Err r) = refused r.number r.item
+
+abbrev pub refusal : ℕ → ℕ → Refusal
+refusal n k = record { number = n; item = k }
+
+-- a refusal that was made is that of the table
+pub written_refused : {r : Refusal} {n k : ℕ} → r ≡ refusal n k → written (Err r) ≡ refused n k
+written_refused e = ap (λ (r : Refusal). written (Err r)) e
 
 -- ── "output short", 15, "bytes needed" ──
 abbrev pub room_for : ℕ → ℕ → Ruling ℕ

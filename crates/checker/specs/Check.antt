@@ -1,5 +1,6 @@
 -- "Checking returns the ruling and the line's three counts."
-use Rattle.std.specs.Prelude.{ℕ, ◌+◌, ◌*◌, ◌^◌, List, [], ◌∷◌, ◌++◌, Bool, true, false, length}
+use Rattle.std.specs.Prelude.{ℕ, ◌+◌, ◌*◌, ◌^◌, List, [], ◌∷◌, ◌++◌, Bool, true, false, ◌≡◌, length, Result, Ok, Err}
+use Rattle.std.proofs.Common.{ap}
 use Rattle.lists.specs.Lists.{count_by}
 use Rattle.rewriting.specs.Table.{Ruling, passed, refused, Row, Pass, ruling_then, rows_then, and_then, rows_after}
 use Rattle.rewriting.specs.Table.Passes.{less_pass}
@@ -15,7 +16,8 @@ use Rattle.trace.specs.Truth.{truth}
 use Rattle.checker.specs.declared.Counts.{Counts}
 use Rattle.checker.specs.declared.Ruling as declared
 use Rattle.checker.specs.declared.Ruling.TheVariants as rl
-use Rattle.checker.specs.Answer.{work_need, work_after}
+use Rattle.checker.specs.declared.Refusal.{Refusal}
+use Rattle.checker.specs.Answer.{refusal, work_need, work_after}
 use Rattle.checker.specs.Files.{protocol_limit, protocol_item, protocol_ruling, protocol_rows}
 -- a fit property file, and that the rows say it
 pub mod Fit
@@ -58,10 +60,18 @@ checked p f g = record {
 abbrev counted : Bool → Counts → Checked
 counted b c = record { holds = b; nodes = c.nodes; active = c.active; edges = c.edges }
 
-abbrev pub ruled : declared.Ruling → Ruling Checked
-ruled (rl.Attack c) = passed (counted false c)
-ruled (rl.Run c) = passed (counted true c)
-ruled (rl.Refused r) = refused r.number r.item
+-- what checking answers: a ruling, or a refusal
+abbrev pub Answer : Type 0
+Answer = Result declared.Ruling Refusal
+
+abbrev pub ruled : Answer → Ruling Checked
+ruled (Ok (rl.Attack c)) = passed (counted false c)
+ruled (Ok (rl.Run c)) = passed (counted true c)
+ruled (Err r) = refused r.number r.item
+
+-- a refusal that was made is that of the table
+pub ruled_refused : {r : Refusal} {n k : ℕ} → r ≡ refusal n k → ruled (Err r) ≡ refused n k
+ruled_refused e = ap (λ (r : Refusal). ruled (Err r)) e
 
 -- ── the C function's answer ──
 -- bits 56 up: 0 refused, 1 attack, 2 run; attack and run: bits 32 to 47 nodes, 16 to 31 nodes with an action, 0 to 15 edges; refused: bits 32

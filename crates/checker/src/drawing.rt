@@ -14,32 +14,26 @@ ghost use Rattle.checker.specs.Answer.{work_need};
 ghost use Rattle.checker.specs.Draw.{steps_under};
 ghost use Rattle.checker.specs.Draw.Contracts.{Judges, Drawable, Edged, Inside};
 
-use crate::Written;
+use crate::{Refusal, refuse};
 use graph::edges;
 use prepared::sections;
-use rules::fit::FitVerdict;
+use rules::fit::Unfit;
 use steps::nodes;
-use steps::ruling::NodesRuling;
-use writer::sources::Sources;
 
 // "Steps (32,768 bytes)"
 const STEPS_LIMIT: usize = 32768;
 
-const PREMISES_MISSING: u32 = rewriting::PREMISES_MISSING as u32;
-
-const STEPS_ITEM: u32 = rewriting::STEPS_ITEM as u32;
-
 // 15, or the graph of the steps and m edges.
-fn write_drawn(steps: &[u8], edges: &[u32], m: usize, output: &mut [u8]) -> Written
+fn write_drawn(steps: &[u8], edges: &[u32], m: usize, output: &mut [u8]) -> Result<u32, Refusal>
     requires { Asks (EdgesIn edges.now m) × (length steps.now ≤ steps_limit) }
     ensures { Promises (EdgesIn edges.now m) (Edged steps.now output.old output.new result) }
 {
     let need = steps.len() + writer::edges::edges_len(edges, m);
     if output.len() < need {
-        return crate::refused(crate::OUTPUT_SHORT, need as u32);
+        return Err(refuse(rewriting::OUTPUT_SHORT, need));
     }
     writer::edges::write_graph(output, steps, edges, m);
-    Written::Length(need as u32)
+    Ok(need as u32)
 }
 
 // 14, or the edges of n nodes that are right, and 15, with a table that is long enough for the edges.
@@ -51,13 +45,13 @@ fn draw_edges(
     edges: &mut [u32],
     output: &mut [u8],
     work: &mut [u8],
-) -> Written
+) -> Result<u32, Refusal>
     requires { Asks₂ (Drawable p.now steps.now nodes.now n) × (length steps.now ≤ steps_limit) × FieldsFor edges.old (most_facts * n) × Room work.old fact_room }
     ensures { Promises₂ (Drawable p.now steps.now nodes.now n) (λ (P : Protocol) (xs : List Node). Judges (steps_under P steps.now) output.old output.new result) }
 {
     match writer::sources::choose_sources(work, p, steps, nodes, n, edges) {
-        Sources::Edges(m) => write_drawn(steps, edges, m, output),
-        Sources::Missing(k) => crate::refused(PREMISES_MISSING, k as u32),
+        Ok(m) => write_drawn(steps, edges, m, output),
+        Err(k) => Err(refuse(rewriting::PREMISES_MISSING, k)),
     }
 }
 
@@ -69,7 +63,7 @@ fn draw_nodes(
     n: usize,
     output: &mut [u8],
     work: &mut [u8],
-) -> Written
+) -> Result<u32, Refusal>
     requires { Asks₂ (Drawable p.now steps.now nodes.now n) × (length steps.now ≤ steps_limit) × Room work.old fact_room }
     ensures { Promises₂ (Drawable p.now steps.now nodes.now n) (λ (P : Protocol) (xs : List Node). Judges (steps_under P steps.now) output.old output.new result) }
 {
@@ -88,18 +82,18 @@ fn draw_with(
     nodes: &mut [usize],
     output: &mut [u8],
     work: &mut [u8],
-) -> Written
+) -> Result<u32, Refusal>
     requires { Asks (Prepared p.now) × (length steps.now ≤ steps_limit) × RowsOf steps.now 0 nodes.old × Room work.old fact_room }
     ensures { Promises (Prepared p.now) (λ (P : Protocol). Judges (steps_under P steps.now) output.old output.new result) }
 {
     match steps::ruling::rule_steps(p, steps, nodes) {
-        NodesRuling::Good(n) => draw_nodes(p, steps, nodes, n, output, work),
-        NodesRuling::Refused(number, item) => crate::refused(number as u32, item as u32),
+        Ok(n) => draw_nodes(p, steps, nodes, n, output, work),
+        Err(r) => Err(refuse(r.number, r.item)),
     }
 }
 
 // The same, with a table for few nodes or for any number.
-fn draw_steps(p: &[u8], steps: &[u8], output: &mut [u8], work: &mut [u8]) -> Written
+fn draw_steps(p: &[u8], steps: &[u8], output: &mut [u8], work: &mut [u8]) -> Result<u32, Refusal>
     requires { Asks (Prepared p.now) × (length steps.now ≤ steps_limit) × Room work.old fact_room }
     ensures { Promises (Prepared p.now) (λ (P : Protocol). Judges (steps_under P steps.now) output.old output.new result) }
 {
@@ -112,20 +106,25 @@ fn draw_steps(p: &[u8], steps: &[u8], output: &mut [u8], work: &mut [u8]) -> Wri
 }
 
 // "1 to 4": the sizes of the files, the protocol, then the steps.
-pub fn draw_files(protocol: &[u8], steps: &[u8], output: &mut [u8], work: &mut [u8]) -> Written
+pub fn draw_files(
+    protocol: &[u8],
+    steps: &[u8],
+    output: &mut [u8],
+    work: &mut [u8],
+) -> Result<u32, Refusal>
     requires { Room work.old fact_room }
     ensures { Promises (λ (work : ℕ). work_need ≤ work) (Inside protocol.now steps.now output.old output.new result) }
 {
     if crate::PROTOCOL_LIMIT < protocol.len() {
-        return crate::refused(crate::FILE_LONG, crate::PROTOCOL_ITEM);
+        return Err(refuse(rewriting::FILE_LONG, rewriting::PROTOCOL_ITEM));
     }
     if STEPS_LIMIT < steps.len() {
-        return crate::refused(crate::FILE_LONG, STEPS_ITEM);
+        return Err(refuse(rewriting::FILE_LONG, rewriting::STEPS_ITEM));
     }
     let mut p = [0u8; sections::PREPARED];
     match prepared::list_places::prepare(protocol, &mut p) {
-        FitVerdict::Sound(_, _) => draw_steps(&p, steps, output, work),
-        FitVerdict::Broken(k) => crate::refused(crate::CONDITION_BROKEN, k as u32),
-        FitVerdict::Fault => crate::refused(crate::LAYOUT, crate::PROTOCOL_ITEM),
+        Ok(_) => draw_steps(&p, steps, output, work),
+        Err(Unfit::Broken(k)) => Err(refuse(rewriting::CONDITION_BROKEN, k)),
+        Err(Unfit::Fault) => Err(refuse(rewriting::LAYOUT, rewriting::PROTOCOL_ITEM)),
     }
 }

@@ -78,14 +78,14 @@ fn refused(r: Refusal, out: &mut [u8]) -> usize
 }
 
 // Writes the line of a ruling to the start of a buffer, the rest of which stays as it is, and gives its length.
-pub fn line(ruling: Ruling, out: &mut [u8; LINE_ROOM]) -> usize
+pub fn line(ruling: Result<Ruling, Refusal>, out: &mut [u8; LINE_ROOM]) -> usize
     ensures wrote { out.new ≡ splice out.old 0 (lines.line_of (ruled ruling)) }
     ensures ends { result ≡ length (lines.line_of (ruled ruling)) }
     ensures fits { result ≤ line_room }
 {
     match ruling {
-        Ruling::Attack(c) => counted(b"attack", c, out),
-        Ruling::Run(c) => counted(b"run", c, out),
-        Ruling::Refused(r) => refused(r, out),
+        Ok(Ruling::Attack(c)) => counted(b"attack", c, out),
+        Ok(Ruling::Run(c)) => counted(b"run", c, out),
+        Err(r) => refused(r, out),
     }
 }

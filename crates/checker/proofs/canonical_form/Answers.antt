@@ -8,6 +8,7 @@ use mathlib.Core.Path.{ap, sym, ◌∙◌}
 use Rattle.checker.specs.Canonical.Inside.{work_cleared}
 use Rattle.checker.specs.Canonical.Cases.{work_short, output_kept, work_kept}
 use borrow.Author.Rules.{rules}
+use Rattle.checker.specs.Answer.{written_refused}
 use Rattle.checker.proofs.canonical_form.Goals as goal
 
 pub returns-then-work-lt-WORK_NEED : goal.returns-then-work-lt-WORK_NEED
@@ -15,7 +16,7 @@ returns-then-work-lt-WORK_NEED c =
     let e = work_short c.args.protocol.now c.args.term.now (length c.args.output.now) (length c.args.work.now)
     c.if-work-lt-WORK_NEED.true in
     record {
-      answer = c.refused.ensures ∙ sym e;
+      answer = (written_refused c.refuse.ensures) ∙ sym e;
       wrote = output_kept c.args.protocol.now c.args.term.now c.args.output.now (length c.args.work.now) 1 0 e;
       cleared = work_kept c.args.protocol.now c.args.term.now c.args.work.now (length c.args.output.now) c.if-work-lt-WORK_NEED.true;
     }

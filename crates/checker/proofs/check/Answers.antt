@@ -5,12 +5,13 @@ use Prim.Native.Nat.{ℕ}
 use lib.ListN.{length, replicate}
 use native.Mathlib.Omega.{arith}
 use borrow.Author.Rules.{rules}
+use Rattle.checker.specs.Check.{ruled_refused}
 use Rattle.checker.proofs.check.Goals as goal
 
 pub returns-then-work-lt-WORK_NEED : goal.returns-then-work-lt-WORK_NEED
 returns-then-work-lt-WORK_NEED c =
     record {
-      answer = c.refuse.ensures ∙ sym (work_short c.args.protocol.now c.args.property.now c.args.graph.now (length c.args.work.now)
+      answer = (ruled_refused c.refuse.ensures) ∙ sym (work_short c.args.protocol.now c.args.property.now c.args.graph.now (length c.args.work.now)
           c.if-work-lt-WORK_NEED.true);
       cleared = work_kept c.args.protocol.now c.args.property.now c.args.graph.now c.args.work.now c.if-work-lt-WORK_NEED.true;
     }

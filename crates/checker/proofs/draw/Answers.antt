@@ -7,6 +7,7 @@ use Rattle.graph.specs.Area.{facts_room}
 use Rattle.checker.specs.Draw.Cases.{work_short, output_kept, work_kept}
 use Rattle.checker.specs.Draw.Cleared.{work_cleared}
 use borrow.Author.Rules.{rules}
+use Rattle.checker.specs.Answer.{written_refused}
 use Rattle.checker.proofs.draw.Goals as goal
 
 pub returns-then-work-lt-WORK_NEED : goal.returns-then-work-lt-WORK_NEED
@@ -14,7 +15,7 @@ returns-then-work-lt-WORK_NEED c =
     let e = work_short c.args.protocol.now c.args.steps.now (length c.args.output.now) (length c.args.work.now)
     c.if-work-lt-WORK_NEED.true in
     record {
-      answer = c.refused.ensures ∙ sym e;
+      answer = (written_refused c.refuse.ensures) ∙ sym e;
       wrote = output_kept c.args.protocol.now c.args.steps.now c.args.output.now
           (length c.args.work.now) 1 0 e;
       cleared = work_kept c.args.protocol.now c.args.steps.now c.args.work.now

@@ -3,7 +3,7 @@ use Rattle.std.specs.Prelude.{ℕ, ◌≤◌, ◌<◌, List, [], ◌≡◌, leng
 use Rattle.std.proofs.Common.{ap, sym, ◌∙◌, subst}
 use Rattle.octets.specs.Splice.{splice}
 use Rattle.rewriting.specs.Table.{Ruling, passed, refused, and_then}
-use Rattle.checker.specs.declared.Written.{Written}
+use Rattle.checker.specs.Answer.{Written}
 use Rattle.checker.specs.Answer.{written, room_for, bytes_of, output_after}
 use Rattle.checker.specs.Passing.{less_yes, less_no}
 

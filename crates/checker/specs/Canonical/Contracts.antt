@@ -5,7 +5,7 @@ use Rattle.term.specs.Term.{Term, encode}
 use Rattle.term.specs.Arity.{tag_arities}
 use Rattle.message.specs.Canon.{canon}
 use Rattle.rewriting.specs.Table.{Ruling, passed}
-use Rattle.checker.specs.declared.Written.{Written}
+use Rattle.checker.specs.Answer.{Written}
 use Rattle.checker.specs.Answer.{written}
 use Rattle.checker.specs.Answer.Judged as judged
 use Rattle.checker.specs.Files.{term_limit, term_ruling}

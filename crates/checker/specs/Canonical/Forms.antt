@@ -15,8 +15,8 @@ use Rattle.canonical.specs.Builtins.{Builtins, declared, group}
 use Rattle.canonical.specs.Contract.{MessageAt}
 use Rattle.rewriting.specs.Table.{Ruling, passed, refused, Ruled}
 use Rattle.rewriting.specs.Table.Laws.{passed_good}
-use Rattle.checker.specs.declared.Written.{Written}
-use Rattle.checker.specs.declared.Written.TheVariants as wr
+use Rattle.checker.specs.Answer.{Written}
+use Rattle.std.specs.Prelude.{Ok}
 use Rattle.checker.specs.Answer.{written}
 use Rattle.checker.specs.Files.{term_limit, term_rows}
 use Rattle.checker.specs.Files.Laws.{IsSmall, term_ruled}
@@ -73,10 +73,10 @@ module _ (t : Term) (out : List ℕ) (r : ℕ) (stands : Stands out 0 (encode (c
   formed_short output w h e =
       judges_short (λ t. encode (canon t)) (passed t) output w t refl (omega (arith, form_length)) (e ∙ ap {B = Ruling ℕ} (refused 15) form_length)
 
-  pub formed_written : (output : List ℕ) → r ≤ length output → Formed t output (splice output 0 (take r out)) (wr.Length r)
+  pub formed_written : (output : List ℕ) → r ≤ length output → Formed t output (splice output 0 (take r out)) (Ok r)
   formed_written output h =
-      subst (λ (bytes : List ℕ). Formed t output (splice output 0 bytes) (wr.Length r)) (sym form_bytes)
-      (judges_written (λ t. encode (canon t)) (passed t) output (wr.Length r) t refl (omega (arith, form_length)) (ap {B = Ruling ℕ} passed form_length))
+      subst (λ (bytes : List ℕ). Formed t output (splice output 0 bytes) (Ok r)) (sym form_bytes)
+      (judges_written (λ t. encode (canon t)) (passed t) output (Ok r) t refl (omega (arith, form_length)) (ap {B = Ruling ℕ} passed form_length))
 
 -- ── the form that was made of the file's term ──
 module _ (arities term out : List ℕ) (r : ℕ) (made : Promises (MessageAt arities term 0) (λ (t : Term). Stands out 0 (encode (canon t)) r)) where

@@ -13,9 +13,10 @@ use Rattle.message.specs.Canon.{canon}
 use Rattle.rewriting.specs.Table.{Ruling, passed, refused, and_then}
 use Rattle.rewriting.specs.Table.Passes.{less_pass, need_pass}
 use Rattle.protocol.specs.Protocol.{Protocol}
-use Rattle.checker.specs.declared.Written.{Written}
-use Rattle.checker.specs.declared.TermFile.TheVariants.{Small, Layout, Large}
-use Rattle.checker.specs.Answer.{work_need, written, output_after}
+use Rattle.checker.specs.Answer.{Written}
+use Rattle.std.specs.Prelude.{Ok, Err}
+use Rattle.checker.specs.declared.Refusal.{Refusal}
+use Rattle.checker.specs.Answer.{refusal, work_need, written, output_after}
 use Rattle.checker.specs.Answer.Judged as judged
 use Rattle.checker.specs.Passing.{less_yes, less_no}
 use Rattle.checker.specs.Late.{Late, late_then, late_pass, late_layout, late_work, late_protocol}
@@ -50,29 +51,20 @@ pub record Holds (r : Ruling Term) : Type 0 where
   pub term : Term
   pub is : r ≡ passed term
 
-small_of : (r : Ruling Term) → View r → file_of r ≡ Small → Holds r
-small_of r (is_small t e) h = record { term = t; is = e }
-small_of r (is_layout e) h = let q : Layout ≡ Small = sym (ap file_of e) ∙ h in clash (cc)
-small_of r (is_large e) h = let q : Large ≡ Small = sym (ap file_of e) ∙ h in clash (cc)
+-- what the code answers of a file is its ruling
+small_of : (r : Ruling Term) → file_of r ≡ Ok tt → Holds r
+small_of (passed t) h = record { term = t; is = refl }
+small_of (refused n k) h = clash (cc)
 
-layout_of : (r : Ruling Term) → View r → file_of r ≡ Layout → r ≡ refused 3 term_item
-layout_of r (is_small t e) h = let q : Small ≡ Layout = sym (ap file_of e) ∙ h in clash (cc)
-layout_of r (is_layout e) h = e
-layout_of r (is_large e) h = let q : Large ≡ Layout = sym (ap file_of e) ∙ h in clash (cc)
+turned_of : (r : Ruling Term) (e : Refusal) → file_of r ≡ Err e → r ≡ refused e.number e.item
+turned_of (passed t) e h = clash (cc)
+turned_of (refused n k) e h = let i : refusal n k ≡ e = cc in ap {B = Ruling Term} (λ (x : Refusal). refused x.number x.item) i
 
-large_of : (r : Ruling Term) → View r → file_of r ≡ Large → r ≡ refused 8 0
-large_of r (is_small t e) h = let q : Small ≡ Large = sym (ap file_of e) ∙ h in clash (cc)
-large_of r (is_layout e) h = let q : Layout ≡ Large = sym (ap file_of e) ∙ h in clash (cc)
-large_of r (is_large e) h = e
+pub holds_term : (arities file : List ℕ) → file_of (term_ruling arities file) ≡ Ok tt → Holds (term_ruling arities file)
+holds_term arities file h = small_of (term_ruling arities file) h
 
-pub holds_term : (arities file : List ℕ) → file_of (term_ruling arities file) ≡ Small → Holds (term_ruling arities file)
-holds_term arities file h = small_of (term_ruling arities file) (view arities file) h
-
-pub no_layout : (arities file : List ℕ) → file_of (term_ruling arities file) ≡ Layout → term_ruling arities file ≡ refused 3 term_item
-no_layout arities file h = layout_of (term_ruling arities file) (view arities file) h
-
-pub too_large : (arities file : List ℕ) → file_of (term_ruling arities file) ≡ Large → term_ruling arities file ≡ refused 8 0
-too_large arities file h = large_of (term_ruling arities file) (view arities file) h
+pub no_term : (arities file : List ℕ) (e : Refusal) → file_of (term_ruling arities file) ≡ Err e → term_ruling arities file ≡ refused e.number e.item
+no_term arities file e h = turned_of (term_ruling arities file) e h
 
 -- what is asked of the file's term
 pub form_of_lem : (arities term free : List ℕ) → Under arities term free → (h : Holds (term_ruling arities term)) → Form arities term free h.term

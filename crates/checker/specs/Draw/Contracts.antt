@@ -7,7 +7,7 @@ use Rattle.protocol.specs.Protocol.{Protocol}
 use Rattle.steps.specs.Nodes.{Node, encode_nodes}
 use Rattle.steps.specs.Causes.Good.{RightNodes}
 use Rattle.graph.specs.Graph.{Graph, encode_edge, encode_graph}
-use Rattle.checker.specs.declared.Written.{Written}
+use Rattle.checker.specs.Answer.{Written}
 use Rattle.checker.specs.Answer.{written}
 use Rattle.checker.specs.Answer.Judged as judged
 use Rattle.checker.specs.Draw.{steps_under, draw_outcome, draw_output}

@@ -9,10 +9,11 @@ use Rattle.rewriting.specs.Graph.{Edge}
 use Rattle.steps.specs.Nodes.{Node, most_nodes}
 use Rattle.steps.specs.Nodes as files
 use Rattle.steps.specs.Causes.{steps_item, list_ruling}
-use Rattle.steps.specs.Causes.Code.{ruling_of, counted}
+use Rattle.steps.specs.Causes.Code.{counted}
 use Rattle.steps.specs.Causes.Good.{GoodNodes, WhereGood, good_right}
-use Rattle.steps.specs.declared.ruling.NodesRuling.{NodesRuling}
-use Rattle.steps.specs.declared.ruling.NodesRuling.TheVariants as nr
+use Rattle.std.specs.Prelude.{Result, Ok, Err}
+use Rattle.rewriting.specs.declared.Refusal.{Refusal}
+use Rattle.rewriting.specs.Answers.{answered}
 use Rattle.graph.specs.Ruling.{counted_refused}
 use Rattle.writer.specs.Sources.{Chosen}
 use Rattle.lists.specs.Asks.{Promises}
@@ -21,13 +22,13 @@ use Rattle.protocol.specs.Protocol.{Protocol}
 use Rattle.protocol.specs.Protocol as protocols
 use Rattle.rules.specs.Fit.{judged}
 use Rattle.rules.specs.Fit.Laws.{verdict_of}
-use Rattle.rules.specs.declared.fit.FitVerdict.{FitVerdict}
-use Rattle.rules.specs.declared.fit.FitVerdict.TheVariants as jd
+use Rattle.protocol.specs.declared.index.Counts.{Counts}
+use Rattle.rules.specs.declared.fit.Unfit.{Unfit}
 use Rattle.prepared.specs.Prepared.{Prepared}
 use Rattle.prepared.specs.Lists.{WherePrepared}
 use Rattle.steps.specs.WellFormed.{steps_limit}
 use Rattle.graph.specs.Graph.{Graph, graph_of_lem, encode_edge, encode_graph}
-use Rattle.checker.specs.declared.Written.{Written}
+use Rattle.checker.specs.Answer.{Written}
 use Rattle.checker.specs.Answer.{work_need, written, output_after}
 use Rattle.checker.specs.Files.{protocol_limit, protocol_ruling}
 use Rattle.checker.specs.Files.Verdict.{ruled_sound}
@@ -79,9 +80,9 @@ module _ {p steps nodes : List ℕ} {n : ℕ} {P : Protocol} {xs : List Node} (d
     drawn_missing output w q = judges_refused encode_graph (steps_under P steps) output w 14 k missing_is q
 
 -- ── the steps: 3 and 6 to 9, or their nodes ──
-module _ (P : Protocol) (p steps : List ℕ) (prepared : Prepared p P) (bytes : Bytes steps) (short : length steps ≤ steps_limit) (r : NodesRuling) where
+module _ (P : Protocol) (p steps : List ℕ) (prepared : Prepared p P) (bytes : Bytes steps) (short : length steps ≤ steps_limit) (r : Result ℕ Refusal) where
   pub steps_drawable :
-      (nodes : List ℕ) {n : ℕ} → WhereGood P p steps nodes r → r ≡ nr.Good n → (xs : List Node) × Drawable p steps nodes n P xs
+      (nodes : List ℕ) {n : ℕ} → WhereGood P p steps nodes r → r ≡ Ok n → (xs : List Node) × Drawable p steps nodes n P xs
   steps_drawable nodes {n} good h =
       let g : GoodNodes P p steps 0 nodes n (length steps) = subst (WhereGood P p steps nodes) h good in (
         g.items,
@@ -92,9 +93,15 @@ module _ (P : Protocol) (p steps : List ℕ) (prepared : Prepared p P) (bytes : 
         },
       )
 
-  module _ {a b : ℕ} (told : ruling_of r ≡ counted (list_ruling P steps_item (files.steps P steps))) (h : r ≡ nr.Refused a b) where
+  module _ {e : Refusal} (told : answered r ≡ counted (list_ruling P steps_item (files.steps P steps))) (h : r ≡ Err e) where
+    abbrev a : ℕ
+    a = e.number
+
+    abbrev b : ℕ
+    b = e.item
+
     stopped_is : steps_under P steps ≡ refused a b
-    stopped_is = steps_stopped P steps a b (counted_refused (list_ruling P steps_item (files.steps P steps)) a b (ap ruling_of (sym h) ∙ told))
+    stopped_is = steps_stopped P steps a b (counted_refused (list_ruling P steps_item (files.steps P steps)) a b (ap answered (sym h) ∙ told))
 
     pub stopped_small : (a ≤ most_number) × (b ≤ most_nodes)
     stopped_small = steps_bounded P steps bytes prepared.body.within a b stopped_is
@@ -128,9 +135,9 @@ module _ (protocol steps output : List ℕ) (w : Written) where
 
     -- a protocol that was prepared passes
     pub inside_prepared :
-        (prepared : List ℕ) (v : FitVerdict) (ns nr : ℕ) (verdict : verdict_of v ≡ judged (protocols.protocol protocol)) (h : v ≡ jd.Sound ns nr)
+        (prepared : List ℕ) (v : Result Counts Unfit) (c : Counts) (verdict : verdict_of v ≡ judged (protocols.protocol protocol)) (h : v ≡ Ok c)
         → WherePrepared protocol v prepared → ((q : Protocol) → Prepared prepared q → Judges (steps_under q steps) output output' w)
         → Promises (λ (work : ℕ). work_need ≤ work) (Inside protocol steps output output' w)
-    inside_prepared prepared v ns nr verdict h at j =
+    inside_prepared prepared v c verdict h at j =
         let i = its protocol steps steps prepared v verdict h at in
         inside_judged i.its (ruled_sound protocol i.its (length protocol) i.reads (sym verdict ∙ ap verdict_of h)) (j i.its i.is)

@@ -4,8 +4,7 @@ use Rattle.std.proofs.Common.{ap, ap₂, sym, subst, ◌∙◌, arith, pow-suc, 
 use Rattle.lists.specs.Choice.{pick, by_size}
 use Rattle.octets.specs.Splice.{splice}
 use Rattle.octets.specs.Splice.Laws.{sets_splice, splice_splice}
-use Rattle.checker.specs.declared.Ruling as declared
-use Rattle.checker.specs.Check.{ruled}
+use Rattle.checker.specs.Check.{Answer, ruled}
 use Rattle.checker.specs.Line.{figure, figures, decimal, line_of, line_room, Put}
 
 -- ── figures one by one ──
@@ -98,10 +97,10 @@ pub put_word : (out word : List ℕ) {one : List ℕ} {mid : ℕ} → mid ≡ 0 
 put_word out word e w = record { ends = e; wrote = w }
 
 -- what a buffer holds once the line of a ruling is written, and its length
-abbrev pub Lined : declared.Ruling → List ℕ → List ℕ → ℕ → Type 0
+abbrev pub Lined : Answer → List ℕ → List ℕ → ℕ → Type 0
 Lined r out out' n = (out' ≡ splice out 0 (line_of (ruled r))) × ((n ≡ length (line_of (ruled r))) × (n ≤ line_room))
 
 pub put_line :
-    {r v : declared.Ruling} {out out' : List ℕ} {n : ℕ} → r ≡ v → Put out 0 (line_of (ruled v)) out' n → n ≤ line_room → Lined r out out' n
+    {r v : Answer} {out out' : List ℕ} {n : ℕ} → r ≡ v → Put out 0 (line_of (ruled v)) out' n → n ≤ line_room → Lined r out out' n
 put_line {r} {v} {out} {out'} {n} e f h =
-    subst (λ (x : declared.Ruling). Lined x out out' n) (sym e) (f.wrote, (omega (arith, f.ends), h))
+    subst (λ (x : Answer). Lined x out out' n) (sym e) (f.wrote, (omega (arith, f.ends), h))
