@@ -13,7 +13,7 @@ ghost use Rattle.term.specs.Sizes.{term_room};
 ghost use Rattle.term.specs.Term.{Kind, Term, Terms, leaf, encode, encodes};
 ghost use Rattle.lists.specs.Asks.{Asks, Asks₂, Asks₃, Promises, Promises₂, Promises₃};
 ghost use Rattle.octets.specs.Splice.Prefix.{Wrote};
-ghost use Rattle.number.specs.Groups.{groups, number_limit};
+ghost use Rattle.number.specs.Groups.{groups};
 ghost use Rattle.message.specs.Table.{rules};
 ghost use Rattle.message.specs.Canon.{apply, canon};
 ghost use Rattle.canonical.specs.Loose.{is_product, beside, closed, mades};

@@ -1,7 +1,7 @@
 // Byte strings: order, equality, copying, clearing. Each contract says every byte of the slice at exit.
 #![tactic(auto)]
 
-ghost use Rattle.std.specs.Prelude.{◌≡◌, ◌+◌, ◌≤◌, ◌<◌, length, take, drop, replicate};
+ghost use Rattle.std.specs.Prelude.{◌≡◌, ◌+◌, ◌≤◌, length, take, drop, replicate};
 ghost use Rattle.octets.specs.Splice.{splice};
 ghost use Rattle.octets.specs.Compare.{compare_bytes, is_equal};
 

@@ -1,5 +1,5 @@
 // The walks over a rule: its terms, its facts, its lists. Each tells the place behind, and whether what is looked for stands in them.
-ghost use Rattle.std.specs.Prelude.{◌≡◌, ◌≤◌, ◌<◌, ◌+◌, length, ℕ, Bool, false, Option};
+ghost use Rattle.std.specs.Prelude.{◌≡◌, ◌≤◌, ◌<◌, length, ℕ, Bool, false, Option};
 ghost use Rattle.octets.specs.Limits.{longest};
 ghost use Rattle.term.specs.Tags.{variable_tag};
 ghost use Rattle.protocol.specs.Figures.{list_count};

@@ -4,7 +4,7 @@ ghost use Rattle.protocol.specs.Protocol.{Protocol};
 ghost use Rattle.lists.specs.Asks.{Asks₂, Promises₂, Promises};
 ghost use Rattle.rewriting.specs.Writer.{first_name_twice};
 ghost use Rattle.steps.specs.Nodes.{Node, no_node, most_nodes};
-ghost use Rattle.steps.specs.Table.{NodeIn, NodesIn, few_nodes};
+ghost use Rattle.steps.specs.Table.{NodeIn, NodesIn};
 ghost use Rattle.steps.specs.Facts.{made_name};
 ghost use Rattle.steps.specs.Runs.{rewrittens};
 ghost use Rattle.steps.specs.Names.{again_in, MadeIs, NamesOf};

@@ -1,11 +1,11 @@
 // Terms in the files: prefix order, tag first.
 #![tactic(auto)]
 
-ghost use Rattle.std.specs.Prelude.{◌≡◌, ◌≤◌, ◌<◌, ◌+◌, length, get_or};
+ghost use Rattle.std.specs.Prelude.{◌≡◌, ◌≤◌, ◌<◌, ◌+◌, length};
 ghost use Rattle.octets.specs.Limits.{longest};
 ghost use Rattle.number.specs.Reading.{read_number, many};
 ghost use Rattle.term.specs.Tags.{first_function};
-ghost use Rattle.term.specs.Arity.{undeclared, arity};
+ghost use Rattle.term.specs.Arity.{arity};
 ghost use Rattle.term.specs.Reader.{name_at, op_at, symbol_at, term};
 ghost use Rattle.term.specs.Walk.{hits, walked, walks, ended, endeds, bytes_of};
 ghost use Rattle.term.specs.Walk.Laws.{step_of};
