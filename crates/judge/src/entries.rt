@@ -2,6 +2,16 @@
 ghost use Rattle.std.specs.Prelude.{◌≡◌, ◌<◌, length};
 ghost use Rattle.judge.specs.Tables.{total, Past, Of};
 
+// The trace in numbers: for each node the number of entries before it, for each entry its symbol, for each argument its class; and the class of
+// the first public name.
+#[derive(Clone, Copy)]
+pub struct Tables<'a> {
+    pub starts: &'a [u32],
+    pub symbols: &'a [u32],
+    pub classes: &'a [u32],
+    pub base: u32,
+}
+
 // How many there are.
 pub fn total(starts: &[u32]) -> usize
     requires { 0 < length starts.now }

@@ -12,6 +12,7 @@ ghost use Rattle.judge.specs.Tables.{Shape, trace_of};
 ghost use Rattle.judge.specs.Judging.{Fits, Property, AtomIs, Bodied, Fitting, AtomSaid, Says, Walked, Occurs, traced};
 ghost use Rattle.judge.specs.Folding.{join};
 
+use crate::entries::Tables;
 use crate::matching::Bindings;
 use crate::reading::{Coded, Guard, Num};
 use crate::{entries, figures, matching, reading, skipping};
@@ -24,26 +25,26 @@ pub struct Judged {
 }
 
 // Whether some entry is the fact at its time; all its variables are bound.
-fn occurs(
-    fact: &Coded,
-    starts: &[u32],
-    symbols: &[u32],
-    classes: &[u32],
-    base: u32,
-    bound: &Bindings,
-) -> bool
-    requires { Shape starts.now symbols.now classes.now × (fact.now.count ≤ most_fact_arity) }
-    ensures { Promises (Fitting bound.now.count fact.now) (Occurs starts.now symbols.now classes.now base bound.now.values result) }
+fn occurs(fact: &Coded, tables: Tables, bound: &Bindings) -> bool
+    requires { Shape tables.starts.now tables.symbols.now tables.classes.now × (fact.now.count ≤ most_fact_arity) }
+    ensures { Promises (Fitting bound.now.count fact.now) (Occurs tables.entry.starts.now tables.entry.symbols.now tables.entry.classes.now tables.entry.base bound.now.values result) }
 {
     let values = &bound.values;
     let time = matching::slot(values, fact.time);
-    let count = entries::total(starts);
+    let count = entries::total(tables.starts);
     let mut node = 0;
     for e in 0..count {
-        if symbols[e] as usize == fact.symbol {
-            node = entries::node_of(starts, node, e);
+        if tables.symbols[e] as usize == fact.symbol {
+            node = entries::node_of(tables.starts, node, e);
             let p = figures::ARITY * e;
-            let same = matching::agree(fact, classes, p, values, figures::SCOPE, base);
+            let same = matching::agree(
+                fact,
+                tables.classes,
+                p,
+                values,
+                figures::SCOPE,
+                tables.base,
+            );
             if (time == node + 1) & same {
                 return true;
             }
@@ -81,27 +82,18 @@ fn times(file: &[u8], at: usize, order: bool, bound: &Bindings) -> Judged
 }
 
 // The atom behind a tag, as an odd tag asserts it.
-fn atom(
-    file: &[u8],
-    tag: Num,
-    arities: &[u8],
-    starts: &[u32],
-    symbols: &[u32],
-    classes: &[u32],
-    base: u32,
-    bound: &Bindings,
-) -> Judged
-    requires { Shape starts.now symbols.now classes.now }
-    ensures { Promises (AtomIs arities.now (λ ars. atom_at file.now ars tag.value tag.next) bound.now.count) (AtomSaid (traced starts.now symbols.now classes.now) base bound.now.values result) }
+fn atom(file: &[u8], tag: Num, arities: &[u8], tables: Tables, bound: &Bindings) -> Judged
+    requires { Shape tables.starts.now tables.symbols.now tables.classes.now }
+    ensures { Promises (AtomIs arities.now (λ ars. atom_at file.now ars tag.value tag.next) bound.now.count) (AtomSaid (traced tables.entry.starts.now tables.entry.symbols.now tables.entry.classes.now) tables.entry.base bound.now.values result) }
 {
     if tag.value < property::figures::BEFORE {
-        return equal(file, tag.next, base, bound);
+        return equal(file, tag.next, tables.base, bound);
     }
     if tag.value < property::figures::ACTION {
         return times(file, tag.next, tag.value < figures::SAME_TIME, bound);
     }
     let fact = reading::read_fact(file, tag.next, arities);
-    let found = occurs(&fact, starts, symbols, classes, base, bound);
+    let found = occurs(&fact, tables, bound);
     Judged {
         truth: found,
         next: fact.next,
@@ -124,18 +116,9 @@ fn sign(asserted: bool, x: bool) -> bool
 
 // Whether the formula at a place is true, and the place behind it. Both sides of and, or are judged.
 #[cycle(judge_walk)]
-fn judge(
-    file: &[u8],
-    at: usize,
-    arities: &[u8],
-    starts: &[u32],
-    symbols: &[u32],
-    classes: &[u32],
-    base: u32,
-    bound: &Bindings,
-) -> Judged
-    requires { Asks (Fits file.now arities.now at bound.now.count) × Shape starts.now symbols.now classes.now }
-    ensures { Promises (Fits file.now arities.now at bound.now.count) (Says starts.now symbols.now classes.now base bound.now.values result) }
+fn judge(file: &[u8], at: usize, arities: &[u8], tables: Tables, bound: &Bindings) -> Judged
+    requires { Asks (Fits file.now arities.now at bound.now.count) × Shape tables.starts.now tables.symbols.now tables.classes.now }
+    ensures { Promises (Fits file.now arities.now at bound.now.count) (Says tables.entry.starts.now tables.entry.symbols.now tables.entry.classes.now tables.entry.base bound.now.values result) }
 {
     let tag = reading::read(file, at);
     if tag.value == property::figures::FALSE {
@@ -145,7 +128,7 @@ fn judge(
         };
     }
     if tag.value < property::figures::AND {
-        let a = atom(file, tag, arities, starts, symbols, classes, base, bound);
+        let a = atom(file, tag, arities, tables, bound);
         let truth = sign(tag.value % figures::SIGNS == figures::ASSERTS, a.truth);
         return Judged {
             truth,
@@ -154,8 +137,8 @@ fn judge(
     }
     if tag.value < property::figures::EXISTS {
         let i = tag.next;
-        let x = judge(file, i, arities, starts, symbols, classes, base, bound);
-        let y = judge(file, x.next, arities, starts, symbols, classes, base, bound);
+        let x = judge(file, i, arities, tables, bound);
+        let y = judge(file, x.next, arities, tables, bound);
         let truth = join(tag.value == property::figures::AND, x.truth, y.truth);
         return Judged {
             truth,
@@ -163,44 +146,35 @@ fn judge(
         };
     }
     let guard = reading::read_guard(file, tag.next, arities, tag.value == figures::EVERY);
-    walk(file, &guard, arities, starts, symbols, classes, base, bound)
+    walk(file, &guard, arities, tables, bound)
 }
 
 // The quantifier of a guard: the guard is compared with every entry of every node, in order, and the body judged once for each match. Where
 // no entry matches, the body is passed over for the place behind it.
 #[cycle(judge_walk)]
-fn walk(
-    file: &[u8],
-    guard: &Guard,
-    arities: &[u8],
-    starts: &[u32],
-    symbols: &[u32],
-    classes: &[u32],
-    base: u32,
-    bound: &Bindings,
-) -> Judged
-    requires { Asks₃ (Bodied file.now arities.now guard.now bound.now.count) × Shape starts.now symbols.now classes.now × (guard.now.fact.count ≤ most_fact_arity) }
-    ensures { Promises₃ (Bodied file.now arities.now guard.now bound.now.count) (Walked starts.now symbols.now classes.now base guard.now.every bound.now.values result) }
+fn walk(file: &[u8], guard: &Guard, arities: &[u8], tables: Tables, bound: &Bindings) -> Judged
+    requires { Asks₃ (Bodied file.now arities.now guard.now bound.now.count) × Shape tables.starts.now tables.symbols.now tables.classes.now × (guard.now.fact.count ≤ most_fact_arity) }
+    ensures { Promises₃ (Bodied file.now arities.now guard.now bound.now.count) (Walked tables.entry.starts.now tables.entry.symbols.now tables.entry.classes.now tables.entry.base guard.now.every bound.now.values result) }
 {
     let count = bound.count + guard.fresh;
-    let total = entries::total(starts);
+    let total = entries::total(tables.starts);
     let mut truth = guard.every;
     let mut next = None;
     let mut node = 0;
     for e in 0..total {
-        if symbols[e] as usize == guard.fact.symbol {
-            node = entries::node_of(starts, node, e);
+        if tables.symbols[e] as usize == guard.fact.symbol {
+            node = entries::node_of(tables.starts, node, e);
             if let Some(values) = matching::match_guard(
                 &guard.fact,
-                classes,
-                base,
+                tables.classes,
+                tables.base,
                 node,
                 e,
                 bound,
             ) {
                 let inner = Bindings { values, count };
                 let i = guard.fact.next;
-                let r = judge(file, i, arities, starts, symbols, classes, base, &inner);
+                let r = judge(file, i, arities, tables, &inner);
                 truth = join(guard.every, truth, r.truth);
                 next = Some(r.next);
             }
@@ -232,5 +206,11 @@ pub fn holds(
         values: [0; figures::SCOPE],
         count: 0,
     };
-    judge(file, 0, arities, starts, symbols, classes, base, &bound).truth
+    let tables = Tables {
+        starts,
+        symbols,
+        classes,
+        base,
+    };
+    judge(file, 0, arities, tables, &bound).truth
 }

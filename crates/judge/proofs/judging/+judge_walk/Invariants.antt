@@ -14,4 +14,4 @@ decreases-walk l =
 
 abbrev pub invariant-walk-loop-e : goal.invariant-walk-loop-e
 invariant-walk-loop-e l =
-    Walking l.starts l.symbols l.classes l.base l.file l.arities l.guard l.bound.count l.bound.values l.truth l.next l.node l.e
+    Walking l.tables.starts.now l.tables.symbols.now l.tables.classes.now l.tables.base l.file l.arities l.guard l.bound.count l.bound.values l.truth l.next l.node l.e

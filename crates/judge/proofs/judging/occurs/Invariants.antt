@@ -4,4 +4,4 @@ use Rattle.judge.proofs.judging.occurs.Given as goal
 
 abbrev pub invariant-loop-e : goal.invariant-loop-e
 invariant-loop-e l =
-    Occurring l.starts l.symbols l.classes l.base l.fact l.bound.values l.node l.e
+    Occurring l.tables.starts.now l.tables.symbols.now l.tables.classes.now l.tables.base l.fact l.bound.values l.node l.e
