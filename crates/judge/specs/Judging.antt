@@ -15,8 +15,9 @@ use Rattle.property.specs.Judge.{judge, test, matches, extended, entries_from}
 use Rattle.judge.specs.declared.reading.Coded.{Coded}
 use Rattle.judge.specs.declared.reading.Guard.{Guard}
 use Rattle.judge.specs.declared.judging.Judged.{Judged}
+use Rattle.judge.specs.declared.entries.Tables.{Tables}
 use Rattle.property.specs.Judge.Numbers.{numbers}
-use Rattle.judge.specs.Tables.{Arities, trace_of, entry_of}
+use Rattle.judge.specs.Tables.{Shape, Arities, trace_of, entry_of}
 use Rattle.judge.specs.Bindings.{bound}
 use Rattle.judge.specs.Reading.{Carries}
 -- a guard against an entry
@@ -139,3 +140,20 @@ module _ (starts symbols classes : List ℕ) (base : ℕ) where
   pub record Walked (every : Bool) (b : List ℕ) (r : Judged) (x : Guarded) (φ : Formula) (k : ℕ) : Type 0 where
     pub truth : r.truth ≡ truth_of x.ars x.scope b (quantified every (head_of x.sorts x.guard) φ)
     pub next : r.next ≡ k
+
+-- the same, of the tables as code has them
+module _ (t : Tables) where
+  abbrev pub Shaped : Type 0
+  Shaped = Shape t.starts.now t.symbols.now t.classes.now
+
+  abbrev pub OccursIn : List ℕ → Bool → Guarded → Type 0
+  OccursIn = Occurs t.starts.now t.symbols.now t.classes.now t.base
+
+  abbrev pub AtomSaidIn : List ℕ → Judged → Stated → Type 0
+  AtomSaidIn = AtomSaid (traced t.starts.now t.symbols.now t.classes.now) t.base
+
+  abbrev pub SaysIn : List ℕ → Judged → Written → Type 0
+  SaysIn = Says t.starts.now t.symbols.now t.classes.now t.base
+
+  abbrev pub WalkedIn : Bool → List ℕ → Judged → Guarded → Formula → ℕ → Type 0
+  WalkedIn = Walked t.starts.now t.symbols.now t.classes.now t.base

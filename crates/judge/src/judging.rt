@@ -9,7 +9,7 @@ ghost use Rattle.property.specs.Layout.{equal_at, times_at, atom_at};
 ghost use Rattle.property.specs.Judge.{judge};
 ghost use Rattle.property.specs.Judge.Numbers.{numbers};
 ghost use Rattle.judge.specs.Tables.{Shape, trace_of};
-ghost use Rattle.judge.specs.Judging.{Fits, Property, AtomIs, Bodied, Fitting, AtomSaid, Says, Walked, Occurs, traced};
+ghost use Rattle.judge.specs.Judging.{Fits, Property, AtomIs, Bodied, Fitting, AtomSaid, Shaped, OccursIn, AtomSaidIn, SaysIn, WalkedIn};
 ghost use Rattle.judge.specs.Folding.{join};
 
 use crate::entries::Tables;
@@ -26,8 +26,8 @@ pub struct Judged {
 
 // Whether some entry is the fact at its time; all its variables are bound.
 fn occurs(fact: &Coded, tables: Tables, bound: &Bindings) -> bool
-    requires { Shape tables.starts.now tables.symbols.now tables.classes.now × (fact.now.count ≤ most_fact_arity) }
-    ensures { Promises (Fitting bound.now.count fact.now) (Occurs tables.entry.starts.now tables.entry.symbols.now tables.entry.classes.now tables.entry.base bound.now.values result) }
+    requires { Shaped tables × (fact.now.count ≤ most_fact_arity) }
+    ensures { Promises (Fitting bound.now.count fact.now) (OccursIn tables.entry bound.now.values result) }
 {
     let values = &bound.values;
     let time = matching::slot(values, fact.time);
@@ -83,8 +83,8 @@ fn times(file: &[u8], at: usize, order: bool, bound: &Bindings) -> Judged
 
 // The atom behind a tag, as an odd tag asserts it.
 fn atom(file: &[u8], tag: Num, arities: &[u8], tables: Tables, bound: &Bindings) -> Judged
-    requires { Shape tables.starts.now tables.symbols.now tables.classes.now }
-    ensures { Promises (AtomIs arities.now (λ ars. atom_at file.now ars tag.value tag.next) bound.now.count) (AtomSaid (traced tables.entry.starts.now tables.entry.symbols.now tables.entry.classes.now) tables.entry.base bound.now.values result) }
+    requires { Shaped tables }
+    ensures { Promises (AtomIs arities.now (λ ars. atom_at file.now ars tag.value tag.next) bound.now.count) (AtomSaidIn tables.entry bound.now.values result) }
 {
     if tag.value < property::figures::BEFORE {
         return equal(file, tag.next, tables.base, bound);
@@ -117,8 +117,8 @@ fn sign(asserted: bool, x: bool) -> bool
 // Whether the formula at a place is true, and the place behind it. Both sides of and, or are judged.
 #[cycle(judge_walk)]
 fn judge(file: &[u8], at: usize, arities: &[u8], tables: Tables, bound: &Bindings) -> Judged
-    requires { Asks (Fits file.now arities.now at bound.now.count) × Shape tables.starts.now tables.symbols.now tables.classes.now }
-    ensures { Promises (Fits file.now arities.now at bound.now.count) (Says tables.entry.starts.now tables.entry.symbols.now tables.entry.classes.now tables.entry.base bound.now.values result) }
+    requires { Asks (Fits file.now arities.now at bound.now.count) × Shaped tables }
+    ensures { Promises (Fits file.now arities.now at bound.now.count) (SaysIn tables.entry bound.now.values result) }
 {
     let tag = reading::read(file, at);
     if tag.value == property::figures::FALSE {
@@ -153,8 +153,8 @@ fn judge(file: &[u8], at: usize, arities: &[u8], tables: Tables, bound: &Binding
 // no entry matches, the body is passed over for the place behind it.
 #[cycle(judge_walk)]
 fn walk(file: &[u8], guard: &Guard, arities: &[u8], tables: Tables, bound: &Bindings) -> Judged
-    requires { Asks₃ (Bodied file.now arities.now guard.now bound.now.count) × Shape tables.starts.now tables.symbols.now tables.classes.now × (guard.now.fact.count ≤ most_fact_arity) }
-    ensures { Promises₃ (Bodied file.now arities.now guard.now bound.now.count) (Walked tables.entry.starts.now tables.entry.symbols.now tables.entry.classes.now tables.entry.base guard.now.every bound.now.values result) }
+    requires { Asks₃ (Bodied file.now arities.now guard.now bound.now.count) × Shaped tables × (guard.now.fact.count ≤ most_fact_arity) }
+    ensures { Promises₃ (Bodied file.now arities.now guard.now bound.now.count) (WalkedIn tables.entry guard.now.every bound.now.values result) }
 {
     let count = bound.count + guard.fresh;
     let total = entries::total(tables.starts);
