@@ -11,6 +11,13 @@ ghost use Rattle.property.specs.Walk.{scope_of, declared, Tabled, as_guard, guar
 use crate::terms::Sort;
 use crate::{figures, terms};
 
+// A property file, and the table of arities of the fact symbols that it stands under.
+#[derive(Clone, Copy)]
+pub struct File<'a> {
+    pub bytes: &'a [u8],
+    pub arities: &'a [u8],
+}
+
 // A guard: the place of its terms, their number, its time variable; the place behind it; whether its variables are in scope and of their sort.
 #[derive(Clone, Copy)]
 pub struct Guard {
@@ -33,13 +40,13 @@ fn arity_of(arities: &[u8], symbol: usize) -> Option<usize>
 }
 
 // A fact and its time variable.
-pub fn see_guard(f: &[u8], arities: &[u8], at: usize, sorts: &[Sort]) -> Option<Guard>
-    ensures { Promises (Tabled arities.now) (λ (ars : List ℕ). result ≡ as_guard (scope_of sorts.now) (guard_at f.now ars at)) }
+pub fn see_guard(file: File, at: usize, sorts: &[Sort]) -> Option<Guard>
+    ensures { Promises (Tabled file.entry.arities.now) (λ (ars : List ℕ). result ≡ as_guard (scope_of sorts.now) (guard_at file.entry.bytes.now ars at)) }
 {
-    let (symbol, place) = number::read_number(f, at)?;
-    let count = arity_of(arities, symbol as usize)?;
-    let (i, fits) = terms::fit_terms(f, place, count, sorts)?;
-    let (time, end) = number::read_number(f, i)?;
+    let (symbol, place) = number::read_number(file.bytes, at)?;
+    let count = arity_of(file.arities, symbol as usize)?;
+    let (i, fits) = terms::fit_terms(file.bytes, place, count, sorts)?;
+    let (time, end) = number::read_number(file.bytes, i)?;
     Some(Guard {
         terms: place,
         count: count,
@@ -50,10 +57,10 @@ pub fn see_guard(f: &[u8], arities: &[u8], at: usize, sorts: &[Sort]) -> Option<
 }
 
 // "action (fact, time variable)"
-fn see_action(f: &[u8], arities: &[u8], at: usize, sorts: &[Sort]) -> Option<(usize, bool)>
-    ensures { Promises (Tabled arities.now) (λ (ars : List ℕ). result ≡ seen (atom_fits (scope_of sorts.now)) (action_at f.now ars at)) }
+fn see_action(file: File, at: usize, sorts: &[Sort]) -> Option<(usize, bool)>
+    ensures { Promises (Tabled file.entry.arities.now) (λ (ars : List ℕ). result ≡ seen (atom_fits (scope_of sorts.now)) (action_at file.entry.bytes.now ars at)) }
 {
-    let guard = see_guard(f, arities, at, sorts)?;
+    let guard = see_guard(file, at, sorts)?;
     Some((guard.end, guard.fits))
 }
 
@@ -82,20 +89,14 @@ fn see_times(f: &[u8], at: usize, sorts: &[Sort]) -> Option<(usize, bool)>
 }
 
 // What stands behind an atom's tag.
-pub fn see_atom(
-    f: &[u8],
-    arities: &[u8],
-    tag: usize,
-    at: usize,
-    sorts: &[Sort],
-) -> Option<(usize, bool)>
-    ensures { Promises (Tabled arities.now) (λ (ars : List ℕ). result ≡ seen (atom_fits (scope_of sorts.now)) (atom_at f.now ars tag at)) }
+pub fn see_atom(file: File, tag: usize, at: usize, sorts: &[Sort]) -> Option<(usize, bool)>
+    ensures { Promises (Tabled file.entry.arities.now) (λ (ars : List ℕ). result ≡ seen (atom_fits (scope_of sorts.now)) (atom_at file.entry.bytes.now ars tag at)) }
 {
     if tag < figures::BEFORE {
-        return see_equal(f, at, sorts);
+        return see_equal(file.bytes, at, sorts);
     }
     if tag < figures::ACTION {
-        return see_times(f, at, sorts);
+        return see_times(file.bytes, at, sorts);
     }
-    see_action(f, arities, at, sorts)
+    see_action(file, at, sorts)
 }

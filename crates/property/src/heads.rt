@@ -9,7 +9,7 @@ ghost use Rattle.property.specs.Fit.{is_var, guarded};
 ghost use Rattle.property.specs.Layout.{term_at, sort_at, scoped_at};
 ghost use Rattle.property.specs.Walk.{sort_of, scope_of, as_sort, as_sorts, in_guard, Tabled, GuardIs, HeadIs};
 
-use crate::facts::Guard;
+use crate::facts::{File, Guard};
 use crate::terms::Sort;
 use crate::{facts, figures, terms};
 
@@ -82,28 +82,28 @@ fn all_in_guard(f: &[u8], guard: Guard, sorts: &[Sort], n: usize) -> bool
 }
 
 // The guard of a quantifier whose new variables are those from n on.
-fn see_new(f: &[u8], arities: &[u8], at: usize, sorts: &[Sort], n: usize) -> Option<Opened>
+fn see_new(file: File, at: usize, sorts: &[Sort], n: usize) -> Option<Opened>
     requires { n ≤ length sorts.now }
-    ensures { Promises (Tabled arities.now) (λ (ars : List ℕ). GuardIs f.now ars at sorts.now n result) }
+    ensures { Promises (Tabled file.entry.arities.now) (λ (ars : List ℕ). GuardIs file.entry.bytes.now ars at sorts.now n result) }
 {
-    let guard = facts::see_guard(f, arities, at, sorts)?;
+    let guard = facts::see_guard(file, at, sorts)?;
     Some(Opened {
         count: sorts.len(),
         end: guard.end,
-        fits: guard.fits & all_in_guard(f, guard, sorts, n),
+        fits: guard.fits & all_in_guard(file.bytes, guard, sorts, n),
     })
 }
 
 // What stands before a quantifier's body where n variables are in scope: their sorts are lent, and get the new ones behind them.
-pub fn see_head(f: &[u8], arities: &[u8], at: usize, sorts: &mut [Sort], n: usize) -> Option<Opened>
+pub fn see_head(file: File, at: usize, sorts: &mut [Sort], n: usize) -> Option<Opened>
     requires { (n ≤ most_scope) × (length sorts.old ≡ most_scope) }
-    ensures { Promises (Tabled arities.now) (λ (ars : List ℕ). HeadIs (scoped_at f.now ars n at) n sorts.old sorts.new result) }
+    ensures { Promises (Tabled file.entry.arities.now) (λ (ars : List ℕ). HeadIs (scoped_at file.entry.bytes.now ars n at) n sorts.old sorts.new result) }
 {
-    let (k, i) = number::below(f, at, figures::NEW_LIMIT)?;
+    let (k, i) = number::below(file.bytes, at, figures::NEW_LIMIT)?;
     let m = n + k as usize;
     if figures::MOST_SCOPE < m {
         return None;
     }
-    let e = read_sorts(f, i, &mut sorts[n..m])?;
-    see_new(f, arities, e, &sorts[..m], n)
+    let e = read_sorts(file.bytes, i, &mut sorts[n..m])?;
+    see_new(file, e, &sorts[..m], n)
 }

@@ -8,6 +8,7 @@ ghost use Rattle.property.specs.Layout.{property};
 ghost use Rattle.property.specs.Causes.{property_ruling};
 ghost use Rattle.property.specs.Causes.Code.{plainly};
 
+use crate::facts::File;
 use crate::formulas;
 use prepared::sections;
 use rewriting::Refusal;
@@ -17,7 +18,11 @@ pub fn rule_property(p: &[u8], f: &[u8]) -> Result<(), Refusal>
     requires { Asks (Body p.now) }
     ensures { Promises (Body p.now) (λ (P : Protocol). answered result ≡ plainly (property_ruling (property f.now (fact_arities P.symbols)))) }
 {
-    match formulas::see_property(f, &p[sections::ARITIES..sections::LINEARS]) {
+    let file = File {
+        bytes: f,
+        arities: &p[sections::ARITIES..sections::LINEARS],
+    };
+    match formulas::see_property(file) {
         Some((_, true)) => Ok(()),
         Some((_, false)) => Err(Refusal {
             number: rewriting::VARIABLE_WRONG,

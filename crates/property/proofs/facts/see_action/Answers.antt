@@ -7,8 +7,8 @@ use Rattle.property.proofs.facts.see_action.Goals as goal
 pub returns-in_err-guard : goal.returns-in_err-guard
 returns-in_err-guard c =
     λ ars t. rw c.from_residual.ensures
-    (action_none (scope_of c.args.sorts.now) c.args.f.now ars c.args.at (sym c.in_err-guard.was ∙ c.see_guard.ensures ars t))
+    (action_none (scope_of c.args.sorts.now) c.args.file.bytes.now ars c.args.at (sym c.in_err-guard.was ∙ c.see_guard.ensures ars t))
 
 pub returns : goal.returns
 returns c =
-    λ ars t. action_end (scope_of c.args.sorts.now) c.args.f.now ars c.args.at (sym c.in_ok-guard.was ∙ c.see_guard.ensures ars t)
+    λ ars t. action_end (scope_of c.args.sorts.now) c.args.file.bytes.now ars c.args.at (sym c.in_ok-guard.was ∙ c.see_guard.ensures ars t)

@@ -6,12 +6,12 @@ use Rattle.property.proofs.formulas.see_property.Goals as goal
 pub returns-in_err-e : goal.returns-in_err-e
 returns-in_err-e c =
     λ ars t. rw c.from_residual.ensures
-    (property_none c.args.f.now ars (sym c.in_err-e.was ∙ c.see_formula.ensures ars t))
+    (property_none c.args.file.bytes.now ars (sym c.in_err-e.was ∙ c.see_formula.ensures ars t))
 
-pub returns-then-e-f : goal.returns-then-e-f
-returns-then-e-f c =
-    λ ars t. property_end c.args.f.now ars (sym c.in_ok-e.was ∙ c.see_formula.ensures ars t) c.if-e-f.true
+pub returns-then-e-file : goal.returns-then-e-file
+returns-then-e-file c =
+    λ ars t. property_end c.args.file.bytes.now ars (sym c.in_ok-e.was ∙ c.see_formula.ensures ars t) c.if-e-file.true
 
 pub returns : goal.returns
 returns c =
-    λ ars t. property_left c.args.f.now ars (sym c.in_ok-e.was ∙ c.see_formula.ensures ars t) c.if-e-f.false
+    λ ars t. property_left c.args.file.bytes.now ars (sym c.in_ok-e.was ∙ c.see_formula.ensures ars t) c.if-e-file.false

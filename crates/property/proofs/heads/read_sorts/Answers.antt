@@ -1,7 +1,7 @@
 -- The invariant is that as many sorts as were passed are read up to i and stand in the slice.
-use Rattle.property.specs.Walk.Heads.{sorting_begins, sorting_next, sorting_ends, sorting_stops}
+use Rattle.property.specs.Walk.Heads.{sorting_begins, sorting_next, sorting_stops}
 use Rattle.property.specs.Walk.{as_sort}
-use Rattle.std.proofs.Common.{length-set, ◌<◌, ◌≡◌, length, arith}
+use Rattle.std.proofs.Common.{length-set, ◌<◌, length, arith}
 use mathlib.Core.Path.{ap, sym, ◌∙◌}
 use Rattle.property.proofs.heads.read_sorts.Goals as goal
 
@@ -18,8 +18,3 @@ pub loop-s-preserved : goal.loop-s-preserved
 loop-s-preserved c =
     let l : c.loop-s.s-index < length c.loop-s.sorts = omega arith in
     sorting_next c.args.f.now c.args.at c.loop-s.sorts c.in_ok-sort.sort l c.loop-s.invariant (ap as_sort (sym c.in_ok-sort.was) ∙ c.read_sort.ensures)
-
-pub returns : goal.returns
-returns c =
-    let m : c.loop-s.s-index ≡ length c.loop-s.sorts = omega arith in
-    sorting_ends c.args.f.now c.args.at c.loop-s.sorts m c.loop-s.invariant

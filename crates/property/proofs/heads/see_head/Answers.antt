@@ -13,20 +13,20 @@ use Rattle.property.proofs.heads.see_head.Goals as goal
 pub returns-in_err-k : goal.returns-in_err-k
 returns-in_err-k c =
     λ ars t. rw c.from_residual.ensures
-    (scoped_fault c.args.f.now ars c.args.at c.args.n (ap as_read (sym c.in_err-k.was) ∙ c.below.ensures))
+    (scoped_fault c.args.file.bytes.now ars c.args.at c.args.n (ap as_read (sym c.in_err-k.was) ∙ c.below.ensures))
 
 pub returns-then-m-gt-MOST_SCOPE : goal.returns-then-m-gt-MOST_SCOPE
 returns-then-m-gt-MOST_SCOPE c =
-    λ ars t. scoped_many c.args.f.now ars c.args.at c.args.n (ap as_read (sym c.in_ok-k.was) ∙ c.below.ensures)
+    λ ars t. scoped_many c.args.file.bytes.now ars c.args.at c.args.n (ap as_read (sym c.in_ok-k.was) ∙ c.below.ensures)
     c.if-m-gt-MOST_SCOPE.true
 
 pub returns-in_err-e : goal.returns-in_err-e
 returns-in_err-e c =
     λ ars t. rw c.from_residual-in_err-e.ensures
-    (scoped_stops c.args.f.now ars c.args.at c.args.n (ap as_read (sym c.in_ok-k.was) ∙ c.below.ensures)
+    (scoped_stops c.args.file.bytes.now ars c.args.at c.args.n (ap as_read (sym c.in_ok-k.was) ∙ c.below.ensures)
     (let m : length c.read_sorts.new.sorts ≡ c.in_ok-k.k = omega arith in
     ap (λ (o : Option ℕ). as_sorts o c.read_sorts.new.sorts) (sym c.in_err-e.was) ∙ c.read_sorts.ensures
-    ∙ ap (λ (n : ℕ). many (sort_at c.args.f.now) n c.in_ok-k.i) m))
+    ∙ ap (λ (n : ℕ). many (sort_at c.args.file.bytes.now) n c.in_ok-k.i) m))
 
 pub returns : goal.returns
 returns c =
@@ -35,10 +35,10 @@ returns c =
     let m : length c.read_sorts.new.sorts ≡ c.in_ok-k.k = omega arith in
     let wide = take-put_mid c.args.n (c.args.n + c.in_ok-k.k - c.args.n) c.args.sorts.now c.read_sorts.new.sorts
     (c.args.n + length c.read_sorts.new.sorts) refl short in
-    λ ars t. scoped_by c.args.f.now ars c.args.at c.args.n c.see_new.result c.args.sorts.now new
+    λ ars t. scoped_by c.args.file.bytes.now ars c.args.at c.args.n c.see_new.result c.args.sorts.now new
     (ap as_read (sym c.in_ok-k.was) ∙ c.below.ensures) c.if-m-gt-MOST_SCOPE.false
-    (subst (λ (k : ℕ). HeadIs (head_from c.args.f.now ars k c.in_ok-k.i) c.args.n c.args.sorts.now new c.see_new.result) m
-    (sorts_by c.args.f.now ars c.in_ok-k.i c.args.n c.args.sorts.now new c.read_sorts.new.sorts short wide c.see_new.result
+    (subst (λ (k : ℕ). HeadIs (head_from c.args.file.bytes.now ars k c.in_ok-k.i) c.args.n c.args.sorts.now new c.see_new.result) m
+    (sorts_by c.args.file.bytes.now ars c.in_ok-k.i c.args.n c.args.sorts.now new c.read_sorts.new.sorts short wide c.see_new.result
     (ap (λ (o : Option ℕ). as_sorts o c.read_sorts.new.sorts) (sym c.in_ok-e.was) ∙ c.read_sorts.ensures)
-    (subst (λ (l : List Sort). GuardIs c.args.f.now ars c.in_ok-e.e l c.args.n c.see_new.result)
+    (subst (λ (l : List Sort). GuardIs c.args.file.bytes.now ars c.in_ok-e.e l c.args.n c.see_new.result)
     (ap (λ (k : ℕ). take (c.args.n + k) new) (sym m) ∙ wide) (c.see_new.ensures ars t))))

@@ -2,10 +2,8 @@
 use Rattle.property.specs.Walk.Terms.{tested, untested}
 use Rattle.property.specs.Layout.{term_at}
 use Rattle.number.specs.Reading.Many.{walk_none, walk_more, walk_stop}
-use Rattle.number.specs.Reading.{many, seen}
-use Rattle.lists.specs.Lists.{any_by}
-use Rattle.std.proofs.Common.{Option, ℕ, Bool, rules, arith, ◌≡◌}
-use mathlib.Core.Path.{ap, sym, ◌∙◌}
+use Rattle.std.proofs.Common.{Option, ℕ, Bool, rules}
+use mathlib.Core.Path.{sym, ◌∙◌}
 use Rattle.property.proofs.terms.any_term.Goals as goal
 
 pub loop-init : goal.loop-init
@@ -24,8 +22,3 @@ loop-preserved g c = (
       (tested (λ (v : Option ℕ) (b : Bool). g.F.Fn.post c.args.test (v, tt) b) q tests (term_at c.args.f.now c.loop.i)
       (sym c.in_ok-x.was ∙ c.see_term.ensures) c.test-found.ensures),
 )
-
-pub returns : goal.returns
-returns g c =
-    let m : c.loop.counter ≡ c.args.k = omega arith in
-    λ q tests. sym (ap (λ (n : ℕ). seen (any_by q) (many (term_at c.args.f.now) n c.args.at)) (sym m) ∙ c.loop.invariant.1 q tests)
