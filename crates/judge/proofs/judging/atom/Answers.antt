@@ -15,10 +15,6 @@ returns-then-tag-lt-ACTION c =
     s (as_times c.args.file.now c.args.arities.now c.args.tag.value c.args.tag.next c.args.bound.now.count c.if-tag-lt-BEFORE.false
     c.if-tag-lt-ACTION.true s a)
 
-pub occurs-found-requires : goal.occurs-found-requires
-occurs-found-requires c =
-    (c.requires, c.read_fact-fact.ensures.few)
-
 pub returns : goal.returns
 returns c =
     λ s a. said_action c.args.file.now c.args.arities.now c.args.tables.starts.now c.args.tables.symbols.now c.args.tables.classes.now
