@@ -61,6 +61,7 @@ pub fn same_fact(out: &mut [u8], p: &[u8], s: &[u8], nodes: &[usize], x: FactId,
     requires { Asks₃ (FactsIn p.now s.now nodes.now x Wanted.All y Wanted.All) × Room out.old fact_room }
     ensures { Promises₃ (FactsIn p.now s.now nodes.now x Wanted.All y Wanted.All) (λ (P : Protocol) (m n : Node). TellsFacts P (fact_at P x.list x.number m) (fact_at P y.list y.number n) result) }
 {
+    // Each is placed here: of a fact that a function placed, each clause at its id would need `result.id ≡ x` first.
     let i = nodes::fact_place(p, nodes, x);
     let j = nodes::fact_place(p, nodes, y);
     let f = PlacedFact { id: x, place: i };

@@ -18,6 +18,8 @@ pub const MOST_NODES: usize = 512;
 
 const NODE_LIMIT: usize = MOST_NODES + 1;
 
+// The table is flat, numbers by their places: so `Row` and `NodesIn` (specs/Table.antt), under the theorems of the crates above, read it, and
+// one buffer of a caller serves both sizes.
 // The row of a node in the table: its rule number, the places of its values and the place behind them, the symbols of each value, and 1
 // where a value holds a variable.
 pub const PLACES: usize = figures::MOST_VARIABLES + 1;
@@ -67,9 +69,7 @@ fn place_values(
     let mut i = at;
     let mut held = false;
     for v in 0..k {
-        let w = term::walk_term(s, arities, i, term::VARIABLES).ok_or(
-            NodeFault::Broken,
-        )?;
+        let w = term::walk_term(s, arities, i, term::VARIABLES).ok_or(NodeFault::Broken)?;
         nodes[to + v] = i;
         nodes[to + PLACES + v] = w.size;
         held |= w.hit;

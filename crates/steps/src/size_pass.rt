@@ -26,6 +26,7 @@ pub fn size_pass(p: &[u8], s: &[u8], nodes: &[usize], n: usize) -> Option<usize>
     requires { Asks₂ (NodesIn p.now s.now nodes.now n) }
     ensures { Promises₂ (NodesIn p.now s.now nodes.now n) (λ (P : Protocol) (xs : List Node). result ≡ first_bad (λ (k : ℕ) (x : Node). node_terms_ok P x) 1 xs) }
 {
+    // A loop of its own, as in values and names: one function over closures would ask each of them that its node stands in the table.
     for j in 0..n {
         if !node_terms(p, s, nodes, j) {
             return Some(j + 1);

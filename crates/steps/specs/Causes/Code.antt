@@ -42,9 +42,6 @@ module _ (P : Protocol) (p s nodes : List ℕ) (r : Result (ℕ × ℕ) NodesFau
   as_told : {q : Result (ℕ × ℕ) NodesFault} → r ≡ q → Told (steps P s) p s nodes q
   as_told h = subst (Told (steps P s) p s nodes) h told
 
-  pub list_fault : (f : NodesFault) → r ≡ Err f → answered (Err (fault_refusal f steps_item)) ≡ Whole
-  list_fault f h = fault_ruled P p s nodes (steps P s) f steps_item (as_told h)
-
   module _ {n e : ℕ} (h : r ≡ Ok (n, e)) where
     pub list_read : NodesAre (steps P s) p s nodes n e
     list_read = as_told h

@@ -1,8 +1,6 @@
 -- A list that reads has its nodes in the table, so rule_nodes rules on it; a fault is 3, an unknown rule 6.
 use Rattle.steps.specs.Causes.Good.{where_good}
-use Rattle.steps.specs.Causes.Code.{list_fault, list_read, list_in, list_nodes}
-use Rattle.std.proofs.Common.{Err, ap, ◌∙◌}
-use Rattle.rewriting.specs.Answers.{answered}
+use Rattle.steps.specs.Causes.Code.{list_read, list_in, list_nodes}
 use Rattle.steps.proofs.ruling.rule_steps.Goals as goal
 
 pub rule_nodes-requires : goal.rule_nodes-requires
@@ -27,13 +25,4 @@ returns-in-Ok c =
           (list_read P c.args.p.now c.args.s.now c.read_steps.new.nodes c.read_steps.result told c.in-Ok.is)
           c.rule_nodes.result (c.rule_nodes.ensures P _ (list_in P c.args.p.now c.args.s.now c.read_steps.new.nodes
           c.read_steps.result told c.in-Ok.is f (λ k. (c.type_inv.s k).fits) c.requires.1));
-    }
-
-pub returns-in-Err : goal.returns-in-Err
-returns-in-Err c =
-    record {
-      ruled = λ P f. ap answered (ap Err c.fault_refusal.ensures)
-          ∙ list_fault P c.args.p.now c.args.s.now c.read_steps.new.nodes c.read_steps.result (c.read_steps.ensures P f) _
-          c.in-Err.is;
-      good = λ P f. tt;
     }
