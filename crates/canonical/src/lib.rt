@@ -8,7 +8,7 @@ ghost use Rattle.octets.specs.Head.{Stands};
 ghost use Rattle.canonical.specs.First.{FirstAt};
 ghost use Rattle.message.specs.Filled.{filleds};
 ghost use Rattle.message.specs.Substitution.{sub, subs};
-ghost use Rattle.term.specs.Tags.{dec_tag, fst_tag, snd_tag, exp_tag, adec_tag, verify_tag};
+ghost use Rattle.term.specs.Tags.{exp_tag};
 ghost use Rattle.term.specs.Sizes.{term_room};
 ghost use Rattle.term.specs.Term.{Kind, Term, Terms, leaf, encode, encodes};
 ghost use Rattle.lists.specs.Asks.{Asks, Asks₂, Asks₃, Promises, Promises₂, Promises₃};
@@ -257,80 +257,44 @@ fn by_rule(out: &mut [u8], o: usize, e: usize, arities: &[u8], patterns: &[u8], 
     rewrite(out, o, e, arities, patterns, res)
 }
 
-// The rows: a rule's patterns and its result, in the layout of the files; a further rule is one more row. Each is a function of its own, since a
-// function stores all its byte strings where it begins.
-// dec(enc(x, y), y) is x.
-fn by_dec(out: &mut [u8], o: usize, e: usize, arities: &[u8]) -> usize
-    requires { Asks (Built arities.now out.old o e dec_tag) }
-    ensures { Promises (Built arities.now out.old o e dec_tag) (λ (us : Terms). Wrote e out.old o out.new result (encode (apply rules dec_tag us))) }
-{
-    by_rule(
-        out,
-        o,
-        e,
-        arities,
-        b"\x04\x00\x00\x00\x01\x00\x01",
-        b"\x00\x00",
-    )
-}
-
-// fst(pair(x, y)) is x.
-fn by_fst(out: &mut [u8], o: usize, e: usize, arities: &[u8]) -> usize
-    requires { Asks (Built arities.now out.old o e fst_tag) }
-    ensures { Promises (Built arities.now out.old o e fst_tag) (λ (us : Terms). Wrote e out.old o out.new result (encode (apply rules fst_tag us))) }
-{
-    by_rule(out, o, e, arities, b"\x07\x00\x00\x00\x01", b"\x00\x00")
-}
-
-// snd(pair(x, y)) is y.
-fn by_snd(out: &mut [u8], o: usize, e: usize, arities: &[u8]) -> usize
-    requires { Asks (Built arities.now out.old o e snd_tag) }
-    ensures { Promises (Built arities.now out.old o e snd_tag) (λ (us : Terms). Wrote e out.old o out.new result (encode (apply rules snd_tag us))) }
-{
-    by_rule(out, o, e, arities, b"\x07\x00\x00\x00\x01", b"\x00\x01")
-}
-
-// adec(aenc(x, pk(y)), y) is x.
-fn by_adec(out: &mut [u8], o: usize, e: usize, arities: &[u8]) -> usize
-    requires { Asks (Built arities.now out.old o e adec_tag) }
-    ensures { Promises (Built arities.now out.old o e adec_tag) (λ (us : Terms). Wrote e out.old o out.new result (encode (apply rules adec_tag us))) }
-{
-    by_rule(
-        out,
-        o,
-        e,
-        arities,
-        b"\x1d\x00\x00\x1f\x00\x01\x00\x01",
-        b"\x00\x00",
-    )
-}
-
-// verify(sign(x, y), x, pk(y)) is true.
-fn by_verify(out: &mut [u8], o: usize, e: usize, arities: &[u8]) -> usize
-    requires { Asks (Built arities.now out.old o e verify_tag) }
-    ensures { Promises (Built arities.now out.old o e verify_tag) (λ (us : Terms). Wrote e out.old o out.new result (encode (apply rules verify_tag us))) }
-{
-    by_rule(
-        out,
-        o,
-        e,
-        arities,
-        b"\x20\x00\x00\x00\x01\x00\x00\x1f\x00\x01",
-        b"\x22",
-    )
-}
-
-// The function of a tag, no product function and no exp, of canonical arguments: by its row, if it has one.
+// The function of a tag, no product function and no exp, of canonical arguments: by its rule, if it has one. A row is a rule's patterns and its
+// result, in the layout of the files; a further rule is one more row.
 fn reduce(out: &mut [u8], o: usize, e: usize, tag: usize, arities: &[u8]) -> usize
     requires { (is_product tag ≡ false) × (tag ≢ exp_tag) × Asks (Built arities.now out.old o e tag) }
     ensures { Promises (Built arities.now out.old o e tag) (λ (us : Terms). Wrote e out.old o out.new result (encode (apply rules tag us))) }
 {
     match tag {
-        term::DEC => by_dec(out, o, e, arities),
-        term::FST => by_fst(out, o, e, arities),
-        term::SND => by_snd(out, o, e, arities),
-        term::ADEC => by_adec(out, o, e, arities),
-        term::VERIFY => by_verify(out, o, e, arities),
+        // dec(enc(x, y), y) is x.
+        term::DEC => by_rule(
+            out,
+            o,
+            e,
+            arities,
+            b"\x04\x00\x00\x00\x01\x00\x01",
+            b"\x00\x00",
+        ),
+        // fst(pair(x, y)) is x.
+        term::FST => by_rule(out, o, e, arities, b"\x07\x00\x00\x00\x01", b"\x00\x00"),
+        // snd(pair(x, y)) is y.
+        term::SND => by_rule(out, o, e, arities, b"\x07\x00\x00\x00\x01", b"\x00\x01"),
+        // adec(aenc(x, pk(y)), y) is x.
+        term::ADEC => by_rule(
+            out,
+            o,
+            e,
+            arities,
+            b"\x1d\x00\x00\x1f\x00\x01\x00\x01",
+            b"\x00\x00",
+        ),
+        // verify(sign(x, y), x, pk(y)) is true.
+        term::VERIFY => by_rule(
+            out,
+            o,
+            e,
+            arities,
+            b"\x20\x00\x00\x00\x01\x00\x00\x1f\x00\x01",
+            b"\x22",
+        ),
         _ => e,
     }
 }
