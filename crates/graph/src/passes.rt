@@ -1,4 +1,4 @@
-// 12 and 13 over all nodes, by the counts of ends.
+// 12 and 13 over all nodes, by the counts of ends. They are alike in form; the tests and the laws that they promise differ, so each has its functions.
 ghost use Rattle.std.specs.Prelude.{◌≡◌, not, ◌||◌, List, ℕ, ◌*◌, ◌≤◌, leb, length};
 ghost use Rattle.lists.specs.Asks.{Asks₃, Promises₃};
 ghost use Rattle.lists.specs.Lists.{first_bad};

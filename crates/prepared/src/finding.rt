@@ -13,7 +13,7 @@ ghost use Rattle.prepared.specs.Finding.{Finds};
 use crate::{pairs, sections};
 use protocol::walks::RuleText;
 
-// The place in the table; 0 for none.
+// The place in the table; 0 for none. It cannot fail, and its clause is the table's own number; `rule_place` gives the Option.
 pub fn place_of(p: &[u8], number: usize) -> usize
     requires { (number < rule_count) × (body_length ≤ length p.now) }
     ensures { result ≡ place_at p.now number }

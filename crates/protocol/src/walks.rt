@@ -19,7 +19,8 @@ pub struct RuleText<'a> {
     pub ars: &'a [u8],
 }
 
-// What is looked for: a leaf of one of the kinds 0 to 2, its number from lo on and below hi; or, of kind 3, such a fact symbol.
+// What is looked for: a leaf of one of the kinds 0 to 2, its number from lo on and below hi; or, of kind 3, such a fact symbol. The kind is a
+// number, as the definition `asks` of the clauses has it.
 #[derive(Clone, Copy)]
 pub struct Wanted {
     pub kind: usize,

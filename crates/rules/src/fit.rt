@@ -25,6 +25,7 @@ pub enum Unfit {
     Fault,
 }
 
+// One match of two arms: a closure over the pair says it no plainer.
 fn hit_of(r: Option<(usize, bool)>) -> bool
     ensures { result ≡ hit_of r }
 {
@@ -68,7 +69,7 @@ const A_K: Wanted = Wanted {
     hi: figures::PAST_K,
 };
 
-// Whether a fact of the list at a place has what is looked for.
+// Whether a fact of the list at a place has what is looked for. It stands beside `rule_asks`: what they promise differs, of a list and of a rule.
 fn list_asks(text: &RuleText, start: usize, w: Wanted) -> bool
     requires { length text.now.file.now ≤ longest }
     ensures { Promises (At (facts_in text.now) start) (λ (fs : List Fact). result ≡ any_by (asks_for w) fs) }

@@ -7,7 +7,7 @@ ghost use Rattle.steps.specs.Nodes.{Node};
 ghost use Rattle.trace.specs.Tables.{Starts};
 ghost use Rattle.trace.specs.Active.{is_active};
 
-// How many of the n nodes have an action, by where the actions of each begin.
+// How many of the n nodes have an action, by where the actions of each begin: n beside the slice, which has one entry more and may be longer.
 pub fn active_nodes(starts: &[u32], n: usize) -> usize
     requires { n < length starts.now }
     ensures { Promises₂ (Starts starts.now) (λ (P : Protocol) (xs : List Node). length xs ≡ n → result ≡ count_by (is_active P) xs) }
