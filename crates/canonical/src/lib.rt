@@ -48,7 +48,7 @@ struct Span {
     to: usize,
 }
 
-// The first symbol of the term at a place; where no term stands nothing is said of it.
+// The first symbol of the term at a place; where no term stands nothing is said of it, and no caller asks.
 fn first(src: &[u8], arities: &[u8], at: usize) -> Symbol
     ensures { Promises₂ (Here arities.now src.now at) (λ (e : ℕ) (t : Term). FirstAt t at result) }
 {

@@ -13,6 +13,7 @@ enum Kind {
     Term,
 }
 
+// Written out: no derive makes an enum of a number.
 impl From<u8> for Kind {
     fn from(kind: u8) -> Self {
         if kind == 0 { Kind::Number } else { Kind::Term }

@@ -32,7 +32,7 @@ pub struct Argument {
     pub number: usize,
 }
 
-// The first facts of the nodes.
+// The first facts of the nodes. The arguments below walk on into the facts, so that they have a function of their own.
 pub fn facts_of(alloc: Global, t: NodeTable<'_>) -> Result<Vec<FactId>, AllocError>
     requires { AreRight t }
     ensures { IfOk result (λ v. All (IsFact t.entry) v.items) }

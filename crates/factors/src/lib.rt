@@ -115,7 +115,8 @@ fn unit(minus: bool) -> i64
     if minus { -1 } else { 1 }
 }
 
-// The factor whose bytes stand at a goes into the table with one exponent more or less.
+// The factor whose bytes stand at a goes into the table with one exponent more or less. The table has room behind its entries,
+// so it comes with their count.
 fn enter(entries: &mut [Entry], put: Put, src: &[u8], key: &[u8], a: usize, minus: bool) -> Put
     requires { Asks₂ (Enter key.now src.now entries.old put.n a) }
     ensures { Promises₂ (Enter key.now src.now entries.old put.n a) (λ (l : Exps) (t : Term). Table src.now entries.new result.n (enter t (sign minus) l)) }

@@ -38,7 +38,7 @@ fn facts_ok(out: &mut [u8], p: &[u8], s: &[u8], nodes: &[usize], edges: &[u32], 
     compare::same_fact(out, p, s, nodes, source, target)
 }
 
-// The least edge whose facts differ.
+// The least edge whose facts differ. A loop of its own: the test writes into the lent part, so that a closure would tell nothing of an earlier turn.
 pub fn fact_pass(
     out: &mut [u8],
     p: &[u8],

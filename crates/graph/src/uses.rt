@@ -12,6 +12,7 @@ pub const COUNTS: usize = figures::MOST_FACTS * steps::nodes::MOST_NODES;
 // More than once: no cause asks how often.
 const TWICE: u8 = 2;
 
+// It stays at 2: the least of a sum would have to be shown to fit first.
 fn one_more(count: u8) -> u8
     ensures { result ≡ one_more count }
 {

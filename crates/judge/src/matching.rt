@@ -78,7 +78,7 @@ fn bind(values: &mut [u32; figures::SCOPE], n: usize, fact: &Coded, classes: &[u
     }
 }
 
-// The value of a variable.
+// The value of a variable. Of what is no variable nothing is promised, and a formula that is fit never asks.
 pub fn slot(values: &[u32; figures::SCOPE], t: usize) -> usize
     ensures { t < most_scope → result ≡ get_or values.now t 0 }
 {

@@ -38,7 +38,7 @@ pub struct Guard {
     pub fact: Coded,
 }
 
-// A number.
+// A number. Where none stands the answer is free, since the file has passed; an Option would ask of `holds` to fail.
 pub fn read(file: &[u8], at: usize) -> Num
     ensures { NumberIs file.now at result }
 {
@@ -90,7 +90,7 @@ fn pass_sorts(file: &[u8], at: usize, k: usize) -> usize
     i
 }
 
-// The arity of a fact symbol.
+// The arity of a fact symbol; 0 where none is declared, as `arity_in` has it.
 fn arity(arities: &[u8], symbol: usize) -> usize
     ensures { result ≡ arity_in arities.now symbol }
 {

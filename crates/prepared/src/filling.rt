@@ -55,7 +55,7 @@ fn put_linears(p: &mut [u8], flags: &[u8])
     put_padded(p, sections::LINEARS, &table[..n]);
 }
 
-// The place of rule number n; 0 for none.
+// The place of rule number n; 0 for none, as the table of the definitions has it.
 fn put_place(p: &mut [u8], n: usize, place: usize)
     requires { (n < rule_count) × (length p.old ≡ body_length) × (place < place_limit) }
     ensures { p.new ≡ placed p.old n place }

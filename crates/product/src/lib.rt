@@ -28,7 +28,7 @@ const INV: u8 = term::INV as u8;
 
 const MUL: u8 = term::MUL as u8;
 
-// How often a factor of exponent p stands on the side of the sign; true is minus.
+// How often a factor of exponent p stands on the side of the sign; true is minus. Two signs and two sides: a try_from says it no plainer.
 fn rises(p: i64, minus: bool) -> usize
     requires { nat_abs p < signed_limit }
     ensures { result ≡ rise minus p }
@@ -110,6 +110,7 @@ fn write_rows(out: &mut [u8], o: usize, entries: &[Entry], minus: bool) -> usize
 {
     let mut next = next_row(entries, 0, minus);
     let mut p = o;
+    // A while: whether a row follows is known when the row before is written.
     while let Some(i) = next {
         let entry = entries[i];
         let c = rises(entry.power, minus);

@@ -35,6 +35,7 @@ fn read_full<R: Read + Drop>(mut file: R, buffer: &mut [u8]) -> usize
     ensures { (result ≤ length buffer.new) × (result ≡ length (take result buffer.new)) }
 {
     let mut done: usize = 0;
+    // A while: each read gives as many bytes as it likes.
     while done < buffer.len() {
         match file.read(&mut buffer[done..]) {
             Ok(0) => break,

@@ -52,7 +52,7 @@ fn earlier(
     ensures { Promises₂ (Walkable p.now s.now nodes.now entries.now chains.now head q) (λ (P : Protocol) (xs : List Node). Earlier (key_at P xs) chains.now head q result) }
 {
     let x = entries::action_of(entries[q / numbers::STRIDE]);
-    // A while: how many links there are to follow is not known before.
+    // A while: how many links there are to follow is not known before. A link is a place and one, 0 for none: an Option would take twice the room.
     let mut h = head;
     while h != 0 {
         let r = h as usize - 1;

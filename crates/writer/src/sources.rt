@@ -25,7 +25,7 @@ pub struct Premise {
     pub number: usize,
 }
 
-// A number from 0 as files count, from 1.
+// A number from 0 as files count, from 1. By hand, since no From narrows a number that is proved to fit.
 fn from_one(i: usize) -> u32
     requires { i < count_table }
     ensures { result ≡ suc i }
