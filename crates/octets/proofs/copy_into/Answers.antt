@@ -1,19 +1,30 @@
--- What the library writes into a part is a splice.
-use Prim.Native.Nat.{◌+◌, ◌-◌}
-use native.Mathlib.Omega.{arith}
-use mathlib.Core.Path.{ap, refl, ◌∙◌}
-use lib.ListN.{length}
+-- The invariant is that the slice is its entry with the first i bytes of the source spliced in; each turn adds one.
 use lib.Seq.{take_all}
-use Rattle.std.proofs.lemmas.Slice.{put_mid-paste}
+use lib.ListN.{set, get_or, length-set}
+use native.Mathlib.Omega.{arith}
+use mathlib.Core.Path.{ap, sym, ◌∙◌}
+use mathlib.Core.List.{List}
+use Prim.Native.Nat.{ℕ, ◌+◌}
+use Rattle.octets.specs.Splice.Laws.{splice_copy, splice_nil}
+use borrow.Author.Rules.{rules}
 use Rattle.octets.specs.Splice.{splice}
-use Rattle.octets.specs.Splice.Laws.{paste_splice}
 use Rattle.octets.proofs.copy_into.Goals as goal
 
-pub returns-clause-wrote : goal.returns-clause-wrote
-returns-clause-wrote c =
+pub loop-i-init : goal.loop-i-init
+loop-i-init c = (search rules, search rules, sym (splice_nil _ _))
+
+pub loop-i-preserved : goal.loop-i-preserved
+loop-i-preserved c =
     let a = c.args in
-    let n = length a.src.now in
-    put_mid-paste a.at (a.at + n - a.at) a.out.now c.copy_from_slice.new.self a.src.now n
-    c.copy_from_slice.ensures.after (omega arith) refl
-    ∙ paste_splice a.out.now a.at a.src.now n (omega arith)
-    ∙ ap (splice a.out.now a.at) (take_all n a.src.now (omega arith))
+    let l = c.loop-i in (
+      search rules,
+      simp length-set l.invariant.1,
+      ap (λ (m : List ℕ). set m (a.at + l.i) (get_or a.src.now l.i 0)) l.invariant.2
+          ∙ splice_copy 0 a.out.now a.at a.src.now l.i (omega arith) (omega arith),
+    )
+
+pub returns : goal.returns
+returns c =
+    let a = c.args in
+    let l = c.loop-i in
+    record { next = search rules; wrote = l.invariant.2 ∙ ap (splice a.out.now a.at) (take_all l.i a.src.now c.loop-i-test.false) }
