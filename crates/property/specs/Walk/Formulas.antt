@@ -5,7 +5,6 @@ use Rattle.std.proofs.Math.Bool.{and_assoc}
 use Rattle.std.proofs.Math.Seq.{take-append_seam}
 use Rattle.std.proofs.Math.Path.{refl, ap}
 use Rattle.std.proofs.Common.{ap₂, sym, ◌∙◌, subst, lt-ltb, le-ltb, eq-eqb, ne_eqb}
-use Rattle.std.proofs.lemmas.List.{take-map}
 use native.Mathlib.Omega.{arith}
 use Rattle.lists.specs.Choice.{pick, cut, clash}
 use Rattle.lists.specs.Tests.{leb_le}
@@ -15,7 +14,7 @@ use Rattle.property.specs.Figures.{false_tag, and_tag, exists_tag, every_tag, fo
 use Rattle.property.specs.Formula.{Sort, Atom, Formula, absurdity}
 use Rattle.property.specs.Fit.{atom_fits, pattern_fits, guarded, fit}
 use Rattle.property.specs.Layout.{Head, signed, asserts, paired, quantified, head_at, atom_at, scoped_at, pair_at, quant_at, body_at, formula_at, property}
-use Rattle.property.specs.Walk.{sort_of, scope_of, Saw, saw, also, guard_fits, HeadRead}
+use Rattle.property.specs.Walk.{Saw, saw, also, guard_fits, HeadRead}
 use Rattle.property.specs.Walk.Chain.{chain_end, chain_fault}
 use Rattle.property.specs.declared.terms.Sort as code
 use Rattle.property.specs.declared.heads.Opened.{Opened}
@@ -60,10 +59,8 @@ scoped_room file ars n at h e q =
     (λ t q. clash (cc)))
 
 -- the sorts in scope, in front of room for more
-pub copied : (l sorts room : List code.Sort) → l ≡ sorts → take (length sorts) (scope_of (l ++ room)) ≡ scope_of sorts
-copied l sorts room h =
-    take-map sort_of (length sorts) (l ++ room)
-    ∙ ap scope_of (ap (λ (m : List code.Sort). take (length sorts) (m ++ room)) h ∙ take-append_seam sorts room)
+pub copied : (l sorts room : List code.Sort) → l ≡ sorts → take (length sorts) (l ++ room) ≡ sorts
+copied l sorts room h = ap (λ (m : List code.Sort). take (length sorts) (m ++ room)) h ∙ take-append_seam sorts room
 
 module _ (file ars : List ℕ) (inner : ℕ → ℕ → Read Formula) (n at : ℕ) (old new : List Sort) where
   -- what is in scope of the body fits the array

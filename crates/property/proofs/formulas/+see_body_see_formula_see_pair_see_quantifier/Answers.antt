@@ -42,7 +42,8 @@ see_quantifier-returns-in_err-e t c =
     let inside : c.in_ok-head.head.count ≤ length c.see_head.new.sorts = omega arith in
     rw c.from_residual-in_err-e.ensures
     (quant_end c.args.file.bytes.now ars (formula_at c.args.file.bytes.now ars c.args.levels) (length c.args.sorts.now) c.args.at _ _ q
-    (scope_of c.args.sorts.now) (copied _ c.args.sorts.now _ c.copy_from_slice.ensures.after) h
+    (scope_of c.args.sorts.now)
+    (take-map sort_of (length c.args.sorts.now) _ ∙ ap scope_of (copied _ c.args.sorts.now _ c.copy_from_slice.ensures.after)) h
     (sym c.in_err-e.was ∙ c.see_formula.ensures ars t ∙ ap
     (λ (n : ℕ). seen (fit (scope_of (take c.in_ok-head.head.count c.see_head.new.sorts))) (formula_at c.args.file.bytes.now ars c.args.levels n c.in_ok-head.head.end))
     (length-take-le c.in_ok-head.head.count c.see_head.new.sorts inside)
@@ -57,7 +58,8 @@ see_quantifier-returns t c =
     let room = quant_room c.args.file.bytes.now ars (formula_at c.args.file.bytes.now ars c.args.levels) (length c.args.sorts.now) c.args.at _ _ h in
     let inside : c.in_ok-head.head.count ≤ length c.see_head.new.sorts = omega arith in
     quant_end c.args.file.bytes.now ars (formula_at c.args.file.bytes.now ars c.args.levels) (length c.args.sorts.now) c.args.at _ _ q
-    (scope_of c.args.sorts.now) (copied _ c.args.sorts.now _ c.copy_from_slice.ensures.after) h
+    (scope_of c.args.sorts.now)
+    (take-map sort_of (length c.args.sorts.now) _ ∙ ap scope_of (copied _ c.args.sorts.now _ c.copy_from_slice.ensures.after)) h
     (sym c.in_ok-e.was ∙ c.see_formula.ensures ars t ∙ ap
     (λ (n : ℕ). seen (fit (scope_of (take c.in_ok-head.head.count c.see_head.new.sorts))) (formula_at c.args.file.bytes.now ars c.args.levels n c.in_ok-head.head.end))
     (length-take-le c.in_ok-head.head.count c.see_head.new.sorts inside)
