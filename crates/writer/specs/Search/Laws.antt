@@ -1,7 +1,8 @@
 -- The loops that look for a source and that enter conclusions, turn by turn.
-use Rattle.std.specs.Prelude.{ℕ, suc, zero, ◌+◌, ◌*◌, ◌/◌, ◌%◌, ◌≤◌, ◌<◌, List, [], ◌∷◌, ◌++◌, Bool, true, false, ◌≡◌, refl, length, get_or, set, take}
+use Rattle.std.specs.Prelude.{ℕ, suc, zero, ◌+◌, ◌-◌, ◌*◌, ◌/◌, ◌%◌, ◌≤◌, ◌<◌, List, [], ◌∷◌, ◌++◌, Bool, true, false, ◌≡◌, refl, length, get_or, set, take}
 use Rattle.std.proofs.Common.{append_assoc, append-nil, ap, ap₂, sym, ◌∙◌, subst, subst₂, arith, length-set, get_or-set_same, get_or-set_other, take-suc, take_all, length-take-le}
 use Rattle.lists.specs.Choice.{by_order}
+use Rattle.lists.specs.Scan.{Next}
 use Rattle.lists.specs.Asks.{Promises₃}
 use Rattle.lists.specs.All.Laws.{all_inside}
 use Rattle.rewriting.specs.Places.{Placed, placed}
@@ -79,6 +80,15 @@ module _ {p s nodes free : List ℕ} {a : FactId} {work : List ℕ} {kept : Kept
           (sym (by_equations P fit _ _ (fact_formed searched) other false
           (marks_differ P fit (fact_in P xs a) (entry_fact P xs v) (fact_formed searched) other
           (λ same. n (let d : mark ≡ m = h.keeps.mark_is ∙ same ∙ sym i.mark in omega (arith, e)))))) none
+
+  -- up to the next one with its mark
+  pub pass_to : (v r end : ℕ) → Next free (mark + 1) v end r → Nowhere v → Nowhere r
+  pass_to v r end n none = let e : (r - v) + v ≡ r = omega (arith, n.later) in subst Nowhere e (go (r - v) (omega (arith, n.later)))
+    where
+      go : (k : ℕ) → k + v ≤ r → Nowhere (k + v)
+      go zero l = let e : v ≡ 0 + v = omega arith in subst Nowhere e none
+      go (suc k) l = let e : k + v + 1 ≡ suc k + v = omega arith in subst Nowhere e (pass_over (k + v) (n.others (k + v) (omega arith) (omega arith))
+          (go k (omega arith)))
 
   module _ (v : ℕ) (agree : get_or free v 0 ≡ mark + 1) where
     marked_entry : get_or free v 0 ≡ suc mark
