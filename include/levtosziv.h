@@ -5,7 +5,7 @@
  * A slice is a pointer and a length; a length of 0 may come with any pointer. The slices of one call do not overlap, and nothing else
  * reads or writes them while the call runs. A work area of LEVTOSZIV_WORK_BYTES is long enough for every call.
  *
- * Stack that a call was measured to need at most (./bench): check 573 KB, draw 291 KB, canonical form 120 KB. A thread that has
+ * Stack that a call was measured to need at most (./bench): check 573 KB, draw 289 KB, canonical form 120 KB. A thread that has
  * LEVTOSZIV_STACK_BYTES left when it calls has enough.
  *
  * The answer packs the outcome. Bits 56 up: 0 refused, 1 attack, 2 run, 3 written. Refused: bits 32 to 39 the number of document 01's

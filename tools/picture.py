@@ -141,7 +141,7 @@ def picture():
     wide = max(round(max(x[v] + width(v) / 2 for v in x)) + MARGIN, 640)
     high = legend + MARGIN + ROW * len(rows)
     kit = sorted({u for name in uses for u in uses[name] if u not in uses})
-    of_kit = f" {', '.join(kit)} are the kit's." if kit else ""
+    of_kit = f" Of the kit: {', '.join(kit)}." if kit else ""
     out = [
         f'<svg xmlns="http://www.w3.org/2000/svg" viewBox="0 0 {wide} {high}" width="{wide}" height="{high}" font-family="DejaVu Sans, Verdana, sans-serif" font-size="13">',
         f"<title>The crates; a line goes down to what a crate uses directly.{of_kit}</title>",

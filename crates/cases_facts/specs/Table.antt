@@ -1,4 +1,5 @@
 -- The nodes of a good step list, their facts and the arguments of these: of each the calls of crate facts can be asked.
+use Rattle.std.specs.Prelude.{ℕ}
 use Rattle.lists.specs.Asks.{Asks₂}
 use Rattle.steps.specs.Causes.Good.{RightNodes}
 use Rattle.facts.specs.declared.nodes.FactId.{FactId}
@@ -18,3 +19,10 @@ IsFact t x = HasFact t.p.now t.list.now t.rows.now t.n x want.All
 -- an argument of a fact of one of them
 unfoldable pub IsArgument : NodeTable → Argument → Type 0
 IsArgument t a = HasFact t.p.now t.list.now t.rows.now t.n a.place (want.One a.number)
+
+-- how many facts a table keeps, and how many arguments
+abbrev pub most_facts : ℕ
+most_facts = 64
+
+abbrev pub most_arguments : ℕ
+most_arguments = 256

@@ -16,20 +16,20 @@ mod outcome; // which of them are the same
 const OUT: usize = 2 * facts::writing::FACT_ROOM;
 
 // The nodes of a good case.
-fn show_nodes<R: Print + AllocGlobal>(rt: &R, t: NodeTable<'_>) -> io::Result<()>
+fn show_nodes(rt: &impl Print, t: NodeTable<'_>) -> io::Result<()>
     requires { AreRight t }
 {
     let mut out = [0u8; OUT];
-    let facts = table::facts_of(rt.alloc(), t)?;
+    let facts = table::facts_of(t);
     outcome::show_first_same(rt, t, &facts, &mut out)?;
     print!(rt; " |")?;
-    let arguments = table::arguments_of(rt.alloc(), t, &facts)?;
+    let arguments = table::arguments_of(t, &facts);
     outcome::show_first_same(rt, t, &arguments, &mut out)?;
     print!(rt; " |")?;
     outcome::show_names(rt, t, &arguments, &mut out)
 }
 
-fn show_case<R: Print + AllocGlobal>(rt: &R, case: Case<'_>) -> io::Result<()> {
+fn show_case(rt: &impl Print, case: Case<'_>) -> io::Result<()> {
     let mut p = [0u8; case_nodes::PREPARED];
     let mut nodes = [0usize; case_nodes::TABLE];
     match case_nodes::rule_case(case.under, case.bytes, &mut p, &mut nodes) {

@@ -1,11 +1,12 @@
 // The facts of all nodes of a step list, node by node, premises, actions, conclusions, and the arguments of these facts.
-ghost use Rattle.std.specs.Prelude.{IfOk};
+ghost use Rattle.std.specs.Prelude.{◌≤◌};
 ghost use Rattle.std.specs.List.{All};
-ghost use Rattle.cases_facts.specs.Table.{AreRight, IsFact, IsArgument};
+ghost use Rattle.arrayvec.specs.ArrayVec.{array_vec_len};
+ghost use Rattle.cases_facts.specs.Table.{AreRight, IsFact, IsArgument, most_facts, most_arguments};
 
+use arrayvec::ArrayVec;
 use facts::nodes::FactId;
 use facts::{counts, symbols};
-use std::alloc::{AllocError, Global};
 
 // The most facts, and the most arguments.
 const MOST_FACTS: usize = 64;
@@ -26,44 +27,46 @@ pub struct NodeTable<'a> {
 }
 
 // An argument of a fact, by its number from 0.
-#[derive(Clone, Copy)]
+#[derive(Clone, Copy, Default)]
 pub struct Argument {
     pub place: FactId,
     pub number: usize,
 }
 
 // The first facts of the nodes. The arguments below walk on into the facts, so that they have a function of their own.
-pub fn facts_of(alloc: Global, t: NodeTable<'_>) -> Result<Vec<FactId>, AllocError>
+pub fn facts_of(t: NodeTable<'_>) -> ArrayVec<FactId, MOST_FACTS>
     requires { AreRight t }
-    ensures { IfOk result (λ v. All (IsFact t.entry) v.items) }
+    ensures facts { All (IsFact t.entry) result.items }
+    ensures few { array_vec_len result ≤ most_facts }
 {
-    let mut facts = Vec::new(alloc);
+    let mut facts = ArrayVec::new();
     for node in 0..t.n {
         for list in 0..LISTS {
             for number in 0..counts::fact_count(t.p, t.rows, node, list) {
-                facts.push(FactId { node, list, number })?;
+                if facts.is_full() {
+                    return facts;
+                }
+                facts.push(FactId { node, list, number });
             }
         }
     }
-    facts.truncate(MOST_FACTS);
-    Ok(facts)
+    facts
 }
 
 // The first arguments of these facts.
-pub fn arguments_of(
-    alloc: Global,
-    t: NodeTable<'_>,
-    facts: &[FactId],
-) -> Result<Vec<Argument>, AllocError>
+pub fn arguments_of(t: NodeTable<'_>, facts: &[FactId]) -> ArrayVec<Argument, MOST_ARGUMENTS>
     requires { AreRight t × All (IsFact t) facts.now }
-    ensures { IfOk result (λ v. All (IsArgument t.entry) v.items) }
+    ensures arguments { All (IsArgument t.entry) result.items }
+    ensures few { array_vec_len result ≤ most_arguments }
 {
-    let mut arguments = Vec::new(alloc);
+    let mut arguments = ArrayVec::new();
     for x in facts {
         for number in 0..symbols::argument_count(t.p, t.rows, *x) {
-            arguments.push(Argument { place: *x, number })?;
+            if arguments.is_full() {
+                return arguments;
+            }
+            arguments.push(Argument { place: *x, number });
         }
     }
-    arguments.truncate(MOST_ARGUMENTS);
-    Ok(arguments)
+    arguments
 }

@@ -3,6 +3,8 @@
 #![tactic(auto)]
 
 ghost use Rattle.std.specs.Prelude.{◌≤◌, length};
+ghost use Rattle.lists.specs.Asks.{Asks};
+ghost use Rattle.prepared.specs.Prepared.{Prepared};
 ghost use Rattle.case_file.specs.Room.{room};
 
 use case_file::Case;
@@ -11,16 +13,24 @@ use std::io;
 
 const WORK: usize = graph::area::FACTS_END;
 
+// The graph's causes, under a prepared protocol; or how many nodes and edges it has. A function of its own: behind a `?` its tables would be
+// zeroed twice, where the function begins and where they are made.
+fn rule_prepared(p: &[u8; case_nodes::PREPARED], file: &[u8]) -> Result<(usize, usize), Refusal>
+    requires { Asks (Prepared p.now) × (length file.now ≤ room) }
+{
+    let mut nodes = [0usize; case_nodes::TABLE];
+    let mut edges = [0u32; graph::edges::TABLE];
+    let mut work = [0u8; WORK];
+    graph::ruling::rule_graph(p, file, &mut nodes, &mut edges, &mut work)
+}
+
 // The protocol's causes, then those of the graph; or how many nodes and edges it has.
 fn rule_case(protocol: &[u8], file: &[u8]) -> Result<(usize, usize), Refusal>
     requires { length file.now ≤ room }
 {
     let mut p = [0u8; case_nodes::PREPARED];
     case_nodes::prepare_case(protocol, &mut p)?;
-    let mut nodes = [0usize; case_nodes::TABLE];
-    let mut edges = [0u32; graph::edges::TABLE];
-    let mut work = [0u8; WORK];
-    graph::ruling::rule_graph(&p, file, &mut nodes, &mut edges, &mut work)
+    rule_prepared(&p, file)
 }
 
 fn show_case(rt: &impl Print, case: Case<'_>) -> io::Result<()> {

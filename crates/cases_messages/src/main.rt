@@ -1,6 +1,7 @@
 // Runs the call canonical form on the cases of standard input and writes a line for each: its number, and the bytes of the canonical form.
 #![tactic(auto)]
 
+use checker::Refusal;
 use std::io;
 use term::MOST_FUNCTIONS;
 
@@ -21,6 +22,12 @@ fn show_bytes(rt: &impl Print, s: &[u8]) -> io::Result<()> {
     Ok(())
 }
 
+// The call with a work area of its own. A function of its own: where nothing follows the call, the compiled program need not clear the area.
+fn form_of(protocol: &[u8], term: &[u8], output: &mut [u8]) -> Result<u32, Refusal> {
+    let mut work = [0u8; WORK];
+    checker::canonical_form(protocol, term, output, &mut work)
+}
+
 // The canonical form of a term under a protocol that declares these free functions and nothing else.
 fn show_form(rt: &impl Print, free: &[u8], term: &[u8]) -> io::Result<()> {
     if MOST_FUNCTIONS < free.len() {
@@ -29,10 +36,8 @@ fn show_form(rt: &impl Print, free: &[u8], term: &[u8]) -> io::Result<()> {
     let mut protocol = [0u8; COUNTS + MOST_FUNCTIONS];
     protocol[0] = free.len() as u8;
     protocol[1..=free.len()].copy_from_slice(free);
-    let protocol = &protocol[..COUNTS + free.len()];
     let mut output = [0u8; OUTPUT];
-    let mut work = [0u8; WORK];
-    match checker::canonical_form(protocol, term, &mut output, &mut work) {
+    match form_of(&protocol[..COUNTS + free.len()], term, &mut output) {
         Ok(n) => match output.get(..n as usize) {
             Some(form) => show_bytes(rt, form),
             None => Ok(()),

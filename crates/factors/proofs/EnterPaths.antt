@@ -29,7 +29,7 @@ use Rattle.message.specs.Product.{Exps}
 use Rattle.message.specs.Gather.{enter, sign}
 use Rattle.factors.specs.declared.Onward.{Onward}
 use Rattle.factors.specs.declared.Way.TheVariants as way
-use Rattle.factors.specs.Whole.{add_abs, small_fits, back}
+use Rattle.factors.specs.Whole.{add_abs, small_fits_wider, back_wider}
 use Rattle.factors.specs.Mass.{size, mass}
 use Rattle.factors.specs.Mass.Laws.{size_mass, sign_abs}
 use Rattle.std.specs.Prelude.{Result, Ok, Err}
@@ -253,7 +253,7 @@ module _ (key src : List ℕ) (T : List Entry) (n a : ℕ) where
       earlier j h = order_as j (omega (arith, place_within)) ∙ F.before j h
 
     new_back : to_z w64 (of_z w64 u) ≡ sign minus
-    new_back = rw eu (back (sign minus) (omega (arith, sign_abs minus)))
+    new_back = rw eu (back_wider (sign minus) (omega (arith, sign_abs minus)))
 
     -- it stands there already
     module _ (h : same ≡ true) where
@@ -265,16 +265,16 @@ module _ (key src : List ℕ) (T : List Entry) (n a : ℕ) where
         small = let j = inside in rows_abs src T 0 l X.table.rows i (omega arith) (omega (arith, j, X.table.many))
 
         old_back : to_z w64 (of_z w64 (power_of T i)) ≡ power_of T i
-        old_back = back _ (omega (arith, small, X.few))
+        old_back = back_wider _ (omega (arith, small, X.few))
 
         sum_small : nat_abs (power_of T i +ℤ sign minus) < 2147483648
         sum_small = omega (arith, small, add_abs (power_of T i) (sign minus), sign_abs minus, X.few)
 
         pub row_fits : SFits w64 (to_z w64 (of_z w64 (power_of T i)) +ℤ to_z w64 (of_z w64 u))
-        row_fits = rw (old_back, new_back) (small_fits _ sum_small)
+        row_fits = rw (old_back, new_back) (small_fits_wider _ sum_small)
 
         row_back : to_z w64 (of_z w64 (to_z w64 (of_z w64 (power_of T i)) +ℤ to_z w64 (of_z w64 u))) ≡ power_of T i +ℤ sign minus
-        row_back = rw (old_back, new_back) (back _ sum_small)
+        row_back = rw (old_back, new_back) (back_wider _ sum_small)
 
         pub entered_same :
             Table src (set T i (record {

@@ -1,8 +1,8 @@
--- Whole numbers in 64 bits.
+-- Whole numbers in 32 bits, and in 64.
 use Rattle.std.specs.Prelude.{ℕ, suc, ◌+◌, ◌-◌, ◌≤◌, ◌<◌, ◌≡◌, refl, Bool, true, false, cond, ltb, ℤ, pos, negsuc, ◌+ℤ◌, nat_abs}
 use Rattle.std.proofs.Common.{arith, ltb-true, SFits, to_z, of_z}
 use Rattle.std.proofs.Math.IntN.{sub_ℕ}
-use Rattle.std.specs.Int.{w64}
+use Rattle.std.specs.Int.{w32, w64}
 use Rattle.std.proofs.lemmas.Int.{to_z-of_z}
 
 -- ── how far from zero ──
@@ -19,10 +19,18 @@ add_abs (pos a) (negsuc b) = omega (arith, sub_abs a (suc b))
 add_abs (negsuc a) (pos b) = omega (arith, sub_abs b (suc a))
 add_abs (negsuc a) (negsuc b) = omega arith
 
--- ── what an i64 holds is the whole number itself ──
-pub small_fits : (z : ℤ) → nat_abs z < 2147483648 → SFits w64 z
-small_fits (pos n) h = record { sfits = omega (arith, h) }
+-- ── what an i32 holds is the whole number itself ──
+pub small_fits : (z : ℤ) → nat_abs z < 2147483648 → SFits w32 z
+small_fits (pos n) h = record { sfits = h }
 small_fits (negsuc n) h = record { sfits = omega arith }
 
-pub back : (z : ℤ) → nat_abs z < 2147483648 → to_z w64 (of_z w64 z) ≡ z
-back z h = to_z-of_z w64 z (small_fits z h)
+pub back : (z : ℤ) → nat_abs z < 2147483648 → to_z w32 (of_z w32 z) ≡ z
+back z h = to_z-of_z w32 z (small_fits z h)
+
+-- ── and what an i64 holds ──
+pub small_fits_wider : (z : ℤ) → nat_abs z < 2147483648 → SFits w64 z
+small_fits_wider (pos n) h = record { sfits = omega (arith, h) }
+small_fits_wider (negsuc n) h = record { sfits = omega arith }
+
+pub back_wider : (z : ℤ) → nat_abs z < 2147483648 → to_z w64 (of_z w64 z) ≡ z
+back_wider z h = to_z-of_z w64 z (small_fits_wider z h)

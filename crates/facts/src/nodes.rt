@@ -11,7 +11,7 @@ use crate::writing::Wanted;
 use prepared::{finding, list_places};
 
 // A fact of a node: the node's number, from 0, the list of its rule (0 premises, 1 actions, 2 conclusions), the number in that list, from 0.
-#[derive(Clone, Copy)]
+#[derive(Clone, Copy, Default)]
 pub struct FactId {
     pub node: usize,
     pub list: usize,

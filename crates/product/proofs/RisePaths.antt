@@ -13,7 +13,7 @@ use mir.Syntax.{w64}
 use mir.Val.{Fits, SFits, to_z, of_z}
 use borrow.Author.Tests.{ltb-true, ltb-false}
 use Rattle.lists.specs.Choice.{clash}
-use Rattle.factors.specs.Whole.{back, small_fits}
+use Rattle.factors.specs.Whole.{back_wider, small_fits_wider}
 use Rattle.std.proofs.Common.{Some, None}
 use Rattle.factors.specs.declared.Entry.{Entry}
 use Rattle.factors.specs.Rows.{power_of}
@@ -36,16 +36,16 @@ up_yes (negsuc n) h = clash (cc)
 
 module _ (p : ℤ) (h : nat_abs p < signed_limit) where
   p_back : to_z w64 (of_z w64 p) ≡ p
-  p_back = back p (omega arith)
+  p_back = back_wider p (omega arith)
 
   turned : pos 0 -ℤ to_z w64 (of_z w64 p) ≡ neg_ℤ p
   turned = ap (λ z. pos 0 -ℤ z) p_back ∙ +ℤ_idl (neg_ℤ p)
 
   pub turn_fits : SFits w64 (pos 0 -ℤ to_z w64 (of_z w64 p))
-  turn_fits = rw turned (small_fits (neg_ℤ p) (omega (arith, neg_abs p)))
+  turn_fits = rw turned (small_fits_wider (neg_ℤ p) (omega (arith, neg_abs p)))
 
   turned_back : to_z w64 (of_z w64 (pos 0 -ℤ to_z w64 (of_z w64 p))) ≡ neg_ℤ p
-  turned_back = rw turned (back (neg_ℤ p) (omega (arith, neg_abs p)))
+  turned_back = rw turned (back_wider (neg_ℤ p) (omega (arith, neg_abs p)))
 
   module _ (g : lt_z (to_z w64 (of_z w64 p)) (pos 0) ≡ true) where
     below : (n : ℕ) × (p ≡ negsuc n)
@@ -96,7 +96,7 @@ module _ (T : List Entry) (i : ℕ) (m : Bool) (small : Small T) where
 
   module _ (j : ℕ) (l : j < length T) where
     at_back : to_z w64 (of_z w64 (power_of T j)) ≡ power_of T j
-    at_back = back _ (omega (arith, small j l))
+    at_back = back_wider _ (omega (arith, small j l))
 
     pub rises_asks : nat_abs (to_z w64 (of_z w64 (power_of T j))) < signed_limit
     rises_asks = rw at_back (small j l)

@@ -5,7 +5,7 @@ use Rattle.lists.specs.Lists.{any_by, all_by}
 use Rattle.lists.specs.All.{All}
 use Rattle.number.specs.Reading.{Read, got, fault, and_then, read_number, many}
 use Rattle.term.specs.Arity.{undeclared, padded}
-use Rattle.protocol.specs.Figures.{symbol_count}
+use Rattle.protocol.specs.Figures.{message_sort, symbol_count}
 use Rattle.property.specs.Formula.{Sort, msg, tmp, Term, var, public}
 use Rattle.property.specs.Fit.{in_scope, term_fits, pattern_fits, is_var, guarded}
 use Rattle.property.specs.Layout.{Timed, Head, head_of, term_at, sort_at, timed_at}
@@ -28,6 +28,10 @@ pub mod Formulas
 abbrev pub sort_of : code.Sort → Sort
 sort_of sort.Message = msg
 sort_of sort.Time = tmp
+
+-- the sort that a byte says
+abbrev pub byte_sort : ℕ → Sort
+byte_sort v = pick (eqb v message_sort) msg tmp
 
 abbrev pub scope_of : List code.Sort → List Sort
 scope_of l = map sort_of l
@@ -107,8 +111,8 @@ as_sort (Some (s, e)) = got (sort_of s) e
 as_sort None = fault
 
 -- sorts that were read into a slice
-abbrev pub as_sorts : Option ℕ → List code.Sort → Read (List Sort)
-as_sorts (Some e) l = got (scope_of l) e
+abbrev pub as_sorts : Option ℕ → List Sort → Read (List Sort)
+as_sorts (Some e) l = got l e
 as_sorts None l = fault
 
 -- a new variable is in its guard
@@ -125,13 +129,13 @@ abbrev pub opened_of : ℕ → ℕ → Bool → Opened
 opened_of m e b = record { count = m; end = e; fits = b }
 
 -- the new variables are those from n on
-pub record GuardRead (file ars : List ℕ) (at : ℕ) (sorts : List code.Sort) (n : ℕ) (o : Opened) : Type 0 where
+pub record GuardRead (file ars : List ℕ) (at : ℕ) (sorts : List Sort) (n : ℕ) (o : Opened) : Type 0 where
   pub guard : Timed
   pub there : timed_at file ars at ≡ got guard o.end
   pub count : o.count ≡ length sorts
-  pub right : o.fits ≡ guard_fits (scope_of (take n sorts)) (scope_of (drop n sorts)) guard
+  pub right : o.fits ≡ guard_fits (take n sorts) (drop n sorts) guard
 
-abbrev pub GuardIs : List ℕ → List ℕ → ℕ → List code.Sort → ℕ → Option Opened → Type 0
+abbrev pub GuardIs : List ℕ → List ℕ → ℕ → List Sort → ℕ → Option Opened → Type 0
 GuardIs file ars at sorts n (Some o) = GuardRead file ars at sorts n o
 GuardIs file ars at sorts n None = timed_at file ars at ≡ fault
 
@@ -139,13 +143,13 @@ GuardIs file ars at sorts n None = timed_at file ars at ≡ fault
 abbrev pub head_from : List ℕ → List ℕ → ℕ → ℕ → Read Head
 head_from file ars k at = and_then (many (sort_at file) k at) (λ s e. and_then (timed_at file ars e) (λ g d. got (head_of s g) d))
 
-pub record HeadRead (r : Read Head) (n : ℕ) (old new : List code.Sort) (o : Opened) : Type 0 where
+pub record HeadRead (r : Read Head) (n : ℕ) (old new : List Sort) (o : Opened) : Type 0 where
   pub head : Head
   pub there : r ≡ got head o.end
   pub count : o.count ≡ n + length head.sorts
-  pub scope : scope_of (take o.count new) ≡ scope_of (take n old) ++ head.sorts
-  pub right : o.fits ≡ guard_fits (scope_of (take n old)) head.sorts head.guard
+  pub scope : take o.count new ≡ take n old ++ head.sorts
+  pub right : o.fits ≡ guard_fits (take n old) head.sorts head.guard
 
-abbrev pub HeadIs : Read Head → ℕ → List code.Sort → List code.Sort → Option Opened → Type 0
+abbrev pub HeadIs : Read Head → ℕ → List Sort → List Sort → Option Opened → Type 0
 HeadIs r n old new (Some o) = HeadRead r n old new o
 HeadIs r n old new None = r ≡ fault

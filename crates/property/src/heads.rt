@@ -1,5 +1,5 @@
 // What stands before a quantifier's body: the sorts of its new variables, its guard, its time variable.
-ghost use Rattle.std.specs.Prelude.{◌≡◌, List, ℕ, ◌≤◌, ◌<◌, length, drop};
+ghost use Rattle.std.specs.Prelude.{◌≡◌, List, ℕ, ◌≤◌, ◌<◌, length, drop, map};
 ghost use Rattle.lists.specs.Asks.{Promises};
 ghost use Rattle.lists.specs.Lists.{any_by};
 ghost use Rattle.number.specs.Reading.{got, many};
@@ -7,10 +7,10 @@ ghost use Rattle.property.specs.Figures.{most_scope};
 ghost use Rattle.property.specs.Formula.{Term};
 ghost use Rattle.property.specs.Fit.{is_var, guarded};
 ghost use Rattle.property.specs.Layout.{term_at, sort_at, scoped_at};
-ghost use Rattle.property.specs.Walk.{sort_of, scope_of, as_sort, as_sorts, in_guard, Tabled, GuardIs, HeadIs};
+ghost use Rattle.property.specs.Walk.{sort_of, as_sort, as_sorts, in_guard, Tabled, GuardIs, HeadIs};
 
 use crate::facts::{File, Guard};
-use crate::terms::Sort;
+use crate::terms::{AsSort, Sort};
 use crate::{facts, figures, terms};
 
 // How many variables are in scope with the new ones, the place behind, and whether the guard is as 5 asks.
@@ -36,13 +36,13 @@ fn read_sort(f: &[u8], at: usize) -> Option<(Sort, usize)>
 }
 
 // As many sorts as there is room for, and the place behind them.
-fn read_sorts(f: &[u8], at: usize, sorts: &mut [Sort]) -> Option<usize>
-    ensures { as_sorts result sorts.new ≡ many (sort_at f.now) (length sorts.new) at }
+fn read_sorts<S: AsSort>(f: &[u8], at: usize, sorts: &mut [S]) -> Option<usize>
+    ensures { as_sorts result (map S.meaning sorts.new) ≡ many (sort_at f.now) (length sorts.new) at }
 {
     let mut i = at;
     for s in sorts.iter_mut() {
         let (sort, e) = read_sort(f, i)?;
-        *s = sort;
+        *s = S::of(sort);
         i = e;
     }
     Some(i)
@@ -69,12 +69,13 @@ fn in_guard(f: &[u8], guard: Guard, sort: Sort, x: usize) -> bool
 }
 
 // Each new variable is in its guard: those from n on are new.
-fn all_in_guard(f: &[u8], guard: Guard, sorts: &[Sort], n: usize) -> bool
+fn all_in_guard<S: AsSort>(f: &[u8], guard: Guard, sorts: &[S], n: usize) -> bool
     requires { n ≤ length sorts.now }
-    ensures { (ts : List Term) (e : ℕ) → many (term_at f.now) guard.count guard.terms ≡ got ts e → result ≡ guarded n (scope_of (drop n sorts.now)) ts guard.time }
+    ensures { (ts : List Term) (e : ℕ) → many (term_at f.now) guard.count guard.terms ≡ got ts e
+        → result ≡ guarded n (map S.meaning (drop n sorts.now)) ts guard.time }
 {
     for x in n..sorts.len() {
-        if !in_guard(f, guard, sorts[x], x) {
+        if !in_guard(f, guard, sorts[x].sort(), x) {
             return false;
         }
     }
@@ -82,9 +83,9 @@ fn all_in_guard(f: &[u8], guard: Guard, sorts: &[Sort], n: usize) -> bool
 }
 
 // The guard of a quantifier whose new variables are those from n on.
-fn see_new(file: File, at: usize, sorts: &[Sort], n: usize) -> Option<Opened>
+fn see_new<S: AsSort>(file: File, at: usize, sorts: &[S], n: usize) -> Option<Opened>
     requires { n ≤ length sorts.now }
-    ensures { Promises (Tabled file.entry.arities.now) (λ (ars : List ℕ). GuardIs file.entry.bytes.now ars at sorts.now n result) }
+    ensures { Promises (Tabled file.entry.arities.now) (λ (ars : List ℕ). GuardIs file.entry.bytes.now ars at (map S.meaning sorts.now) n result) }
 {
     let guard = facts::see_guard(file, at, sorts)?;
     Some(Opened {
@@ -95,9 +96,10 @@ fn see_new(file: File, at: usize, sorts: &[Sort], n: usize) -> Option<Opened>
 }
 
 // What stands before a quantifier's body where n variables are in scope: their sorts are lent, and get the new ones behind them.
-pub fn see_head(file: File, at: usize, sorts: &mut [Sort], n: usize) -> Option<Opened>
+pub fn see_head<S: AsSort>(file: File, at: usize, sorts: &mut [S], n: usize) -> Option<Opened>
     requires { (n ≤ most_scope) × (length sorts.old ≡ most_scope) }
-    ensures { Promises (Tabled file.entry.arities.now) (λ (ars : List ℕ). HeadIs (scoped_at file.entry.bytes.now ars n at) n sorts.old sorts.new result) }
+    ensures { Promises (Tabled file.entry.arities.now)
+        (λ (ars : List ℕ). HeadIs (scoped_at file.entry.bytes.now ars n at) n (map S.meaning sorts.old) (map S.meaning sorts.new) result) }
 {
     let (k, i) = number::below(file.bytes, at, figures::NEW_LIMIT)?;
     let m = n + k as usize;

@@ -71,7 +71,8 @@ fn rule_term(x: &RuleText, at: usize, w: Wanted) -> Option<(usize, bool)>
     None
 }
 
-// n terms of a rule.
+// n terms of a rule. Always inlined, as is one_fact: an Option of a pair that a call hands back lies in memory, which costs more than the call.
+#[inline(always)]
 pub fn rule_terms(x: &RuleText, at: usize, n: usize, w: Wanted) -> Option<(usize, bool)>
     requires { length x.now.file.now ≤ longest }
     ensures { result ≡ seen (any_by (leaf_for w)) (many (term_in x.now) n at) }
@@ -92,6 +93,7 @@ fn fact_from(x: &RuleText, y: usize, at: usize, w: Wanted) -> Option<(usize, boo
 }
 
 // A fact.
+#[inline(always)]
 pub fn one_fact(x: &RuleText, at: usize, w: Wanted) -> Option<(usize, bool)>
     requires { length x.now.file.now ≤ longest }
     ensures { result ≡ seen (asks_for w) (fact_in x.now at) }

@@ -1,11 +1,10 @@
 -- Cause 9 by the nodes of a step list or graph, and what code answers of the names that they make.
-use Rattle.std.specs.Prelude.{ℕ, ◌<◌, List, [], ◌∷◌, ◌++◌, Bool, false, ◌≡◌, length, get_or, eqb, leb}
+use Rattle.std.specs.Prelude.{ℕ, List, [], ◌∷◌, ◌++◌, Bool, false, ◌≡◌, eqb, leb, take}
 use Rattle.std.specs.Prelude.{Option, Some, None}
 use Rattle.lists.specs.Lists.{count_by}
 use Rattle.rewriting.specs.Graph.{name_of}
 use Rattle.term.specs.declared.Fresh.{Fresh}
 use Rattle.steps.specs.Nodes.{Node}
-use Rattle.steps.specs.Nodes.{no_node}
 use Rattle.steps.specs.Facts.{made_name}
 -- the pass over the names is crate rewriting's
 pub mod Laws
@@ -33,11 +32,6 @@ abbrev pub MadeIs : Option ℕ → Option Fresh → Type 0
 MadeIs o (Some f) = o ≡ Some f.0
 MadeIs o None = o ≡ None
 
--- a table of the names of the first n nodes, an entry a node
-pub record Entered (names : List (Option ℕ)) (xs : List Node) (n : ℕ) : Type 0 where
-  pub each : (k : ℕ) → k < n → get_or names k None ≡ made_name (get_or xs k no_node)
-
--- of all nodes
-pub record NamesOf (names : List (Option ℕ)) (xs : List Node) : Type 0 where
-  pub count : length names ≡ length xs
-  pub entered : Entered names xs (length xs)
+-- the first k entries of a table are the names that the first j nodes make, in order
+pub record Entered (names : List ℕ) (k : ℕ) (xs : List Node) (j : ℕ) : Type 0 where
+  pub entries : take k names ≡ made_by (take j xs)

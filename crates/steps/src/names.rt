@@ -1,13 +1,13 @@
 // The names that nodes of rule 0 make (9).
-ghost use Rattle.std.specs.Prelude.{◌≡◌, List, ◌≤◌, ◌<◌, length, get_or, take};
+ghost use Rattle.std.specs.Prelude.{◌≡◌, List, ◌≤◌};
 ghost use Rattle.protocol.specs.Protocol.{Protocol};
-ghost use Rattle.lists.specs.Asks.{Asks₂, Promises₂, Promises};
+ghost use Rattle.lists.specs.Asks.{Asks₂, Promises₂};
 ghost use Rattle.rewriting.specs.Writer.{first_name_twice};
-ghost use Rattle.steps.specs.Nodes.{Node, no_node, most_nodes};
+ghost use Rattle.steps.specs.Nodes.{Node, most_nodes};
 ghost use Rattle.steps.specs.Table.{NodeIn, NodesIn};
 ghost use Rattle.steps.specs.Facts.{made_name};
 ghost use Rattle.steps.specs.Runs.{rewrittens};
-ghost use Rattle.steps.specs.Names.{again_in, MadeIs, NamesOf};
+ghost use Rattle.steps.specs.Names.{MadeIs};
 ghost use Rattle.steps.specs.Names.Code.{NumberIs};
 ghost use Rattle.term.specs.Reader.{symbol_at};
 
@@ -42,46 +42,23 @@ pub fn made_at(p: &[u8], s: &[u8], nodes: &[usize], j: usize) -> Option<Fresh>
     None
 }
 
-// The numbers of the names that the nodes make, an entry a node.
-fn enter_names(p: &[u8], s: &[u8], nodes: &[usize], names: &mut [Option<u32>])
-    requires { Asks₂ (NodesIn p.now s.now nodes.now (length names.old)) }
-    ensures { Promises₂ (NodesIn p.now s.now nodes.now (length names.old)) (λ (P : Protocol) (xs : List Node). NamesOf names.new xs) }
-{
-    for j in 0..names.len() {
-        names[j] = made_at(p, s, nodes, j).map(|f| f.0);
-    }
-}
-
-// Whether node j, from 0, makes a name that a node before it makes.
-fn again_at(names: &[Option<u32>], j: usize) -> bool
-    requires { j < length names.now }
-    ensures { Promises (NamesOf names.now) (λ (xs : List Node). result ≡ again_in (take j xs) (made_name (get_or xs j no_node))) }
-{
-    names[j].is_some() && names[..j].contains(&names[j])
-}
-
-// The least node, from 1, that makes a name that an earlier one makes.
-fn least_again(names: &[Option<u32>]) -> Option<usize>
-    requires { length names.now ≤ most_nodes }
-    ensures { (p : Protocol) → Promises (NamesOf names.now) (λ (xs : List Node). result ≡ first_name_twice (rewrittens p xs)) }
-{
-    for j in 0..names.len() {
-        if again_at(names, j) {
-            return Some(j + 1);
-        }
-    }
-    None
-}
-
-// 9 with room for the names of N nodes: they are read once, then compared.
+// 9 with room for the names of N nodes: each name is looked for among those before it, then put behind them.
 fn pass_in<const N: usize>(p: &[u8], s: &[u8], nodes: &[usize], n: usize) -> Option<usize>
     requires { Asks₂ (NodesIn p.now s.now nodes.now n) × (n ≤ N) × (N ≤ most_nodes) }
     ensures { Promises₂ (NodesIn p.now s.now nodes.now n) (λ (P : Protocol) (xs : List Node). result ≡ first_name_twice (rewrittens P xs)) }
 {
-    let mut room = [None; N];
-    let names = &mut room[..n];
-    enter_names(p, s, nodes, names);
-    least_again(names)
+    let mut names = [0u32; N];
+    let mut made = 0;
+    for j in 0..n {
+        if let Some(name) = made_at(p, s, nodes, j) {
+            if names[..made].contains(&name.0) {
+                return Some(j + 1);
+            }
+            names[made] = name.0;
+            made += 1;
+        }
+    }
+    None
 }
 
 // 9: the least node, from 1, that makes a name that an earlier one makes.

@@ -1,5 +1,6 @@
 -- Looking for a source among the free conclusions, and entering those of a node: what is asked, and what is promised.
 use Rattle.std.specs.Prelude.{Option, Some, None, ℕ, suc, ◌+◌, ◌*◌, ◌<◌, List, ◌++◌, Bool, ◌≡◌, length, get_or}
+use Rattle.lists.specs.Scan.{Next}
 use Rattle.rewriting.specs.Places.{Placed, placed}
 use Rattle.protocol.specs.Figures.{most_facts, conclusion_list}
 use Rattle.protocol.specs.Protocol.{Fact, Protocol}
@@ -30,6 +31,11 @@ pub record Searching (p s nodes free : List ℕ) (a : FactId) (work : List ℕ) 
   pub listed : a.number < length (facts_of P a.list (get_or xs a.node no_node))
   pub marked : Marked free (most_facts * a.node) P xs
   pub keeps : Keeps work k (fact_in P xs a)
+
+-- the next entry of a mark, from a place on; or there is none before the end
+abbrev pub NextMarked : List ℕ → ℕ → ℕ → ℕ → Option ℕ → Type 0
+NextMarked free wanted from end (Some v) = Next free wanted from end v × (v < end)
+NextMarked free wanted from end None = Next free wanted from end end
 
 abbrev pub Found : List ℕ → FactId → Option ℕ → Protocol → List Node → Type 0
 Found free a (Some v) P xs = FirstAt (entry_placed P xs) (is_same P xs a) free v (most_facts * a.node)

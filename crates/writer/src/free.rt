@@ -1,5 +1,5 @@
 // The free conclusions of the nodes so far, an entry each: 0 where none is free, else the fact's mark and one.
-ghost use Rattle.std.specs.Prelude.{◌≡◌, List, ℕ, ◌<◌, length, set};
+ghost use Rattle.std.specs.Prelude.{◌≡◌, List, ℕ, ◌≤◌, ◌<◌, length, set};
 ghost use Rattle.lists.specs.Asks.{Asks₂, Promises₂, Asks₃, Promises₃};
 ghost use Rattle.lists.specs.Choice.{pick};
 ghost use Rattle.protocol.specs.Protocol.{Protocol};
@@ -8,7 +8,7 @@ ghost use Rattle.steps.specs.Facts.{is_linear};
 ghost use Rattle.facts.specs.Writing.{fact_room};
 ghost use Rattle.facts.specs.Calls.{Room, ListedFact, fact_at};
 ghost use Rattle.writer.specs.Free.{entry_id};
-ghost use Rattle.writer.specs.Search.{Searching, Found, AtNode, Entered};
+ghost use Rattle.writer.specs.Search.{NextMarked, Searching, Found, AtNode, Entered};
 
 use facts::marks::KeptFact;
 use facts::nodes::FactId;
@@ -34,6 +34,19 @@ fn conclusion_of(entry: usize) -> FactId
     }
 }
 
+// The next entry of a mark, from a place on; or none before the end.
+fn next_marked(free: &[u32], wanted: u32, from: usize, end: usize) -> Option<usize>
+    requires { (from ≤ end) × (end ≤ length free.now) }
+    ensures { NextMarked free.now wanted from end result }
+{
+    for v in from..end {
+        if free[v] == wanted {
+            return Some(v);
+        }
+    }
+    None
+}
+
 // The entry of the first free conclusion of an earlier node that is the same fact as x, which is kept in the work slice. Facts are compared
 // only where their marks agree.
 pub fn find_source(
@@ -50,13 +63,13 @@ pub fn find_source(
 {
     let end = figures::MOST_FACTS * x.node;
     let wanted = kept.mark + 1;
-    for v in 0..end {
-        if free[v] != wanted {
-            continue;
-        }
+    // A search before the loop and one at its end: with a single one in its head both loops are compiled as one, which is slower.
+    let mut next = next_marked(free, wanted, 0, end);
+    while let Some(v) = next {
         if compare::same_as_kept(work, p, s, nodes, kept, conclusion_of(v)) {
             return Some(v);
         }
+        next = next_marked(free, wanted, v + 1, end);
     }
     None
 }

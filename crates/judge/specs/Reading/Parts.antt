@@ -28,13 +28,13 @@ use Rattle.judge.specs.Bindings.{code}
 use Rattle.judge.specs.Reading.{NumberIs, TermIs, SortsAre, TermsAre, Carries, FactIs, HeadIs}
 
 -- ── a number ──
-number_is : {file : List ℕ} {at : ℕ} {r : Num} → Bytes file → read_number file at ≡ got r.value r.next → NumberIs file at r
+pub number_is : {file : List ℕ} {at : ℕ} {r : Num} → Bytes file → read_number file at ≡ got r.value r.next → NumberIs file at r
 number_is {file} {at} {r} bytes h = record {
   small = (read_form file bytes at r.value r.next h).0;
   says = λ v e k. ((cc), (cc));
 }
 
-number_none : {file : List ℕ} {at : ℕ} {r : Num} → r.value ≡ 0 → read_number file at ≡ fault → NumberIs file at r
+pub number_none : {file : List ℕ} {at : ℕ} {r : Num} → r.value ≡ 0 → read_number file at ≡ fault → NumberIs file at r
 unfolding number_limit
 number_none z h = record { small = omega (arith, z); says = λ v e k. clash (cc) }
 

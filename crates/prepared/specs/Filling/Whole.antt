@@ -213,7 +213,7 @@ module _ {file arities ars flags places : List ℕ} {nr : ℕ} (l : Laid file ar
 -- ── a fit protocol's file ──
 module _ (s arities ars flags places : List ℕ) (r : Result Counts Unfit) (c : Counts) (is : r ≡ Ok c) (index : Indexes s r arities ars flags places)
     (bytes : Bytes s)
-    (short : length s ≤ file_limit) (room : 64 ≤ length places) where
+    (short : length s ≤ file_limit) where
   entries : Entries s c.symbols c.rules arities ars flags places
   entries = subst (λ (q : Result Counts Unfit). Indexes s q arities ars flags places) is index
 
@@ -223,26 +223,41 @@ module _ (s arities ars flags places : List ℕ) (r : Result Counts Unfit) (c : 
   pub sound_rules : c.rules ≤ 64
   sound_rules = entries.few_rules
 
-  pub sound_laid : Laid s arities (take c.symbols ars) (take c.symbols flags) (take c.rules places) (length (take c.rules places))
-  unfolding entries_front entries
+  pub sound_laid : Laid s arities (take c.symbols ars) (take c.symbols flags) places c.rules
   sound_laid = record {
-    source = record {
-      file = s;
-      ns = c.symbols;
-      ars = ars;
-      flags = flags;
-      entries = entries_front places c.rules (omega (arith, entries.few_rules)) entries;
-      bytes = bytes;
-      short = short;
-    };
+    source = record { file = s; ns = c.symbols; ars = ars; flags = flags; entries = entries; bytes = bytes; short = short };
     file_is = refl;
     ars_are = entries.tabled;
     flags_are = entries.flagged;
   }
 
   pub sound_body :
-      (p : List ℕ)
-      → ((l : Laid s arities (take c.symbols ars) (take c.symbols flags) (take c.rules places) (length (take c.rules places))) → Body p l.source.entries.is)
-      → BodyAs s c.rules p
-  unfolding entries_front entries sound_laid
+      (p : List ℕ) → ((l : Laid s arities (take c.symbols ars) (take c.symbols flags) places c.rules) → Body p l.source.entries.is) → BodyAs s c.rules p
+  unfolding entries sound_laid
   sound_body p h = record { its = entries.is; reads = entries.reads; is = h sound_laid; count = entries.placed.count }
+
+  -- ── the same of the places alone that have rules ──
+  module _ (room : 64 ≤ length places) where
+    pub laid_front : Laid s arities (take c.symbols ars) (take c.symbols flags) (take c.rules places) (length (take c.rules places))
+    unfolding entries_front entries
+    laid_front = record {
+      source = record {
+        file = s;
+        ns = c.symbols;
+        ars = ars;
+        flags = flags;
+        entries = entries_front places c.rules (omega (arith, entries.few_rules)) entries;
+        bytes = bytes;
+        short = short;
+      };
+      file_is = refl;
+      ars_are = entries.tabled;
+      flags_are = entries.flagged;
+    }
+
+    pub body_front :
+        (p : List ℕ)
+        → ((l : Laid s arities (take c.symbols ars) (take c.symbols flags) (take c.rules places) (length (take c.rules places))) → Body p l.source.entries.is)
+        → BodyAs s c.rules p
+    unfolding entries_front entries laid_front
+    body_front p h = record { its = entries.is; reads = entries.reads; is = h laid_front; count = entries.placed.count }

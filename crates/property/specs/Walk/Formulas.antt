@@ -14,7 +14,7 @@ use Rattle.property.specs.Figures.{false_tag, and_tag, exists_tag, every_tag, fo
 use Rattle.property.specs.Formula.{Sort, Atom, Formula, absurdity}
 use Rattle.property.specs.Fit.{atom_fits, pattern_fits, guarded, fit}
 use Rattle.property.specs.Layout.{Head, signed, asserts, paired, quantified, head_at, atom_at, scoped_at, pair_at, quant_at, body_at, formula_at, property}
-use Rattle.property.specs.Walk.{scope_of, Saw, saw, also, guard_fits, HeadRead}
+use Rattle.property.specs.Walk.{Saw, saw, also, guard_fits, HeadRead}
 use Rattle.property.specs.Walk.Chain.{chain_end, chain_fault}
 use Rattle.property.specs.declared.terms.Sort as code
 use Rattle.property.specs.declared.heads.Opened.{Opened}
@@ -62,31 +62,30 @@ scoped_room file ars n at h e q =
 pub copied : (l sorts room : List code.Sort) → l ≡ sorts → take (length sorts) (l ++ room) ≡ sorts
 copied l sorts room h = ap (λ (m : List code.Sort). take (length sorts) (m ++ room)) h ∙ take-append_seam sorts room
 
-module _ (file ars : List ℕ) (inner : ℕ → ℕ → Read Formula) (n at : ℕ) (old new : List code.Sort) where
+module _ (file ars : List ℕ) (inner : ℕ → ℕ → Read Formula) (n at : ℕ) (old new : List Sort) where
   -- what is in scope of the body fits the array
   pub quant_room : {o : Opened} → HeadRead (scoped_at file ars n at) n old new o → o.count ≤ most_scope
   quant_room {o} h = let z = scoped_room file ars n at h.head o.end h.there in omega (arith, h.count, z)
 
-  module _ (q : Bool) (sorts : List code.Sort) (mine : take n old ≡ sorts) where
+  module _ (q : Bool) (sorts : List Sort) (mine : take n old ≡ sorts) where
     pub quant_end :
-        {o : Opened} {r : Saw} → HeadRead (scoped_at file ars n at) n old new o → r ≡ seen (fit (scope_of (take o.count new))) (inner o.count o.end)
-        → also o.fits r ≡ seen (fit (scope_of sorts)) (quant_at file ars inner n q at)
+        {o : Opened} {r : Saw} → HeadRead (scoped_at file ars n at) n old new o → r ≡ seen (fit (take o.count new)) (inner o.count o.end)
+        → also o.fits r ≡ seen (fit sorts) (quant_at file ars inner n q at)
     quant_end {o} {r} h k =
-        let m : scope_of (take n old) ≡ scope_of sorts = ap scope_of mine in
-        chain_end (λ g. guard_fits (scope_of sorts) g.sorts g.guard) (λ g. fit (scope_of sorts ++ g.sorts)) (fit (scope_of sorts)) (quantified q)
-        (quantified_fit (scope_of sorts) q) (scoped_at file ars n at) (λ g. inner (n + length g.sorts))
-        (ap (saw o.end) (h.right ∙ ap (λ (s : List Sort). guard_fits s h.head.sorts h.head.guard) m)
-        ∙ ap (seen (λ g. guard_fits (scope_of sorts) g.sorts g.guard)) (sym h.there))
+        chain_end (λ g. guard_fits sorts g.sorts g.guard) (λ g. fit (sorts ++ g.sorts)) (fit sorts) (quantified q)
+        (quantified_fit sorts q) (scoped_at file ars n at) (λ g. inner (n + length g.sorts))
+        (ap (saw o.end) (h.right ∙ ap (λ (s : List Sort). guard_fits s h.head.sorts h.head.guard) mine)
+        ∙ ap (seen (λ g. guard_fits sorts g.sorts g.guard)) (sym h.there))
         (λ g p.
         let a : got g o.end ≡ got h.head o.end = sym p ∙ h.there in
         let z : h.head ≡ g = cc in
         k ∙ ap₂ (λ (s : List Sort) (x : ℕ). seen (fit s) (inner x o.end))
-        (h.scope ∙ ap₂ (λ (s : List Sort) (y : Head). s ++ y.sorts) m z)
+        (h.scope ∙ ap₂ (λ (s : List Sort) (y : Head). s ++ y.sorts) mine z)
         (h.count ∙ ap (λ (y : Head). n + length y.sorts) z))
 
-    pub quant_fault : scoped_at file ars n at ≡ fault → None ≡ seen (fit (scope_of sorts)) (quant_at file ars inner n q at)
+    pub quant_fault : scoped_at file ars n at ≡ fault → None ≡ seen (fit sorts) (quant_at file ars inner n q at)
     quant_fault h =
-        ap (λ (r : Read Head). seen (fit (scope_of sorts)) (and_then r (λ h e. and_then (inner (n + length h.sorts) e) (λ x d. got (quantified q h x) d))))
+        ap (λ (r : Read Head). seen (fit sorts) (and_then r (λ h e. and_then (inner (n + length h.sorts) e) (λ x d. got (quantified q h x) d))))
         (sym h)
 
 -- ── behind the tag ──

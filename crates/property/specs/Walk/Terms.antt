@@ -1,5 +1,5 @@
 -- The sorts in scope and the terms, as code has them.
-use Rattle.std.specs.Prelude.{ℕ, zero, suc, ◌≤◌, ◌<◌, List, [], ◌∷◌, Bool, false, ◌≡◌, refl, length, get_or, Option, Some, None}
+use Rattle.std.specs.Prelude.{ℕ, zero, suc, ◌≤◌, ◌<◌, List, [], ◌∷◌, Bool, false, ◌≡◌, refl, length, get_or, map, Option, Some, None}
 use Rattle.std.proofs.Math.Path.{ap}
 use Rattle.std.proofs.Common.{sym, ◌∙◌, arith, subst, eq-eqb, ne_eqb}
 use Rattle.std.proofs.lemmas.Option.{some_pair_parts}
@@ -9,19 +9,19 @@ use Rattle.property.specs.Figures.{term_tags}
 use Rattle.property.specs.Formula.{Sort, Term, var, public}
 use Rattle.property.specs.Fit.{sort_is, in_scope}
 use Rattle.property.specs.Layout.{term_of, term_at}
-use Rattle.property.specs.Walk.{sort_of, scope_of, saw, variable_of, leaf_of}
-use Rattle.property.specs.declared.terms.Sort as code
+use Rattle.property.specs.Walk.{saw, variable_of, leaf_of}
 
 -- ── the sorts in scope ──
-pub scope_at : (l : List code.Sort) (x : ℕ) (s : Sort) (v : code.Sort) → x < length l → in_scope (scope_of l) x s ≡ sort_is (sort_of (get_or l x v)) s
-scope_at [] x s v h = absurd (omega arith)
-scope_at (y ∷ l) zero s v h = refl
-scope_at (y ∷ l) (suc x) s v h = scope_at l x s v (omega arith)
+module _ {E : Type 0} (meaning : E → Sort) where
+  pub scope_at : (l : List E) (x : ℕ) (s : Sort) (v : E) → x < length l → in_scope (map meaning l) x s ≡ sort_is (meaning (get_or l x v)) s
+  scope_at [] x s v h = absurd (omega arith)
+  scope_at (y ∷ l) zero s v h = refl
+  scope_at (y ∷ l) (suc x) s v h = scope_at l x s v (omega arith)
 
-pub scope_out : (l : List code.Sort) (x : ℕ) (s : Sort) → length l ≤ x → false ≡ in_scope (scope_of l) x s
-scope_out [] x s h = refl
-scope_out (y ∷ l) zero s h = absurd (omega arith)
-scope_out (y ∷ l) (suc x) s h = scope_out l x s (omega arith)
+  pub scope_out : (l : List E) (x : ℕ) (s : Sort) → length l ≤ x → false ≡ in_scope (map meaning l) x s
+  scope_out [] x s h = refl
+  scope_out (y ∷ l) zero s h = absurd (omega arith)
+  scope_out (y ∷ l) (suc x) s h = scope_out l x s (omega arith)
 
 -- ── a term ──
 module _ (file : List ℕ) (at : ℕ) where

@@ -1,15 +1,13 @@
 -- The pass over the names by the nodes is crate rewriting's pass of cause 9.
-use Rattle.std.specs.Prelude.{ℕ, suc, ◌+◌, ◌<◌, ◌≤◌, List, [], ◌∷◌, ◌++◌, Bool, true, false, cond, ◌||◌, ◌≡◌, refl, eqb, leb, length, get_or, take, drop, set}
-use Rattle.std.proofs.Common.{append_assoc, append-nil, ap, ap₂, sym, ◌∙◌, subst, arith, drop-cons, take-suc, get_or-set_same, get_or-set_other, eqb-true, eq-eqb, ne_eqb}
-use Rattle.std.specs.Prelude.{zero, Option, Some, None, is_some}
+use Rattle.std.specs.Prelude.{ℕ, suc, ◌+◌, ◌<◌, List, [], ◌∷◌, ◌++◌, Bool, true, false, cond, ◌||◌, ◌≡◌, refl, eqb, leb, length, get_or, take, drop, set}
+use Rattle.std.proofs.Common.{append_assoc, append-nil, ap, ap₂, sym, ◌∙◌, arith, drop-cons, take-suc, eqb-true, eq-eqb, ne_eqb}
+use Rattle.std.specs.Prelude.{Option, Some, None}
 use Rattle.std.specs.List.{list_any}
-use Rattle.std.specs.Option.{option_eq, option_map}
-use Rattle.std.proofs.lemmas.List.Folds.{list_any_more}
+use Rattle.std.proofs.lemmas.List.{take_more_set}
 use Rattle.std.proofs.lemmas.Bool.{eqb-false}
-use Rattle.lists.specs.Choice.{by_order}
-use Rattle.lists.specs.Lists.{count_by}
+use Rattle.lists.specs.Lists.{bit, count_by}
 use Rattle.lists.specs.Lists.Laws.{count_append}
-use Rattle.lists.specs.Tests.{true_false, leb_sum}
+use Rattle.lists.specs.Tests.{leb_sum}
 use Rattle.rewriting.specs.Graph.{name_of}
 use Rattle.rewriting.specs.Machine.{made_already}
 use Rattle.rewriting.specs.Writer.{name_twice_from, first_name_twice}
@@ -17,9 +15,8 @@ use Rattle.protocol.specs.Protocol.{Protocol}
 use Rattle.steps.specs.Nodes.{Node}
 use Rattle.steps.specs.Facts.{made_name}
 use Rattle.steps.specs.Runs.{rewrittens}
-use Rattle.term.specs.declared.Fresh.{Fresh}
 use Rattle.steps.specs.Nodes.{no_node}
-use Rattle.steps.specs.Names.{made_by, is_made, again_in, MadeIs, Entered, NamesOf}
+use Rattle.steps.specs.Names.{made_by, is_made, again_in, Entered}
 
 made_append : (xs ys : List Node) → made_by (xs ++ ys) ≡ made_by xs ++ made_by ys
 made_append [] ys = refl
@@ -55,63 +52,39 @@ module _ (m : ℕ) (xs : List Node) (d : Node) (j : ℕ) (l : j < length xs) whe
       ∙ ap (λ (b : Bool). is_made m (take j xs) || b) (one_more (made_name (get_or xs j d)))
 
 -- ── by the table ──
-pub entry_made : (o : Option ℕ) (a : Option Fresh) → MadeIs o a → option_map (λ f. f.0) a ≡ o
-entry_made o (Some f) h = sym h
-entry_made o None h = sym h
-
-same_entry : (m : ℕ) (o : Option ℕ) → option_eq eqb o (Some m) ≡ same_as m o
-same_entry m None = refl
-same_entry m (Some n) = go (eqb m n) refl
+-- a number stands among others if it is counted there
+any_counted : (m : ℕ) (l : List ℕ) → list_any (λ x. eqb x m) l ≡ leb 1 (count_by (eqb m) l)
+any_counted m [] = refl
+any_counted m (x ∷ l) = ap₂ ◌||◌ (go (eqb m x) refl) (any_counted m l) ∙ sym (leb_sum (bit (eqb m x)) (count_by (eqb m) l) _ refl)
   where
-    go : (b : Bool) → eqb m n ≡ b → eqb n m ≡ eqb m n
-    go true h = eq-eqb n m (sym (eqb-true m n h)) ∙ sym h
-    go false h = ne_eqb n m (λ e. eqb-false m n h (sym e)) ∙ sym h
+    go : (b : Bool) → eqb m x ≡ b → eqb x m ≡ leb 1 (bit (eqb m x))
+    go true h = eq-eqb x m (sym (eqb-true m x h)) ∙ sym (ap (λ (a : Bool). leb 1 (bit a)) h)
+    go false h = ne_eqb x m (λ e. eqb-false m x h (sym e)) ∙ sym (ap (λ (a : Bool). leb 1 (bit a)) h)
 
-pub entered_none : (names : List (Option ℕ)) (xs : List Node) → Entered names xs 0
-entered_none names xs = record { each = λ k l. absurd (omega arith) }
+pub entered_none : (names : List ℕ) (xs : List Node) → Entered names 0 xs 0
+entered_none names xs = record { entries = refl }
 
--- one entry more
-pub entered_more :
-    (names : List (Option ℕ)) (xs : List Node) (j : ℕ) (e : Option ℕ) → Entered names xs j → j < length names
-    → e ≡ made_name (get_or xs j no_node) → Entered (set names j e) xs (j + 1)
-entered_more names xs j e h l q = record {
-  each = λ k m.
-      by_order k j
-      (λ a. get_or-set_other names j k e None (λ z. omega arith) ∙ h.each k a)
-      (λ a.
-      subst (λ (i : ℕ). get_or (set names j e) i None ≡ made_name (get_or xs i no_node)) (sym a)
-      (get_or-set_same names j e None l ∙ q))
-      (λ a. absurd (omega arith));
-}
-
-module _ (names : List (Option ℕ)) (xs : List Node) (h : NamesOf names xs) where
-  -- is a name among the first entries?
-  found_before : (m j : ℕ) → j ≤ length names → list_any (λ o. option_eq eqb o (Some m)) (take j names) ≡ is_made m (take j xs)
-  found_before m zero l = refl
-  found_before m (suc j) l =
-      let k : suc j ≡ j + 1 = omega arith in
-      ap (λ (i : ℕ). list_any (λ o. option_eq eqb o (Some m)) (take i names)) k
-      ∙ list_any_more (λ o. option_eq eqb o (Some m)) names j None (omega arith)
-      ∙ ap₂ ◌||◌ (found_before m j (omega arith))
-      (ap (λ (o : Option ℕ). option_eq eqb o (Some m)) (h.entered.each j (omega (arith, h.count))) ∙ same_entry m (made_name (get_or xs j no_node)))
-      ∙ sym (made_step m xs no_node j (omega (arith, h.count))) ∙ ap (λ (i : ℕ). is_made m (take i xs)) (sym k)
-
+module _ {names : List ℕ} {k : ℕ} {xs : List Node} {j : ℕ} (h : Entered names k xs j) where
   -- the node's name is made by the nodes before it
-  pub again_some : (j : ℕ) → j < length names → is_some (get_or names j None) ≡ true →
-      list_any (λ o. option_eq eqb o (get_or names j None)) (take j names) ≡ again_in (take j xs) (made_name (get_or xs j no_node))
-  again_some j l = go (get_or names j None) (h.entered.each j (omega (arith, h.count)))
-    where
-      go : (o : Option ℕ) → o ≡ made_name (get_or xs j no_node) → is_some o ≡ true → list_any (λ x. option_eq eqb x o) (take j names) ≡ again_in (take j xs)
-          (made_name (get_or xs j no_node))
-      go None e q = absurd (true_false false q refl)
-      go (Some m) e q = found_before m j (omega arith) ∙ ap (again_in (take j xs)) e
+  pub again_some : (m : ℕ) → made_name (get_or xs j no_node) ≡ Some m → list_any (λ x. eqb x m) (take k names) ≡ again_in (take j xs)
+      (made_name (get_or xs j no_node))
+  again_some m e = any_counted m (take k names) ∙ ap (λ l. leb 1 (count_by (eqb m) l)) h.entries ∙ sym (ap (again_in (take j xs)) e)
 
-  pub again_none : (j : ℕ) → j < length names → is_some (get_or names j None) ≡ false → false ≡ again_in (take j xs) (made_name (get_or xs j no_node))
-  again_none j l q = go (get_or names j None) (h.entered.each j (omega (arith, h.count))) q
-    where
-      go : (o : Option ℕ) → o ≡ made_name (get_or xs j no_node) → is_some o ≡ false → false ≡ again_in (take j xs) (made_name (get_or xs j no_node))
-      go None e q = ap (again_in (take j xs)) e
-      go (Some m) e q = absurd (true_false true refl q)
+  entered_then : (o : Option ℕ) → made_name (get_or xs j no_node) ≡ o → j < length xs → take k names ++ name_of o ≡ made_by (take (j + 1) xs)
+  entered_then o e l =
+      let s : suc j ≡ j + 1 = omega arith in
+      ap₂ ◌++◌ h.entries (ap name_of (sym e)) ∙ sym (made_more xs j no_node l) ∙ ap (λ i. made_by (take i xs)) s
+
+  -- one entry more
+  pub entered_more : (m : ℕ) → made_name (get_or xs j no_node) ≡ Some m → j < length xs → k < length names → Entered (set names k m) (k + 1) xs (j + 1)
+  entered_more m e l r = record { entries = take_more_set names k m r ∙ entered_then (Some m) e l }
+
+  -- no name, no entry
+  pub entered_same : made_name (get_or xs j no_node) ≡ None → j < length xs → Entered names k xs (j + 1)
+  entered_same e l = record { entries = sym (append-nil (take k names)) ∙ entered_then None e l }
+
+pub again_none : (xs : List Node) (j : ℕ) → made_name (get_or xs j no_node) ≡ None → false ≡ again_in (take j xs) (made_name (get_or xs j no_node))
+again_none xs j e = sym (ap (again_in (take j xs)) e)
 
 -- ── the pass ──
 again_already : (ys : List Node) (o : Option ℕ) → made_already (made_by ys) o ≡ again_in ys o
@@ -139,3 +112,7 @@ module _ (p : Protocol) (d : Node) (xs : List Node) where
       step j false l t h
       ∙ ap (λ (m : List ℕ). name_twice_from (suc (j + 1)) m (rewrittens p (drop (suc j) xs))) (sym (made_more xs j d l))
       ∙ ap₂ (λ (k i : ℕ). name_twice_from k (made_by (take i xs)) (rewrittens p (drop i xs))) a b
+
+  pub names_twice : (j : ℕ) → j < length xs → again_in (take j xs) (made_name (get_or xs j d)) ≡ true → NamesLeft j → Some (j + 1) ≡ first_name_twice
+      (rewrittens p xs)
+  names_twice j l t h = sym (step j true l t h)

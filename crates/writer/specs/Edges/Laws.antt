@@ -123,17 +123,14 @@ module _ {edges : List ℕ} {m : ℕ} {es : List Edge} (h : EdgesIn edges m es) 
 pub all_numbers : (ns : List ℕ) (k : ℕ) → k ≡ length ns → number_bytes ns k ≡ flat groups ns
 all_numbers ns k e = ap (flat groups) (take_all k ns (omega arith))
 
+pub all_room : (out ns : List ℕ) (at : ℕ) → at + length (flat groups ns) ≤ length out → at + length (number_bytes ns (length ns)) ≤ length out
+all_room out ns at h = omega (arith, h, ap length (all_numbers ns (length ns) refl))
+
 pub number_short : (n : ℕ) → n < 2 ^ 32 → length (groups n) ≤ number_room
 number_short n h = groups_few 4 n (omega arith)
 
 -- ── numbers written one behind the other: the first i of k are ──
-module _ (out : List ℕ) (at : ℕ) (edges : List ℕ) (room : at + length (flat groups edges) ≤ length out) where
-  abbrev k : ℕ
-  k = length edges
-
-  room_all : at + length (number_bytes edges k) ≤ length out
-  room_all = omega (arith, room, ap length (all_numbers edges k refl))
-
+module _ (out : List ℕ) (at : ℕ) (edges : List ℕ) (k : ℕ) (room : at + length (number_bytes edges k) ≤ length out) (long : k ≤ length edges) where
   pub record Wrote (i o : ℕ) (out' : List ℕ) : Type 0 where
     pub next : o ≡ at + length (number_bytes edges i)
     pub left : out' ≡ splice out at (number_bytes edges i)
@@ -143,11 +140,11 @@ module _ (out : List ℕ) (at : ℕ) (edges : List ℕ) (room : at + length (fla
 
   module _ {i o : ℕ} {out' : List ℕ} (l : i ≤ k) (w : Wrote i o out') where
     pub wrote_long : length out' ≡ length out
-    wrote_long = ap length w.left ∙ length_splice out at (number_bytes edges i) (omega (arith, room_all, length_mono edges i k l))
+    wrote_long = ap length w.left ∙ length_splice out at (number_bytes edges i) (omega (arith, length_mono edges i k l))
 
     module _ (m : i < k) where
       more : at + length (number_bytes edges i) + length (groups (get_or edges i 0)) ≤ length out
-      more = omega (arith, length_more edges i (length (number_bytes edges i)) (omega arith) refl, room_all, length_mono edges (i + 1) k (omega arith))
+      more = omega (arith, length_more edges i (length (number_bytes edges i)) (omega arith) refl, length_mono edges (i + 1) k (omega arith))
 
       pub wrote_room : o + length (groups (get_or edges i 0)) ≤ length out'
       wrote_room = omega (arith, more, wrote_long, w.next)
@@ -159,9 +156,13 @@ module _ (out : List ℕ) (at : ℕ) (edges : List ℕ) (room : at + length (fla
           record {
             next = omega (arith, h, w.next, length_more edges i (length (number_bytes edges i)) n refl);
             left = e ∙ ap₂ (λ (x : List ℕ) (y : ℕ). splice x y (groups (get_or edges i 0))) w.left w.next
-                ∙ splice_splice out at (number_bytes edges i) (omega (arith, room_all, length_mono edges i k l)) (groups (get_or edges i 0))
+                ∙ splice_splice out at (number_bytes edges i) (omega (arith, length_mono edges i k l)) (groups (get_or edges i 0))
                 ∙ ap (splice out at) (sym (bytes_more edges i n));
           }
 
-  pub wrote_all : {i o : ℕ} {out' : List ℕ} → i ≡ k → Wrote i o out' → out' ≡ splice out at (flat groups edges)
-  wrote_all {i} e w = w.left ∙ ap (splice out at) (all_numbers edges i e)
+  pub wrote_all : {i o : ℕ} {out' : List ℕ} → i ≡ k → Wrote i o out' → out' ≡ splice out at (number_bytes edges k)
+  wrote_all e w = w.left ∙ ap (λ (j : ℕ). splice out at (number_bytes edges j)) e
+
+  -- of all numbers of the table
+  pub wrote_whole : k ≡ length edges → {i o : ℕ} {out' : List ℕ} → i ≡ k → Wrote i o out' → out' ≡ splice out at (flat groups edges)
+  wrote_whole f e w = wrote_all e w ∙ ap (splice out at) (all_numbers edges k f)

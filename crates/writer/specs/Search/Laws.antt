@@ -1,7 +1,8 @@
 -- The loops that look for a source and that enter conclusions, turn by turn.
-use Rattle.std.specs.Prelude.{ℕ, suc, zero, ◌+◌, ◌*◌, ◌/◌, ◌%◌, ◌≤◌, ◌<◌, List, [], ◌∷◌, ◌++◌, Bool, true, false, ◌≡◌, refl, length, get_or, set, take}
+use Rattle.std.specs.Prelude.{ℕ, suc, zero, ◌+◌, ◌-◌, ◌*◌, ◌/◌, ◌%◌, ◌≤◌, ◌<◌, List, [], ◌∷◌, ◌++◌, Bool, true, false, ◌≡◌, refl, length, get_or, set, take}
 use Rattle.std.proofs.Common.{append_assoc, append-nil, ap, ap₂, sym, ◌∙◌, subst, subst₂, arith, length-set, get_or-set_same, get_or-set_other, take-suc, take_all, length-take-le}
 use Rattle.lists.specs.Choice.{by_order}
+use Rattle.lists.specs.Scan.{Next}
 use Rattle.lists.specs.Asks.{Promises₃}
 use Rattle.lists.specs.All.Laws.{all_inside}
 use Rattle.rewriting.specs.Places.{Placed, placed}
@@ -25,8 +26,8 @@ use Rattle.facts.specs.Calls.Meaning.{fact_formed}
 use Rattle.graph.specs.Graph.{place_of}
 use Rattle.writer.specs.Free.{EntryIs, Marked, entry_id, entry_fact, entry_placed, free_in}
 use Rattle.writer.specs.Free.Laws.{FirstAt, NoneTo, none_empty, none_differs, free_more, free_empty}
-use Rattle.std.specs.Prelude.{Option, Some, None}
-use Rattle.writer.specs.Search.{fact_in, is_same, Searching, Found, AtNode, Entered}
+use Rattle.std.specs.Prelude.{Option, Some, None, unwrap_or}
+use Rattle.writer.specs.Search.{fact_in, is_same, Searching, NextMarked, Found, AtNode, Entered}
 
 -- ── a fact of right nodes ──
 pub whole_fact :
@@ -46,6 +47,12 @@ pub mark_room :
 mark_room {P = P} f e = omega (arith, e, mark_below P f.node.prepared.body.within _ (fact_formed f))
 
 -- ── looking for a source ──
+-- an answer of next_marked: the entry has the mark
+pub marked_next :
+    (free : List ℕ) (wanted from end : ℕ) (r : Option ℕ) → NextMarked free wanted from end r → (v : ℕ) → r ≡ Some v
+    → (v < end) × (get_or free v 0 ≡ wanted)
+marked_next free wanted from end r n v e = let (next, inside) = rw e at n in (inside, next.here inside)
+
 module _ {p s nodes free : List ℕ} {a : FactId} {work : List ℕ} {kept : KeptFact} {P : Protocol} {xs : List Node}
     (h : Searching p s nodes free a work kept P xs) where
   abbrev mark : ℕ
@@ -79,6 +86,19 @@ module _ {p s nodes free : List ℕ} {a : FactId} {work : List ℕ} {kept : Kept
           (sym (by_equations P fit _ _ (fact_formed searched) other false
           (marks_differ P fit (fact_in P xs a) (entry_fact P xs v) (fact_formed searched) other
           (λ same. n (let d : mark ≡ m = h.keeps.mark_is ∙ same ∙ sym i.mark in omega (arith, e)))))) none
+
+  -- up to the next one with its mark
+  pub pass_to : (v r end : ℕ) → Next free (mark + 1) v end r → Nowhere v → Nowhere r
+  pass_to v r end n none = let e : (r - v) + v ≡ r = omega (arith, n.later) in subst Nowhere e (go (r - v) (omega (arith, n.later)))
+    where
+      go : (k : ℕ) → k + v ≤ r → Nowhere (k + v)
+      go zero l = let e : v ≡ 0 + v = omega arith in subst Nowhere e none
+      go (suc k) l = let e : k + v + 1 ≡ suc k + v = omega arith in subst Nowhere e (pass_over (k + v) (n.others (k + v) (omega arith) (omega arith))
+          (go k (omega arith)))
+
+  pub pass_on : (v end : ℕ) (r : Option ℕ) → NextMarked free (mark + 1) v end r → Nowhere v → Nowhere (unwrap_or r end)
+  pass_on v end (Some r) n = pass_to v r end n.0
+  pass_on v end None n = pass_to v end end n
 
   module _ (v : ℕ) (agree : get_or free v 0 ≡ mark + 1) where
     marked_entry : get_or free v 0 ≡ suc mark

@@ -1,9 +1,9 @@
 -- Two terms.
 use Rattle.property.specs.Walk.Facts.{equal_two}
-use Rattle.property.specs.Walk.{scope_of}
+use Rattle.std.proofs.Common.{map}
 use mathlib.Core.List.{[]}
 use mathlib.Core.Path.{◌∙◌}
 use Rattle.property.proofs.facts.see_equal.Goals as goal
 
 pub returns : goal.returns
-returns c = c.fit_terms.ensures ∙ equal_two (scope_of c.args.sorts.now) c.args.f.now [] c.args.at
+returns g c = c.fit_terms.ensures ∙ equal_two (map g.S.AsSort.meaning c.args.sorts.now) c.args.f.now [] c.args.at

@@ -7,6 +7,6 @@ use Rattle.std.proofs.Common.{ℕ, List, ◌≡◌}
 use Rattle.property.proofs.heads.all_in_guard.Given as goal
 
 abbrev pub invariant-loop-x : goal.invariant-loop-x
-invariant-loop-x l =
+invariant-loop-x g l =
     (ts : List Term) (e : ℕ) → many (term_at l.f) l.guard.count l.guard.terms ≡ got ts e
-    → rest_guarded ts l.guard.time l.sorts l.x ≡ rest_guarded ts l.guard.time l.sorts l.n
+    → rest_guarded g.S.AsSort.meaning ts l.guard.time l.sorts l.x ≡ rest_guarded g.S.AsSort.meaning ts l.guard.time l.sorts l.n

@@ -1,7 +1,8 @@
--- Where a sort stands at x, the test is of that sort; elsewhere none does.
+-- Where something that says a sort stands at x, the test is of that sort; elsewhere none does.
 use Rattle.property.specs.Walk.Terms.{scope_at, scope_out}
 use Rattle.property.specs.Walk.{sort_of}
 use Rattle.property.specs.Fit.{sort_is}
+use Rattle.property.specs.Formula as formula
 use Rattle.property.specs.declared.terms.Sort.{Sort}
 use Rattle.property.specs.declared.terms.Sort.TheVariants as sort
 use Rattle.property.specs.contracts.terms.Sort.{the_type}
@@ -16,12 +17,12 @@ same sort.Time sort.Message = refl
 same sort.Time sort.Time = refl
 
 pub returns-in-Some : goal.returns-in-Some
-returns-in-Some c =
+returns-in-Some g c =
     let e = c.in-Some.ensures.lookup in
-    c.eq.ensures ∙ same c.in-Some.s.now c.args.sort
-    ∙ ap (λ (v : Sort). sort_is (sort_of v) (sort_of c.args.sort)) e.1
-    ∙ sym (scope_at c.args.sorts.now c.args.x (sort_of c.args.sort) c.in-Some.s.now (ltb-true c.args.x _ (sym e.0)))
+    c.eq.ensures ∙ same c.sort.result c.args.sort
+    ∙ ap (λ (v : formula.Sort). sort_is v (sort_of c.args.sort)) (c.sort.ensures ∙ ap g.S.AsSort.meaning e.1)
+    ∙ sym (scope_at g.S.AsSort.meaning c.args.sorts.now c.args.x (sort_of c.args.sort) c.in-Some.s.now (ltb-true c.args.x _ (sym e.0)))
 
 pub returns-in-None : goal.returns-in-None
-returns-in-None c =
-    scope_out c.args.sorts.now c.args.x (sort_of c.args.sort) (ltb-false c.args.x _ (sym c.in-None.ensures.lookup.0))
+returns-in-None g c =
+    scope_out g.S.AsSort.meaning c.args.sorts.now c.args.x (sort_of c.args.sort) (ltb-false c.args.x _ (sym c.in-None.ensures.lookup.0))

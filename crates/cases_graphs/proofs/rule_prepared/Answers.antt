@@ -5,12 +5,12 @@ use Rattle.steps.specs.Table.Laws.{all_rows}
 use Rattle.steps.specs.Table.{table_length}
 use lib.ListN.{replicate}
 use native.Mathlib.Omega.{arith}
-use Rattle.cases_graphs.proofs.rule_case.Goals as goal
+use Rattle.cases_graphs.proofs.rule_prepared.Goals as goal
 
 pub rule_graph-requires : goal.rule_graph-requires
 rule_graph-requires c = (
-  c.in_ok-prepare_case.ensures,
-  omega (arith, c.requires),
+  c.requires.0,
+  omega (arith, c.requires.1),
   all_rows c.args.file.now (λ i. (c.type_inv.file i).fits) 0 (replicate table_length 0)
       (omega arith),
   all_fields c.args.file.now (replicate edge_table 0) (omega arith),
