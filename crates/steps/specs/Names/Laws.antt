@@ -3,6 +3,7 @@ use Rattle.std.specs.Prelude.{ℕ, suc, ◌+◌, ◌<◌, List, [], ◌∷◌, �
 use Rattle.std.proofs.Common.{append_assoc, append-nil, ap, ap₂, sym, ◌∙◌, arith, drop-cons, take-suc, eqb-true, eq-eqb, ne_eqb}
 use Rattle.std.specs.Prelude.{Option, Some, None}
 use Rattle.std.specs.List.{list_any}
+use Rattle.std.specs.Option.{option_map}
 use Rattle.std.proofs.lemmas.List.{take_more_set}
 use Rattle.std.proofs.lemmas.Bool.{eqb-false}
 use Rattle.lists.specs.Lists.{bit, count_by}
@@ -15,8 +16,9 @@ use Rattle.protocol.specs.Protocol.{Protocol}
 use Rattle.steps.specs.Nodes.{Node}
 use Rattle.steps.specs.Facts.{made_name}
 use Rattle.steps.specs.Runs.{rewrittens}
+use Rattle.term.specs.declared.Fresh.{Fresh}
 use Rattle.steps.specs.Nodes.{no_node}
-use Rattle.steps.specs.Names.{made_by, is_made, again_in, Entered}
+use Rattle.steps.specs.Names.{made_by, is_made, again_in, MadeIs, Entered}
 
 made_append : (xs ys : List Node) → made_by (xs ++ ys) ≡ made_by xs ++ made_by ys
 made_append [] ys = refl
@@ -50,6 +52,11 @@ module _ (m : ℕ) (xs : List Node) (d : Node) (j : ℕ) (l : j < length xs) whe
       ∙ leb_sum (count_by (eqb m) (made_by (take j xs))) (count_by (eqb m) (name_of (made_name (get_or xs j d)))) _
       (ap (count_by (eqb m)) (made_more xs j d l) ∙ count_append (eqb m) (made_by (take j xs)) (name_of (made_name (get_or xs j d))))
       ∙ ap (λ (b : Bool). is_made m (take j xs) || b) (one_more (made_name (get_or xs j d)))
+
+-- the number of what code reads is the node's name
+pub entry_made : (o : Option ℕ) (a : Option Fresh) → MadeIs o a → option_map (λ f. f.0) a ≡ o
+entry_made o (Some f) h = sym h
+entry_made o None h = sym h
 
 -- ── by the table ──
 -- a number stands among others if it is counted there
